@@ -1,16 +1,20 @@
 -- The hands of a session come together, and go apart.
-use Rattle.std.specs.Prelude.{ℕ, ◌≡◌, ⊤, List, [], None, true, is_some}
+use Rattle.std.specs.Prelude.{ℕ, ◌≡◌, ◌≢◌, ⊤, List, [], Option, None, Some, Result, Ok, Err, IfOk, true, is_some}
 use Rattle.std.specs.FinMap as fin
 use Rattle.ufs_alike.specs.Alike.{AreAlike}
 use Rattle.ufs_apart.specs.Apart.{ApartState, AreApart, given_all, kept_all, part_names}
+use Rattle.ufs_base.specs.declared.Memory.{Memory}
 use Rattle.ufs_model.specs.History.{tree_after}
 use Rattle.ufs_model.specs.PosixTree.{PosixTree}
 use Rattle.ufs_model.specs.Touched.{IsPartOf, touched_parts}
+use Rattle.ufs_model.specs.declared.data.Ask.{Ask}
 use Rattle.ufs_model.specs.declared.data.Entry.{Entry}
 use Rattle.ufs_model.specs.declared.data.Op.{Op}
+use Rattle.ufs_model.specs.declared.data.Op.TheVariants as op
 use Rattle.ufs_model.specs.declared.data.PartName.TheVariants as part
 use Rattle.ufs_one_hand.specs.Apart.{HasEachFile}
 use Rattle.ufs_one_hand.specs.OneHand.{HasSession}
+use Rattle.ufs_server.specs.Touching.{IsFileTouched}
 use Rattle.ufs_session.specs.declared.parting.Gathered.{Gathered}
 use Rattle.ufs_session.specs.declared.parting.Gathered.TheVariants as files
 use Rattle.ufs_sound.specs.Parts.{Start, View}
@@ -23,10 +27,23 @@ IsGathered files.Nothing f = ⊥
 IsGathered files.Made f = ⊥
 IsGathered (files.One file) f = f ≡ file
 IsGathered files.Every f = ⊤
+IsGathered files.Unknown f = ⊤
 
 -- So does that of each file that the request touches, of those that are there.
 abbrev pub HasGathered : PosixTree → (client : ℕ) → Op → Gathered → Type 0
 HasGathered t client request gathered = (f : ℕ) → IsPartOf (touched_parts t client request) (part.File f) → is_some (fin.get t.bytes f) ≡ true → IsGathered gathered f
+
+-- The file that a server is told of a request of the names, if it touches one. For want of memory it isn't known.
+abbrev pub file_told : Gathered → Result (Option ℕ) Memory
+file_told files.Nothing = Ok None
+file_told files.Made = Ok None
+file_told (files.One file) = Ok (Some file)
+file_told files.Every = Ok None
+file_told files.Unknown = Err record {}
+
+-- It is so told. A `sync` touches all files.
+abbrev pub IsFileTold : Parts → Ask → Result (Option ℕ) Memory → Type 0
+IsFileTold p ask told = ask.op ≢ op.Sync → IfOk told (IsFileTouched p ask)
 
 -- The hand has the session behind this history, in which nothing is asked, but for files that are apart.
 pub record IsTogether (k : Start) (history : List Entry) (v : View) (a : ApartState) : Type 0 where

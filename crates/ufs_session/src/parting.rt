@@ -6,7 +6,7 @@ ghost use Rattle.ufs_client.specs.Own.{is_own};
 ghost use Rattle.ufs_model.specs.Asks.{IsAsk};
 ghost use Rattle.ufs_model.specs.PosixTree.{PosixTree};
 ghost use Rattle.ufs_model.specs.declared.data.Entry.{Entry};
-ghost use Rattle.ufs_session.specs.Gathered.{AreParted, HasFilesAt, HasGathered, IsGathered, IsTogether};
+ghost use Rattle.ufs_session.specs.Gathered.{AreParted, HasFilesAt, HasGathered, IsFileTold, IsGathered, IsTogether, file_told};
 ghost use Rattle.ufs_stored.specs.Stored.{ArePartsOf};
 
 use ufs_apart::Apart;
@@ -24,15 +24,31 @@ pub(crate) enum Gathered {
     // None that is there; the request may make one.
     Made,
     One(u32),
+    // A `sync` touches all.
     Every,
+    // Memory was wanting to tell, so each may be one.
+    Unknown,
 }
 
-// Those of the files that a request touches, of which is told whether its client answers it. Where memory is wanting to tell, each
-// may be one.
+impl Gathered {
+    // The file that a server is told, if it is one.
+    pub(crate) fn touched(self) -> Result<Option<u32>, Memory>
+        ensures { result ≡ file_told self }
+    {
+        match self {
+            Gathered::One(file) => Ok(Some(file)),
+            Gathered::Nothing | Gathered::Made | Gathered::Every => Ok(None),
+            Gathered::Unknown => Err(Memory),
+        }
+    }
+}
+
+// Those of the files that a request touches, of which is told whether its client answers it.
 pub(crate) fn files_of(server: &DiskServer, asked: &Ask, own: bool) -> Gathered
     requires client { asked.now.client < MAX_CLIENTS }
     requires own { (t : PosixTree) → IsAsk t asked.now → own ≡ is_own t asked.now.client asked.now.op }
-    ensures { (t : PosixTree) → ArePartsOf server.now t → IsAsk t asked.now → HasGathered t asked.now.client asked.now.op result }
+    ensures gathered { (t : PosixTree) → ArePartsOf server.now t → IsAsk t asked.now → HasGathered t asked.now.client asked.now.op result }
+    ensures told { IsFileTold server.now asked.now (file_told result) }
 {
     if own {
         return Gathered::Nothing;
@@ -42,7 +58,7 @@ pub(crate) fn files_of(server: &DiskServer, asked: &Ask, own: bool) -> Gathered
         _ => match server.touched(asked) {
             Ok(Some(file)) => Gathered::One(file),
             Ok(None) => Gathered::Made,
-            Err(Memory) => Gathered::Every,
+            Err(Memory) => Gathered::Unknown,
         },
     }
 }
@@ -68,7 +84,7 @@ pub(crate) fn gather<N: Naming>(hand: &mut OneHand<N>, apart: &mut Apart<N>, gat
     match gathered {
         Gathered::Nothing | Gathered::Made => {}
         Gathered::One(file) => apart.join_file(hand, file),
-        Gathered::Every => apart.join_files(hand),
+        Gathered::Every | Gathered::Unknown => apart.join_files(hand),
     }
 }
 
@@ -118,7 +134,7 @@ fn put_gathered_away<N: Naming>(
         Gathered::Nothing => {}
         Gathered::Made => put_named_away(hand, apart, server, desc),
         Gathered::One(file) => put_away(hand, apart, server, file),
-        Gathered::Every => put_all_away(hand, apart, server),
+        Gathered::Every | Gathered::Unknown => put_all_away(hand, apart, server),
     }
 }
 

@@ -11,6 +11,7 @@ ghost use Rattle.ufs_model.specs.declared.data.Entry.{Entry};
 ghost use Rattle.ufs_model.specs.declared.data.Reply.TheVariants as reply;
 ghost use Rattle.ufs_session.specs.Asking.{AsksOf, HasAnsweredOn, IsOwnTold};
 ghost use Rattle.ufs_session.specs.Drawing.{SeesDisk, had_as};
+ghost use Rattle.ufs_session.specs.Gathered.{IsFileTold};
 ghost use Rattle.ufs_session.specs.Picked.{Pick};
 ghost use Rattle.ufs_session.specs.Resting.{IsResting};
 ghost use Rattle.ufs_session.specs.Serving.{IsServedReading};
@@ -29,7 +30,7 @@ use crate::parting::{files_of, gather, scatter};
 use crate::picks::{Since, Telling};
 use std::marker::Brand;
 use ufs_apart::Apart;
-use ufs_base::{MAX_CLIENTS, MAX_REQUESTS};
+use ufs_base::{MAX_CLIENTS, MAX_REQUESTS, Memory};
 use ufs_client::{OwnAnswer, answer_own, keep};
 use ufs_fds::FdTable;
 use ufs_file::{Applied, answered};
@@ -94,10 +95,11 @@ pub(crate) fn serve_request<N: Naming, D: Door, F: Since, T: Telling>(
     let client = asked.client;
     let own = answer_own(&asked);
     let gathered = files_of(server, &asked, own.is_some());
+    let touched = gathered.touched();
     gather(&mut hand, &mut apart, gathered);
     hand.ask(asked.client, &asked.op);
     let (mut hand, door, applied) = serve_stamped::<N, D, Brand>(
-        hand, &apart, door, server, asked, own, ticket,
+        hand, &apart, door, server, asked, own, touched, ticket,
     );
     let desc = applied.desc;
     keep(fds, &applied.entry, desc);
@@ -114,6 +116,7 @@ fn serve_stamped<N: Naming, D: Door, S: Stamping>(
     server: &mut DiskServer,
     asked: Ask,
     own: Option<OwnAnswer>,
+    touched: Result<Option<u32>, Memory>,
     ticket: u64,
 ) -> (OneHand<N>, D, Applied)
     requires before { S.before ≡ before_of (D.store door) }
@@ -124,6 +127,7 @@ fn serve_stamped<N: Naming, D: Door, S: Stamping>(
     requires numbers { server.old.names.next < 2 ^ 31 }
     requires asked { (t : PosixTree) × ArePartsOf server.old t × IsAsk t asked }
     requires own { IsOwnTold asked own }
+    requires touched { IsFileTold server.old asked touched }
     requires sees { SeesDisk N.start D.visible (D.store door) S.history server.old }
     requires sound { IsSoundServer (geometry_of_store (D.store door)) (D.store door).unassigned.free server.old }
     ensures stamping { IsStamping N.start S.history S.asked S.files S.first D.visible D.keeps S.before (D.store result.1) result.0 }
@@ -144,18 +148,19 @@ fn serve_stamped<N: Naming, D: Door, S: Stamping>(
     // For the prover alone.
     let _ = apart;
     let mut stamped = StampedDoor::<N, D, S>::begin(door, hand);
-    let applied = serve_one(server, &mut stamped, asked, own, ticket);
+    let applied = serve_one(server, &mut stamped, asked, own, touched, ticket);
     let (door, hand) = stamped.end();
     (hand, door, applied)
 }
 
 // Serves a request: the client does where its descriptors tell the answer, and the server otherwise, once the blocks
-// that the request needs are in memory.
+// that the request needs are in memory. It is told which file a request of the names touches, where that is known.
 fn serve_one<D: Door>(
     server: &mut DiskServer,
     door: &mut D,
     ask: Ask,
     own: Option<OwnAnswer>,
+    touched: Result<Option<u32>, Memory>,
     ticket: u64,
 ) -> Applied
     requires client { ask.client < MAX_CLIENTS }
@@ -163,6 +168,7 @@ fn serve_one<D: Door>(
     requires numbers { server.old.names.next < 2 ^ 31 }
     requires asked { (t : PosixTree) × ArePartsOf server.old t × IsAsk t ask }
     requires own { IsOwnTold ask own }
+    requires touched { IsFileTold server.old ask touched }
     requires sound { IsSoundServer (geometry_of_store (D.store door.old)) (D.store door.old).unassigned.free server.old }
     requires stamped { D.stamps → ExplainsAllowed D.allows (D.store door.old) server.old }
     ensures entry { IsEntryOf ask result.entry.by ticket result.entry }
@@ -183,8 +189,11 @@ fn serve_one<D: Door>(
     on_disk_law(&geometry);
     always_law(&geometry);
     let Some(answer) = own else {
+        let Ok(touched) = touched else {
+            return unread(ask, ticket, Excuse::Memory);
+        };
         return match server.fetch(door, &ask) {
-            Ok(()) => server.apply(door, ask, Actor::Primary, ticket),
+            Ok(()) => server.apply(door, ask, touched, Actor::Primary, ticket),
             Err(excuse) => unread(ask, ticket, excuse),
         };
     };
@@ -201,7 +210,7 @@ fn serve_one<D: Door>(
     }
 }
 
-// The answer to a request whose blocks couldn't be read. Its descriptor stays.
+// The answer to a request whose blocks couldn't be read, or whose file isn't known. Its descriptor stays.
 fn unread(ask: Ask, ticket: u64, excuse: Excuse) -> Applied
     ensures entry { IsEntryOf ask actor.Primary ticket result.entry }
     ensures reply { result.entry.reply ≡ reply.Excused excuse }

@@ -1,8 +1,17 @@
-use Rattle.std.proofs.Common.{◌≡◌, ◌∷◌, ◌++◌, [], ℕ, List, None, Some, Err, true, false, ap, sym, refl, subst, ◌∙◌}
-use Rattle.std.specs.Prelude.{IsTrue}
+use Rattle.std.proofs.Common.{◌≡◌, ◌∷◌, ◌++◌, [], ℕ, List, Option, None, Some, Result, Err, inl, true, false, ap, sym, refl, subst, ◌∙◌}
+use Rattle.std.specs.Prelude.{IfOk, IsTrue}
 use Rattle.ufs_alike.proofs.StepLemmas.{asks}
 use Rattle.ufs_alike.proofs.TreeLemmas.{either_way}
+use Rattle.ufs_base.specs.declared.Memory.{Memory}
 use Rattle.ufs_client.proofs.Replies.{plain_calm}
+use Rattle.ufs_model.specs.Asks.{file_in}
+use Rattle.ufs_model.specs.Excuses.{ExcuseFits}
+use Rattle.ufs_model.specs.declared.data.Ask.{Ask}
+use Rattle.ufs_model.specs.declared.data.Excuse.TheVariants as excuse
+use Rattle.ufs_names.specs.Calls.{IsOfNames}
+use Rattle.ufs_server.specs.Fetched.{IsReady}
+use Rattle.ufs_server.specs.Touching.{IsFileTouched}
+use Rattle.ufs_stored.specs.Parts.{Parts}
 use Rattle.ufs_model.specs.FileBytes.{bytes_of}
 use Rattle.ufs_model.specs.History.{is_excused}
 use Rattle.ufs_model.specs.PosixTree.{Files, PosixTree}
@@ -35,10 +44,20 @@ apply-requires-clause-stamped g c = λ stamped.
     let e = c.requires.stamped stamped in
     go_on g.D.Door.allows (g.D.Door.store c.args.door.now) c.args.server.now (g.D.Door.store c.fetch.new.door) c.fetch.new.self c.fetch.ensures.sectors e (c.fetch.ensures.on_disk (g.met.D.Door.sees stamped) e.start e.history e.on_disk)
 
+-- a request of the names needs no blocks
+names_ready : (p : Parts) (ask : Ask) → IsOfNames ask → IsReady p ask
+names_ready p ask names = record { needed = λ d file s kind desc named here allowed. let no : None ≡ Some file = sym (names kind) ∙ ap file_in desc ∙ named in cc }
+
+pub apply-requires-clause-touched : goal.apply-requires-clause-touched
+apply-requires-clause-touched g c = λ names other.
+    let same = (c.fetch.ensures.nothing (names_ready c.args.server.now c.args.ask names)).0 in
+    let told = subst (λ (r : Result (Option ℕ) Memory). IfOk r (IsFileTouched c.args.server.now c.args.ask)) c.in-Ok.is (c.requires.touched other) in
+    subst (λ (p : Parts). IsFileTouched p c.args.ask c.in-Ok.touched) (sym same) told
+
 -- ---- the blocks were read, and the server answered
 
-pub returns-in-Ok-clause-reading : goal.returns-in-Ok-clause-reading
-returns-in-Ok-clause-reading g c =
+pub returns-in-Ok-fetch-clause-reading : goal.returns-in-Ok-fetch-clause-reading
+returns-in-Ok-fetch-clause-reading g c =
     let f = c.fetch.ensures in
     let a = c.apply.ensures in
     let mid = c.fetch.new.self in
@@ -53,8 +72,8 @@ returns-in-Ok-clause-reading g c =
       away = a.away;
     }
 
-pub returns-in-Ok-clause-on_disk : goal.returns-in-Ok-clause-on_disk
-returns-in-Ok-clause-on_disk g c visible start history asked legal is = c.apply.ensures.on_disk visible start history asked legal (c.fetch.ensures.on_disk visible start history is)
+pub returns-in-Ok-fetch-clause-on_disk : goal.returns-in-Ok-fetch-clause-on_disk
+returns-in-Ok-fetch-clause-on_disk g c visible start history asked legal is = c.apply.ensures.on_disk visible start history asked legal (c.fetch.ensures.on_disk visible start history is)
 
 module _ (g : Over) (c : After-apply g) where
   through : IsTrue g.D.Door.visible → (start : PosixTree) (history : List Entry) → IsOnDisk (g.D.Door.store c.args.door.now) start history c.args.server.now
@@ -67,8 +86,8 @@ module _ (g : Over) (c : After-apply g) where
       between_joined g.D.Door.keeps old.sectors start history old.moments mid.moments new.moments (f.moments visible start history is)
       (subst (λ (n : ℕ). IsExplainedBetween g.D.Door.keeps n start history mid.moments new.moments) f.sectors (c.apply.ensures.moments visible start history (f.on_disk visible start history is)))
 
-pub returns-in-Ok-clause-moments : goal.returns-in-Ok-clause-moments
-returns-in-Ok-clause-moments g c visible start history asked legal is =
+pub returns-in-Ok-fetch-clause-moments : goal.returns-in-Ok-fetch-clause-moments
+returns-in-Ok-fetch-clause-moments g c visible start history asked legal is =
     let old = g.D.Door.store c.args.door.now in
     let new = g.D.Door.store c.apply.new.door in
     let f = c.fetch.ensures in
@@ -76,14 +95,14 @@ returns-in-Ok-clause-moments g c visible start history asked legal is =
     let entry = c.apply.result.entry in
     let end = c.always_law.ensures.rest g.D.Door.keeps new start (history ++ entry ∷ []) c.apply.new.self (a.geometry ∙ f.geometry ∙ sym c.geometry-geometry.ensures.is)
     (a.on_disk visible start history asked legal (f.on_disk visible start history is)) in
-    throughout_one g.D.Door.keeps old.sectors start history entry old.moments new.moments (through g (goal.at.returns-in-Ok-clause-moments g c).After-apply visible start history is)
+    throughout_one g.D.Door.keeps old.sectors start history entry old.moments new.moments (through g (goal.at.returns-in-Ok-fetch-clause-moments g c).After-apply visible start history is)
     (subst (λ (n : ℕ). IsExplainedBetween g.D.Door.keeps n start (history ++ entry ∷ []) new.moments new.moments) (a.sectors ∙ f.sectors) end)
 
-pub returns-in-Ok-clause-told : goal.returns-in-Ok-clause-told
-returns-in-Ok-clause-told g c =
+pub returns-in-Ok-fetch-clause-told : goal.returns-in-Ok-fetch-clause-told
+returns-in-Ok-fetch-clause-told g c =
     let f = c.fetch.ensures in
     let a = c.apply.ensures in
-    read_served (g.D.Door.store c.args.door.now) (g.D.Door.store c.fetch.new.door) (g.D.Door.store c.apply.new.door) c.apply.result.entry.reply f.stop c.in-Ok.ensures.passed a.told a.stopped a.still
+    read_served (g.D.Door.store c.args.door.now) (g.D.Door.store c.fetch.new.door) (g.D.Door.store c.apply.new.door) c.apply.result.entry.reply f.stop c.in-Ok-fetch.ensures.passed a.told a.stopped a.still
 
 -- ---- they couldn't be read
 
@@ -92,7 +111,7 @@ returns-in-Err-clause-reading g c =
     let f = c.fetch.ensures in
     let mid = c.fetch.new.self in
     let ask = c.args.ask in
-    let is = c.unread.ensures.reply in
+    let is = c.unread-in-Err.ensures.reply in
     record {
       read = mid;
       further = f.further;
@@ -107,16 +126,16 @@ returns-in-Err-clause-reading g c =
 pub returns-in-Err-clause-on_disk : goal.returns-in-Err-clause-on_disk
 returns-in-Err-clause-on_disk g c visible start history asked legal is =
     let f = c.fetch.ensures in
-    c.on_disk_law.ensures.excused (g.D.Door.store c.fetch.new.door) start history _ c.fetch.new.self (f.geometry ∙ sym c.geometry-geometry.ensures.is) legal (ap is_excused c.unread.ensures.reply) (f.on_disk visible start history is)
+    c.on_disk_law.ensures.excused (g.D.Door.store c.fetch.new.door) start history _ c.fetch.new.self (f.geometry ∙ sym c.geometry-geometry.ensures.is) legal (ap is_excused c.unread-in-Err.ensures.reply) (f.on_disk visible start history is)
 
 pub returns-in-Err-clause-moments : goal.returns-in-Err-clause-moments
 returns-in-Err-clause-moments g c visible start history asked legal is =
     let old = g.D.Door.store c.args.door.now in
     let mid = g.D.Door.store c.fetch.new.door in
     let f = c.fetch.ensures in
-    let entry = c.unread.result.entry in
+    let entry = c.unread-in-Err.result.entry in
     let same = f.geometry ∙ sym c.geometry-geometry.ensures.is in
-    let next = c.on_disk_law.ensures.excused mid start history entry c.fetch.new.self same legal (ap is_excused c.unread.ensures.reply) (f.on_disk visible start history is) in
+    let next = c.on_disk_law.ensures.excused mid start history entry c.fetch.new.self same legal (ap is_excused c.unread-in-Err.ensures.reply) (f.on_disk visible start history is) in
     throughout_one g.D.Door.keeps old.sectors start history entry old.moments mid.moments (f.moments visible start history is)
     (subst (λ (n : ℕ). IsExplainedBetween g.D.Door.keeps n start (history ++ entry ∷ []) mid.moments mid.moments) f.sectors (c.always_law.ensures.rest g.D.Door.keeps mid start (history ++ entry ∷ []) c.fetch.new.self same next))
 
@@ -124,7 +143,43 @@ pub returns-in-Err-clause-told : goal.returns-in-Err-clause-told
 returns-in-Err-clause-told g c =
     let f = c.fetch.ensures in
     read_failed (g.D.Door.store c.args.door.now) (g.D.Door.store c.fetch.new.door) c.in-Err.excuse c.in-Err.ensures.excused f.stop
-    (λ fault device. f.told fault (c.in-Err.is ∙ ap Err device)) (λ none. f.untold (ap device_told c.in-Err.is ∙ none)) c.unread.result.entry.reply c.unread.ensures.reply
+    (λ fault device. f.told fault (c.in-Err.is ∙ ap Err device)) (λ none. f.untold (ap device_told c.in-Err.is ∙ none)) c.unread-in-Err.result.entry.reply c.unread-in-Err.ensures.reply
+
+-- ---- the file isn't known
+
+pub returns-in_default-touched-clause-reading : goal.returns-in_default-touched-clause-reading
+returns-in_default-touched-clause-reading g c =
+    let p = c.args.server.now in
+    let is = c.unread.ensures.reply in
+    record {
+      read = p;
+      further = none_read (geometry_of_store (g.D.Door.store c.args.door.now)) (g.D.Door.store c.args.door.now).unassigned.free c.args.ask p c.requires.sound;
+      seen = λ visible start history there. parts_on_disk (g.D.Door.store c.args.door.now) start history p there;
+      served = λ plain. let no : false ≡ true = sym plain ∙ ap is_excused is in cc;
+      fits = λ x other t parts asked. subst (ExcuseFits t c.args.ask.client c.args.ask.op) (same_excuse excuse.Memory x (sym is ∙ other)) (record { due = λ no. absurd cc; told = tt });
+      unchanged = λ excused t parts. parts;
+      forgets = nothing_forgotten p;
+      away = λ plain. let no : false ≡ true = sym plain ∙ ap is_excused is in cc;
+    }
+
+pub returns-in_default-touched-clause-on_disk : goal.returns-in_default-touched-clause-on_disk
+returns-in_default-touched-clause-on_disk g c visible start history asked legal is =
+    c.on_disk_law.ensures.excused (g.D.Door.store c.args.door.now) start history _ c.args.server.now (sym c.geometry-geometry.ensures.is) legal (ap is_excused c.unread.ensures.reply) is
+
+pub returns-in_default-touched-clause-moments : goal.returns-in_default-touched-clause-moments
+returns-in_default-touched-clause-moments g c visible start history asked legal is =
+    let s = g.D.Door.store c.args.door.now in
+    let p = c.args.server.now in
+    let entry = c.unread.result.entry in
+    let same = sym c.geometry-geometry.ensures.is in
+    let next = c.on_disk_law.ensures.excused s start history entry p same legal (ap is_excused c.unread.ensures.reply) is in
+    throughout_one g.D.Door.keeps s.sectors start history entry s.moments s.moments (c.always_law.ensures.rest g.D.Door.keeps s start history p same is)
+    (c.always_law.ensures.rest g.D.Door.keeps s start (history ++ entry ∷ []) p same next)
+
+pub returns-in_default-touched-clause-told : goal.returns-in_default-touched-clause-told
+returns-in_default-touched-clause-told g c =
+    let s = g.D.Door.store c.args.door.now in
+    read_failed s s excuse.Memory refl refl (λ fault device. absurd cc) (λ none. inl refl) c.unread.result.entry.reply c.unread.ensures.reply
 
 -- ---- the client answered
 

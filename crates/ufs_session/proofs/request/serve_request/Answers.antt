@@ -16,7 +16,7 @@ use Rattle.ufs_stored.specs.Parts.{Parts}
 use Rattle.ufs_server.specs.Away.{AwayStays}
 use Rattle.ufs_session.specs.Asking.{AsksOf, HasAnswered, HasAnsweredOn, IsAsking}
 use Rattle.ufs_session.specs.Drawing.{HasFilesOf, IsServedIn, SeesDisk, had_as, tree_had}
-use Rattle.ufs_session.specs.Gathered.{IsTogether}
+use Rattle.ufs_session.specs.Gathered.{IsFileTold, IsTogether}
 use Rattle.ufs_session.specs.Picked.{HasReadOf, MayHaveBegun, Pick}
 use Rattle.ufs_session.specs.Reading.{HasReadOn}
 use Rattle.ufs_session.specs.Resting.{IsResting, KnowsDisk}
@@ -77,6 +77,9 @@ serve_stamped-hand-requires-clause-asked g c =
 
 pub serve_stamped-hand-requires-clause-own : goal.serve_stamped-hand-requires-clause-own
 serve_stamped-hand-requires-clause-own g c = let own = c.answer_own-own.ensures in record { own = own.own; posix = own.posix; plain = own.plain }
+
+pub serve_stamped-hand-requires-clause-touched : goal.serve_stamped-hand-requires-clause-touched
+serve_stamped-hand-requires-clause-touched g c = subst (IsFileTold c.args.server.now c.args.asked) (sym c.touched-touched.ensures) c.files_of-gathered.ensures.told
 
 pub serve_stamped-hand-requires-clause-sees : goal.serve_stamped-hand-requires-clause-sees
 serve_stamped-hand-requires-clause-sees g c = sees_had g (goal.at.serve_stamped-hand-requires-clause-sees g c).After-gather
@@ -244,7 +247,7 @@ draw-entry-requires-clause-files g c =
     let e = c.serve_stamped-hand.ensures.entry in
     let tree = tree_after h.tree history in
     let files = has_files k (had_as k history) tree (tree_had k history) c.args.asked.client c.args.asked.op c.files_of-gathered.result c.serve_stamped-hand.result.0 c.gather.new.apart.files (had_alike k h.tree h.like history)
-    (c.files_of-gathered.ensures tree one.reached.parts one.asked) c.gather.ensures.files c.serve_stamped-hand.ensures.stamping.each in
+    (c.files_of-gathered.ensures.gathered tree one.reached.parts one.asked) c.gather.ensures.files c.serve_stamped-hand.ensures.stamping.each in
     subst (λ (x : ℕ × Op). HasFilesOf k (had_as k history) (tree_had k history) x.0 x.1 c.serve_stamped-hand.result.0) (λ i. (sym e.client i, sym e.asked i)) files
 
 -- ---- its entry was drawn, and the parts go apart again
