@@ -26,12 +26,12 @@ use ufs_sound::Fresh;
 use ufs_store::Door;
 
 // The disk as the session finds it.
-pub(crate) fn stamp_disk<N: Naming, D: Door, P: Passing>(hand: &mut OneHand<N>, door: &D)
-    requires failed { P.failed ≡ None }
-    requires stop { P.stop ≡ (D.store door.now).stop }
-    requires state { P.state ≡ disk_state (D.store door.now) }
-    requires states { P.states ≡ [] }
-    requires short { P.shortages ≡ [] }
+pub(crate) fn stamp_disk<N: Naming, D: Door, S: Passing>(hand: &mut OneHand<N>, door: &D)
+    requires failed { S.failed ≡ None }
+    requires stop { S.stop ≡ (D.store door.now).stop }
+    requires state { S.state ≡ disk_state (D.store door.now) }
+    requires states { S.states ≡ [] }
+    requires short { S.shortages ≡ [] }
     requires session { HasSession N.start [] None hand.old }
     requires fresh { stamp_in hand.old ≡ 0 }
     requires covered { IsCoveredIn N.start [] hand.old }
@@ -47,7 +47,7 @@ pub(crate) fn stamp_disk<N: Naming, D: Door, P: Passing>(hand: &mut OneHand<N>, 
     ensures state { state_in hand.new ≡ disk_state (D.store door.now) }
     ensures shortages { hand.new.shortages ≡ hand.old.shortages }
 {
-    hand.pass::<P>();
+    hand.pass::<S>();
 }
 
 // Draws the entry of a request that was served: what it acknowledges is committed, as the disk shows. The hand has the files that the

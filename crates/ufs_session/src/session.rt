@@ -94,7 +94,9 @@ pub fn serve<D: Door>(
     match Box::new(alloc, door) {
         Ok(door) => {
             // As many entries were drawn as are told (`entries`).
-            let (served, _drawn) = serve_in::<Brand, Box<D>, Brand>(alloc, opened, server, door, clients);
+            let (served, _drawn) = serve_in::<Brand, Box<D>, Brand>(
+                alloc, opened, server, door, clients,
+            );
             let Served { session, door } = served;
             Served {
                 session,
@@ -189,7 +191,15 @@ fn serve_apart<N: Naming, D: Door, F: Since>(
         door,
     } = running;
     let count = count_of(&clients);
-    scatter(&mut hand, &mut apart, server, Gathered::Every, None, 0, count);
+    scatter(
+        &mut hand,
+        &mut apart,
+        server,
+        Gathered::Every,
+        None,
+        0,
+        count,
+    );
     let mut told = Vec::new(alloc);
     let begun = Running { hand, apart, door };
     let (running, ended) = serve_clients::<N, D, F>(alloc, begun, server, clients, &mut told);

@@ -39,4 +39,4 @@ pass-requires-clause-apart g c = λ n is. let no : None ≡ Some n = sym c.requi
 
 pub returns-clause-none : goal.returns-clause-none
 returns-clause-none g c =
-    c.pass.ensures.answered ∙ ap (λ (l : List ℕ). l ++ faults_in c.args.hand.now) (none_met g.P.Passing.failed c.args.hand.now.stop g.P.Passing.stop c.requires.failed (c.requires.stop ∙ sym c.requires.still)) ∙ c.requires.none
+    c.pass.ensures.answered ∙ ap (λ (l : List ℕ). l ++ faults_in c.args.hand.now) (none_met g.S.Passing.failed c.args.hand.now.stop g.S.Passing.stop c.requires.failed (c.requires.stop ∙ sym c.requires.still)) ∙ c.requires.none

@@ -1,5 +1,4 @@
 use Rattle.std.proofs.Common.{sym, ◌∙◌, None, subst}
-use Rattle.std.specs.FinMap as fin
 use Rattle.ufs_model.specs.History.{tree_after}
 use Rattle.ufs_session.specs.Gathered.{IsTogether}
 use Rattle.ufs_apart.proofs.Beside.{beside_self}
@@ -18,7 +17,7 @@ split_file-requires g c =
     let tree = tree_after k.tree r.0 in
     record {
       here = λ absent. has_file k r.0 None c.args.hand.now a r.1.none (apart_of k r.0 c.args.hand.now a r.1) c.args.file absent
-    (sym (there_alike r.2.tree tree r.2.alike c.args.file) ∙ sym (c.has.ensures r.2.tree r.2.parts) ∙ c.if-not-has.false);
+          (sym (there_alike r.2.tree tree r.2.alike c.args.file) ∙ sym (c.has.ensures r.2.tree r.2.parts) ∙ c.if-not-has.false);
     }
 
 pub returns : goal.returns

@@ -1,5 +1,4 @@
-use Rattle.std.proofs.Common.{◌≡◌, List, [], Result, ap, length, map, sym, subst}
-use Rattle.std.specs.Prelude.{Bool, IsTrue, drop}
+use Rattle.std.proofs.Common.{◌≡◌, List, [], Result, ap, map, sym, subst}
 use Rattle.ufs_client.proofs.Lists.{once_rising, rising_from}
 use Rattle.ufs_client.specs.declared.played.EndFault.{EndFault}
 use Rattle.ufs_client.specs.declared.played.EndFault.TheVariants as fault
