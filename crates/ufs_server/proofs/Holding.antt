@@ -13,16 +13,12 @@ use Rattle.ufs_durable.specs.State.{CommitState, DurableState, state_of}
 use Rattle.ufs_stored.specs.Parts.{Commits, Parts, committed_as, durable_in, with_file}
 use Rattle.ufs_server.specs.Server.{HasRoomFor, commits_in}
 
--- the later file stays
-pub with_again : (p : Parts) (x y : DurableState) (pool other : BlockSet) → y.file.file ≡ x.file.file → with_file x pool (with_file y other p) ≡ with_file x pool p
-with_again p x y pool other same = λ i. record p { files = files i; commits = commits i; pool = pool }
+-- the later hand stays
+pub with_again : (p : Parts) (x : DurableState) (pool : BlockSet) (file : ℕ) (h : FileState) → file ≡ x.file.file → with_file x pool (record p { files = map.insert p.files file h }) ≡ with_file x pool p
+with_again p x pool file h same = λ i. record p { files = files i; commits = map.insert p.commits x.file.file (record { log = x.log; dropped = x.dropped }); pool = pool }
   where
-    files : map.insert (map.insert p.files y.file.file y.file) x.file.file x.file ≡ map.insert p.files x.file.file x.file
-    files = ap (λ (k : ℕ). map.insert (map.insert p.files k y.file) x.file.file x.file) same ∙ insert_again nat_cmp_total nat_cmp-IsAntisymmetric p.files x.file.file y.file x.file
-
-    commits : map.insert (map.insert p.commits y.file.file (record { log = y.log; dropped = y.dropped })) x.file.file (record { log = x.log; dropped = x.dropped }) ≡ map.insert p.commits x.file.file (record { log = x.log; dropped = x.dropped })
-    commits = ap (λ (k : ℕ). map.insert (map.insert p.commits k (record { log = y.log; dropped = y.dropped })) x.file.file (record { log = x.log; dropped = x.dropped })) same
-        ∙ insert_again nat_cmp_total nat_cmp-IsAntisymmetric p.commits x.file.file _ _
+    files : map.insert (map.insert p.files file h) x.file.file x.file ≡ map.insert p.files x.file.file x.file
+    files = ap (λ (k : ℕ). map.insert (map.insert p.files k h) x.file.file x.file) same ∙ insert_again nat_cmp_total nat_cmp-IsAntisymmetric p.files x.file.file h x.file
 
 -- so does what is known of it
 pub with_known : (p : Parts) (x : DurableState) (pool : BlockSet) (file : ℕ) (c : CommitState) → file ≡ x.file.file → with_file x pool (record p { commits = map.insert p.commits file c }) ≡ with_file x pool p
@@ -58,17 +54,14 @@ known_now commits file c = ap is_some (inserted_here nat_cmp_total nat_cmp-IsAnt
 
 -- ---- taken out
 
-pub room_known : (p q : Parts) (file : ℕ) → IsSome (map.get p.files file) → ((s : FileState) → map.get p.files file ≡ Some s → q ≡ record p { commits = map.insert p.commits file (commits_in p.commits file s) }) → HasRoomFor file q
-room_known p q file here known =
+pub here_known : (p q : Parts) (file : ℕ) → IsSome (map.get p.files file) → ((s : FileState) → map.get p.files file ≡ Some s → q ≡ record p { commits = map.insert p.commits file (commits_in p.commits file s) }) → IsSome (map.get q.files file)
+here_known p q file here known =
     let found = from_some (map.get p.files file) here in
-    subst (HasRoomFor file) (sym (known found.0 found.1)) (record { hand = here; known = known_now p.commits file (commits_in p.commits file found.0) })
+    subst (λ (x : Parts). IsSome (map.get x.files file)) (sym (known found.0 found.1)) here
 
-pub room_put : (p : Parts) (x : DurableState) (pool : BlockSet) (file : ℕ) → x.file.file ≡ file → HasRoomFor file (with_file x pool p)
-room_put p x pool file is = subst (λ (n : ℕ). HasRoomFor n (with_file x pool p)) is (record { hand = there_now p.files x.file.file x.file; known = known_now p.commits x.file.file (record { log = x.log; dropped = x.dropped }) })
-
--- from the server p by what is known of the file, and then by another in its place
+-- from the server p by what is known of the file, and then by another hand in its place
 module _ (p q r : Parts) (file : ℕ) (here : IsSome (map.get p.files file)) (known : (s : FileState) → map.get p.files file ≡ Some s → q ≡ record p { commits = map.insert p.commits file (commits_in p.commits file s) })
-    (y : DurableState) (put : r ≡ with_file y q.pool q) (number : y.file.file ≡ file) where
+    (h : FileState) (put : r ≡ record q { files = map.insert q.files file h }) where
   found : (s : FileState) × (map.get p.files file ≡ Some s)
   found = from_some (map.get p.files file) here
 
@@ -81,17 +74,36 @@ module _ (p q r : Parts) (file : ℕ) (here : IsSome (map.get p.files file)) (kn
   pub same_files : q.files ≡ p.files
   same_files = ap (λ (x : Parts). x.files) is
 
+  pub room_put : HasRoomFor file r
+  room_put = subst (HasRoomFor file) (sym put) (record { hand = there_now q.files file h; known = subst (λ (x : Parts). IsSome (map.get x.commits file)) (sym is) (known_now p.commits file (commits_in p.commits file found.0)) })
+
   pub others_stay : r ≡ record p { files = r.files; commits = r.commits }
   others_stay = subst (λ (x : Parts). x ≡ record p { files = x.files; commits = x.commits }) (sym put)
-      (subst (λ (x : Parts). with_file y x.pool x ≡ record p { files = (with_file y x.pool x).files; commits = (with_file y x.pool x).commits }) (sym is) refl)
+      (subst (λ (x : Parts). (record x { files = map.insert x.files file h }) ≡ record p { files = map.insert x.files file h; commits = x.commits }) (sym is) refl)
 
   pub goes_back : (x : DurableState) (pool : BlockSet) → x.file.file ≡ file → with_file x pool r ≡ with_file x pool p
   goes_back x pool same =
       ap (with_file x pool) put
-      ∙ with_again q x y pool q.pool (number ∙ sym same)
+      ∙ with_again q x pool file h (sym same)
       ∙ ap (with_file x pool) is
       ∙ with_known p x pool file (commits_in p.commits file found.0) (sym same)
 
-  pub held_is : (s hand : FileState) (c : CommitState) → AreNumbered p.files → map.get p.files file ≡ Some s → map.get q.files file ≡ Some hand → map.get q.commits file ≡ Some c → state_of hand c ≡ durable_in p.commits s
+  pub held_is : (s hand : FileState) (c : CommitState) → AreNumbered p.files → map.get p.files file ≡ Some s → map.get q.files file ≡ Some hand → map.get r.commits file ≡ Some c → state_of hand c ≡ durable_in p.commits s
   held_is s hand c numbered there at has =
-      taken_out p file s hand c numbered there (ap (λ (fs : Files). map.get fs file) (sym same_files) ∙ at) (ap (λ (x : Parts). map.get x.commits file) (sym (known s there)) ∙ has)
+      taken_out p file s hand c numbered there (ap (λ (fs : Files). map.get fs file) (sym same_files) ∙ at) (ap (λ (x : Parts). map.get x.commits file) (sym (put ∙ ap (λ (x : Parts). record x { files = map.insert q.files file h }) (known s there))) ∙ has)
+
+-- ---- put back
+
+-- what became of the file, where what is known of its commits was changed in its place
+pub put_is : (v p last : Parts) (x : DurableState) (pool : BlockSet) (file : ℕ) (lent : Commits) → v ≡ p → x.file.file ≡ file → lent ≡ map.insert v.commits file (record { log = x.log; dropped = x.dropped })
+    → last ≡ record v { files = map.insert v.files x.file.file x.file; commits = lent; pool = pool } → last ≡ with_file x pool p
+put_is v p last x pool file lent view number is put =
+    put
+    ∙ ap (λ (cs : Commits). record v { files = map.insert v.files x.file.file x.file; commits = cs; pool = pool }) (is ∙ ap (λ (k : ℕ). map.insert v.commits k (record { log = x.log; dropped = x.dropped })) (sym number))
+    ∙ ap (with_file x pool) view
+
+-- where nothing more is known of it than before
+pub put_as_known : (p last : Parts) (hand : FileState) (c : CommitState) (file : ℕ) → hand.file ≡ file → map.get p.commits file ≡ Some c → last ≡ record p { files = map.insert p.files hand.file hand } → last ≡ with_file (state_of hand c) p.pool p
+put_as_known p last hand c file number has put =
+    put
+    ∙ ap (λ (cs : Commits). record p { files = map.insert p.files hand.file hand; commits = cs }) (sym (ap (λ (k : ℕ). map.insert p.commits k c) number ∙ insert_same nat_cmp_total nat_cmp-IsAntisymmetric p.commits file c has))

@@ -27,8 +27,11 @@ impl Model for CommitTable {
 
 impl CommitTable {
     ghost use Rattle.std.specs.Prelude.{◌≡◌, None, IfOk, OnOk, OnErr};
-    ghost use Rattle.std.specs.Option.{is_some, option_copied};
+    ghost use Rattle.std.specs.Borrow.{LendsSo, sem};
+    ghost use Rattle.std.specs.Option.{OnSome, is_some, option_copied, option_copied_mut};
     ghost use Rattle.std.specs.FinMap as map;
+    ghost use Rattle.ufs_durable.specs.contracts.durable.FileCommits as commits;
+    ghost use Rattle.ufs_server.specs.contracts.commit_table.CommitTable.{the_row};
 
     /// Nothing is known.
     pub(crate) fn new(alloc: Global) -> CommitTable
@@ -51,6 +54,14 @@ impl CommitTable {
         ensures { option_copied result ≡ map.get self.now file }
     {
         self.table.get(&file)
+    }
+
+    /// What is known of this file's commits, for one that changes it.
+    pub(crate) fn get_mut(&mut self, file: u32) -> Option<&mut FileCommits>
+        ensures* lends { sem 𝓛 (LendsSo the_row commits.the_row self.entry result (λ n known. OnSome result (n ≡ map.insert self.old file known)) (λ n. n ≡ self.old)) }
+        ensures value { option_copied_mut result ≡ map.get self.old file }
+    {
+        self.table.get_mut(&file)
     }
 
     /// This is known of the file's commits from now on. The answer is what was. Where anything was, no memory is taken.

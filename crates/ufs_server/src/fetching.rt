@@ -88,13 +88,16 @@ impl DiskServer {
         fetch_law(&geometry);
         file_sync_law();
         self.files.are_numbered();
-        let Ok(mut held) = self.take_out(file) else {
+        let Ok(mut hand) = self.take_out(file) else {
             return Err(StoreFault::Memory);
         };
         // For the prover alone.
-        let _runs = held.commits.dropped().as_slice();
-        let read = fetch(door, &mut held.hand, &ask.op, desc);
-        self.put_back(held);
+        let Some(known) = self.commits.get(file) else {
+            unreachable!()
+        };
+        let _runs = known.dropped().as_slice();
+        let read = fetch(door, &mut hand, &ask.op, desc);
+        self.put_back(hand);
         read
     }
 

@@ -54,18 +54,14 @@ impl DiskServer {
         }
         self.files.are_numbered();
         self.gather(door);
-        let Ok(mut held) = self.take_out(file) else {
+        let Ok(mut hand) = self.take_out(file) else {
             return out_of_memory(ask, by, ticket);
         };
-        let applied = apply(
-            &mut held.hand,
-            &mut held.commits,
-            ask,
-            by,
-            ticket,
-            &mut self.pool,
-        );
-        self.put_back(held);
+        let Some(known) = self.commits.get_mut(file) else {
+            unreachable!()
+        };
+        let applied = apply(&mut hand, known, ask, by, ticket, &mut self.pool);
+        self.put_back(hand);
         applied
     }
 

@@ -23,9 +23,9 @@ ghost use Rattle.ufs_server.specs.Answered.{device_told, is_of_store};
 ghost use Rattle.ufs_server.specs.Served.{CommitEnds};
 
 use crate::disk_server::DiskServer;
-use crate::held_file::HeldFile;
 use crate::syncing::excuse_of;
-use ufs_durable::{fitting_law, fsync};
+use ufs_durable::{FileCommits, fitting_law, fsync};
+use ufs_file::FileHand;
 use ufs_model::Excuse;
 use ufs_on_disk::{file_failure_law, file_memory_law, file_moments_law, file_sync_law, told_law};
 use ufs_store::Door;
@@ -60,14 +60,17 @@ impl DiskServer {
         file_moments_law(&geometry);
         told_law();
         self.files.are_numbered();
-        let Ok(mut held) = self.take_out(file) else {
+        let Ok(mut hand) = self.take_out(file) else {
             return Err(Excuse::Memory);
         };
+        let Some(known) = self.commits.get_mut(file) else {
+            unreachable!()
+        };
         // For the prover alone.
-        let _runs = held.commits.dropped().as_slice();
-        fitting_law(&held.hand);
-        let told = sync_held(door, &mut held);
-        self.put_back(held);
+        let _runs = known.dropped().as_slice();
+        fitting_law(&hand);
+        let told = sync_held(door, &mut hand, known);
+        self.put_back(hand);
         told?;
         let _committed = self.commits.take(file);
         Ok(())
@@ -75,20 +78,24 @@ impl DiskServer {
 }
 
 // Commits a file that is out of its server.
-fn sync_held<D: Door>(door: &mut D, held: &mut HeldFile) -> Result<(), Excuse>
+fn sync_held<D: Door>(
+    door: &mut D,
+    hand: &mut FileHand,
+    known: &mut FileCommits,
+) -> Result<(), Excuse>
     requires going { (D.store door.old).stop ≡ None }
-    requires noted { IsNoted (state_of held.old.hand held.old.commits) }
-    requires inode { is_inode_number (geometry_of_store (D.store door.old)) held.old.hand.inode ≡ true }
-    requires blocks { AreDataBlocks (geometry_of_store (D.store door.old)) (blocks_of held.old.hand.extents) }
-    requires dropped { MayReturn (D.store door.old).unassigned held.old.commits.dropped }
-    requires stamped { D.stamps → MayLeaveSynced D.allows (D.store door.old) (state_of held.old.hand held.old.commits) }
-    ensures ok { IsTrue D.visible → OnOk result (HasSynced (D.store door.old) (D.store door.new) (state_of held.old.hand held.old.commits)) }
-    ensures err { IsTrue D.visible → OnErr result (HasWritten (D.store door.old) (D.store door.new) (state_of held.old.hand held.old.commits) ⊎ HasFailed (D.store door.old) (D.store door.new) (state_of held.old.hand held.old.commits)) }
-    ensures moments { IsTrue D.visible → LeavesStages D.keeps (D.store door.old) (D.store door.new) (state_of held.old.hand held.old.commits) }
-    ensures fits { FitsInode held.old.hand }
-    ensures committed { OnOk result (state_of held.new.hand held.new.commits ≡ file_committed (state_of held.old.hand held.old.commits)) }
-    ensures kept { OnErr result (state_of held.new.hand held.new.commits ≡ state_of held.old.hand held.old.commits) }
-    ensures freed { OnOk result ((D.store door.new).unassigned.free ≡ set.union (D.store door.old).unassigned.free (set_of held.old.commits.dropped)) }
+    requires noted { IsNoted (state_of hand.old known.old) }
+    requires inode { is_inode_number (geometry_of_store (D.store door.old)) hand.old.inode ≡ true }
+    requires blocks { AreDataBlocks (geometry_of_store (D.store door.old)) (blocks_of hand.old.extents) }
+    requires dropped { MayReturn (D.store door.old).unassigned known.old.dropped }
+    requires stamped { D.stamps → MayLeaveSynced D.allows (D.store door.old) (state_of hand.old known.old) }
+    ensures ok { IsTrue D.visible → OnOk result (HasSynced (D.store door.old) (D.store door.new) (state_of hand.old known.old)) }
+    ensures err { IsTrue D.visible → OnErr result (HasWritten (D.store door.old) (D.store door.new) (state_of hand.old known.old) ⊎ HasFailed (D.store door.old) (D.store door.new) (state_of hand.old known.old)) }
+    ensures moments { IsTrue D.visible → LeavesStages D.keeps (D.store door.old) (D.store door.new) (state_of hand.old known.old) }
+    ensures fits { FitsInode hand.old }
+    ensures committed { OnOk result (state_of hand.new known.new ≡ file_committed (state_of hand.old known.old)) }
+    ensures kept { OnErr result (state_of hand.new known.new ≡ state_of hand.old known.old) }
+    ensures freed { OnOk result ((D.store door.new).unassigned.free ≡ set.union (D.store door.old).unassigned.free (set_of known.old.dropped)) }
     ensures unfreed { OnErr result ((D.store door.new).unassigned ≡ (D.store door.old).unassigned) }
     ensures geometry { geometry_of_store (D.store door.new) ≡ geometry_of_store (D.store door.old) }
     ensures sectors { (D.store door.new).sectors ≡ (D.store door.old).sectors }
@@ -97,8 +104,8 @@ fn sync_held<D: Door>(door: &mut D, held: &mut HeldFile) -> Result<(), Excuse>
     ensures cause { IsTold (D.store door.old).faults (D.store door.new).faults (device_told result) }
     ensures stop { (D.store door.new).stop ≡ stop_after (D.store door.old).stop (device_told result) }
 {
-    fitting_law(&held.hand);
-    match fsync(door, &mut held.hand, &mut held.commits) {
+    fitting_law(hand);
+    match fsync(door, hand, known) {
         Ok(_) => Ok(()),
         Err(fault) => Err(excuse_of(fault)),
     }

@@ -1,9 +1,9 @@
-// A file out of its server while it is served or committed.
+// A file's hand out of its server while it is served or committed.
 ghost use Rattle.std.specs.Prelude.{ℕ, ◌≡◌, Some, IsSome, IfOk, OnOk, OnErr};
 ghost use Rattle.std.specs.FinMap as map;
 ghost use Rattle.ufs_bitmap.specs.Blocks.{BlockSet};
 ghost use Rattle.ufs_file.specs.Hand.{FileState};
-ghost use Rattle.ufs_durable.specs.State.{DurableState, state_of};
+ghost use Rattle.ufs_durable.specs.State.{CommitState, DurableState, state_of};
 ghost use Rattle.ufs_server.specs.Server.{HasRoomFor, commits_in};
 ghost use Rattle.ufs_stored.specs.Parts.{durable_in, with_file};
 
@@ -12,39 +12,32 @@ use ufs_base::Memory;
 use ufs_durable::FileCommits;
 use ufs_file::FileHand;
 
-/// A file, with what is known of its commits.
-#[derive(Drop)]
-pub(crate) struct HeldFile {
-    pub(crate) hand: FileHand,
-    pub(crate) commits: FileCommits,
-}
-
 impl DiskServer {
-    /// Takes out a file that is here, with what is known of its commits. Until it is put back others stand in their places.
-    pub(crate) fn take_out(&mut self, file: u32) -> Result<HeldFile, Memory>
+    /// Takes out the hand of a file that is here, of whose commits something is known from now on. Until it is put back another
+    /// stands in its place.
+    pub(crate) fn take_out(&mut self, file: u32) -> Result<FileHand, Memory>
         requires here { IsSome (map.get self.old.files file) }
-        ensures held { IfOk result (λ held. (s : FileState) → map.get self.old.files file ≡ Some s → state_of held.hand held.commits ≡ durable_in self.old.commits s) }
-        ensures number { IfOk result (λ held. held.hand.file ≡ file) }
-        ensures there { IfOk result (λ held. map.get self.old.files file ≡ Some held.hand) }
+        ensures held { IfOk result (λ hand. (s : FileState) (c : CommitState) → map.get self.old.files file ≡ Some s → map.get self.new.commits file ≡ Some c → state_of hand c ≡ durable_in self.old.commits s) }
+        ensures number { IfOk result (λ hand. hand.file ≡ file) }
+        ensures there { IfOk result (λ hand. map.get self.old.files file ≡ Some hand) }
         ensures room { OnOk result (HasRoomFor file self.new) }
         ensures others { OnOk result (self.new ≡ record self.old { files = self.new.files; commits = self.new.commits }) }
         ensures back { OnOk result ((x : DurableState) (pool : BlockSet) → x.file.file ≡ file → with_file x pool self.new ≡ with_file x pool self.old) }
         ensures err { OnErr result (self.new ≡ self.old) }
     {
         self.files.are_numbered();
-        let hand = FileHand::make(self.alloc, file, 0)?;
-        let commits = FileCommits::make(self.alloc, &hand)?;
+        let placeholder = FileHand::make(self.alloc, file, 0)?;
         self.know(file)?;
-        Ok(self.exchange(file, HeldFile { hand, commits }))
+        Ok(self.exchange(file, placeholder))
     }
 
-    /// Puts a file back, with what is known of its commits now. Takes no memory.
-    pub(crate) fn put_back(&mut self, held: HeldFile)
-        requires room { HasRoomFor held.hand.file self.old }
-        ensures { self.new ≡ with_file (state_of held.hand held.commits) self.old.pool self.old }
+    /// Puts a file's hand back. Takes no memory.
+    pub(crate) fn put_back(&mut self, hand: FileHand)
+        requires here { IsSome (map.get self.old.files hand.file) }
+        ensures { self.new ≡ record self.old { files = map.insert self.old.files hand.file hand } }
     {
-        let file = held.hand.file();
-        let _placeholder = self.exchange(file, held);
+        let file = hand.file();
+        let _placeholder = self.exchange(file, hand);
     }
 
     // Something is known of this file's commits: what it says is what was so.
@@ -64,21 +57,16 @@ impl DiskServer {
         Ok(())
     }
 
-    // This file in the place of the one of its number, which is the answer.
-    fn exchange(&mut self, file: u32, held: HeldFile) -> HeldFile
-        requires number { held.hand.file ≡ file }
-        requires room { HasRoomFor file self.old }
-        ensures file { map.get self.old.files file ≡ Some result.hand }
-        ensures commits { map.get self.old.commits file ≡ Some result.commits }
-        ensures new { self.new ≡ with_file (state_of held.hand held.commits) self.old.pool self.old }
+    // This hand in the place of the one of its number, which is the answer.
+    fn exchange(&mut self, file: u32, hand: FileHand) -> FileHand
+        requires number { hand.file ≡ file }
+        requires here { IsSome (map.get self.old.files file) }
+        ensures was { map.get self.old.files file ≡ Some result }
+        ensures new { self.new ≡ record self.old { files = map.insert self.old.files file hand } }
     {
-        let HeldFile { hand, commits } = held;
-        let Ok(Some(hand)) = self.files.replace(file, hand) else {
+        let Ok(Some(was)) = self.files.replace(file, hand) else {
             unreachable!()
         };
-        let Ok(Some(commits)) = self.commits.replace(file, commits) else {
-            unreachable!()
-        };
-        HeldFile { hand, commits }
+        was
     }
 }

@@ -18,7 +18,7 @@ pub returns-in-Err-clause-err : goal.returns-in-Err-clause-err
 returns-in-Err-clause-err g c told = by c.in-Err.fault refl
   where
     by : (f : StoreFault) → c.in-Err.fault ≡ f
-        → HasWritten (g.D.Door.store c.args.door.now) (g.D.Door.store c.fsync.new.door) (state_of c.args.held.now.hand c.args.held.now.commits) ⊎ HasFailed (g.D.Door.store c.args.door.now) (g.D.Door.store c.fsync.new.door) (state_of c.args.held.now.hand c.args.held.now.commits)
+        → HasWritten (g.D.Door.store c.args.door.now) (g.D.Door.store c.fsync.new.door) (state_of c.args.hand.now c.args.known.now) ⊎ HasFailed (g.D.Door.store c.args.door.now) (g.D.Door.store c.fsync.new.door) (state_of c.args.hand.now c.args.known.now)
     by (refusal.Device n) e = inr (record {
       stopped = ap is_some (c.fsync.ensures.stop ∙ ap (λ o. stop_after o (fault_in c.fsync.result)) c.requires.going ∙ ap fault_in (c.in-Err.is ∙ ap Err e));
       changed = λ records delta some l has may next. c.fsync.ensures.device told records delta some n (c.in-Err.is ∙ ap Err e) l has may next;

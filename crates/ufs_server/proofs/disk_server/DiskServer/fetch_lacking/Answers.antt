@@ -1,8 +1,10 @@
-use Rattle.std.proofs.Common.{◌∙◌, Option, ap, sym, subst}
+use Rattle.std.proofs.Common.{◌≡◌, ◌∙◌, Option, Some, ap, sym, subst}
 use Rattle.std.specs.Prelude.{All}
+use Rattle.std.specs.FinMap as map
+use Rattle.std.specs.Option.{option_copied}
 use Rattle.std.proofs.lemmas.Result.{on_ok_weaker}
 use Rattle.ufs_extent.specs.Runs.{IsRun}
-use Rattle.ufs_file.specs.Hand.{IsOf}
+use Rattle.ufs_file.specs.Hand.{FileState, IsOf}
 use Rattle.ufs_files.specs.Files.{AreNumbered}
 use Rattle.ufs_layout.specs.Areas.{first_of_data}
 use Rattle.ufs_layout.specs.declared.geometry.Geometry.{Geometry}
@@ -14,6 +16,7 @@ use Rattle.ufs_server.specs.Served.{StaysOnDisk}
 use Rattle.ufs_server.proofs.FileCommitting.{may_blocks}
 use Rattle.ufs_server.proofs.FileFetching.{IsReadBack, further_at_last, ready_at_last, sound_read, stays_at_last}
 use Rattle.ufs_server.proofs.FileServing.{IsOut}
+use Rattle.ufs_server.proofs.Holding.{put_as_known}
 use Rattle.ufs_server.proofs.Staying.{rests_on_disk}
 use Rattle.ufs_server.proofs.disk_server.DiskServer.fetch_lacking.Given
 use Rattle.ufs_server.proofs.disk_server.DiskServer.fetch_lacking.Goals as goal
@@ -31,31 +34,35 @@ pub fetch-read-requires : goal.fetch-read-requires
 fetch-read-requires g c =
     let s = g.D.Door.store c.args.door.now in
     let took = c.in-Ok.ensures in
-    let out : IsOut s c.args.self.now c.take_out.new.self c.args.file c.in-Ok.held.hand c.in-Ok.held.commits = record { sound = c.requires.sound; held = took.held; there = took.there; number = took.number; others = took.others } in
+    let out : IsOut s c.args.self.now c.take_out.new.self c.args.file c.in-Ok.hand c.in-Some.known.now = record { sound = c.requires.sound; held = λ f at. took.held f c.in-Some.known.now at (ap (λ (p : Parts). map.get p.commits c.args.file) (sym c.self-2.view_is) ∙ sym c.get.ensures ∙ ap option_copied c.in-Some.is); there = took.there; number = took.number; others = took.others } in
     let numbered : AreNumbered c.args.self.now.files = subst AreNumbered (ap (λ (p : Parts). p.files) c.self.view_is) c.are_numbered.ensures in
     let space : IsSpaceOf (geometry_of_store s) s.unassigned = record { first = c.geometry-geometry.ensures.first ∙ ap first_of_data c.geometry-geometry.ensures.is; blocks = c.geometry-geometry.ensures.blocks ∙ ap (λ (k : Geometry). k.blocks) c.geometry-geometry.ensures.is } in
-    let valid : All IsRun c.in-Ok.held.commits.dropped = subst (All IsRun) (c.as_slice-runs.ensures.items ∙ c.dropped.ensures) c.as_slice-runs.ensures.runs in
+    let valid : All IsRun c.in-Some.known.now.dropped = subst (All IsRun) (c.as_slice-runs.ensures.items ∙ c.dropped.ensures) c.as_slice-runs.ensures.runs in
     record { blocks = may_blocks out numbered c.file_sync_law.ensures.may space valid }
 
 -- ---- it stands in its place again
 
-out : (g : Given.Over) (c : goal.After-put_back g) → IsOut (g.D.Door.store c.args.door.now) c.args.self.now c.take_out.new.self c.args.file c.in-Ok.held.hand c.in-Ok.held.commits
-out g c = record { sound = c.requires.sound; held = c.in-Ok.ensures.held; there = c.in-Ok.ensures.there; number = c.in-Ok.ensures.number; others = c.in-Ok.ensures.others }
+known_there : (g : Given.Over) (c : goal.After-put_back g) → map.get c.take_out.new.self.commits c.args.file ≡ Some c.in-Some.known.now
+known_there g c = ap (λ (p : Parts). map.get p.commits c.args.file) (sym c.self-2.view_is) ∙ sym c.get.ensures ∙ ap option_copied c.in-Some.is
+
+out : (g : Given.Over) (c : goal.After-put_back g) → IsOut (g.D.Door.store c.args.door.now) c.args.self.now c.take_out.new.self c.args.file c.in-Ok.hand c.in-Some.known.now
+out g c = record { sound = c.requires.sound; held = λ f at. c.in-Ok.ensures.held f c.in-Some.known.now at (known_there g c); there = c.in-Ok.ensures.there; number = c.in-Ok.ensures.number; others = c.in-Ok.ensures.others }
 
 numbered : (g : Given.Over) (c : goal.After-put_back g) → AreNumbered c.args.self.now.files
 numbered g c = subst AreNumbered (ap (λ (p : Parts). p.files) c.self.view_is) c.are_numbered.ensures
 
 done : (g : Given.Over) (c : goal.After-put_back g)
-    → IsReadBack g.D.Door.visible g.D.Door.keeps (g.D.Door.store c.args.door.now) (g.D.Door.store c.fetch-read.new.door) c.args.self.now c.take_out.new.self c.args.file c.in-Ok.held.hand c.in-Ok.held.commits c.fetch-read.new.hand c.put_back.new.self
+    → IsReadBack g.D.Door.visible g.D.Door.keeps (g.D.Door.store c.args.door.now) (g.D.Door.store c.fetch-read.new.door) c.args.self.now c.take_out.new.self c.args.file c.in-Ok.hand c.in-Some.known.now c.fetch-read.new.hand c.put_back.new.self
 done g c =
     let read = c.fetch-read.ensures in
+    let number : c.fetch-read.new.hand.file ≡ c.args.file = ap (λ (h : FileState). h.file) read.rest ∙ c.in-Ok.ensures.number in
     record {
       fetched = record { rest = read.rest; noted = read.noted; read = read.read; crash = read.crash; on_disk = read.on_disk; ledger = read.ledger; store = read.store };
       still = read.still;
       kept = read.kept;
       fewer = read.fewer;
       back = c.in-Ok.ensures.back;
-      put = c.put_back.ensures;
+      put = put_as_known c.take_out.new.self c.put_back.new.self c.fetch-read.new.hand c.in-Some.known.now c.args.file number (known_there g c) c.put_back.ensures;
     }
 
 pub returns-clause-ready : goal.returns-clause-ready

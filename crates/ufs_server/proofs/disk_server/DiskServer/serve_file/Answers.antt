@@ -1,5 +1,6 @@
-use Rattle.std.proofs.Common.{◌≡◌, Option, true, ap, refl, rules, sym, ◌∙◌, subst}
+use Rattle.std.proofs.Common.{◌≡◌, Option, Some, MutBor, true, ap, refl, rules, sym, ◌∙◌, subst}
 use Rattle.std.specs.FinMap as map
+use Rattle.std.specs.Option.{OnSome}
 use Rattle.ufs_client.specs.Played.{tells_fault}
 use Rattle.ufs_client.proofs.FaultLemmas.{file_faultless, plain_faultless}
 use Rattle.ufs_client.proofs.Replies.{desc_there}
@@ -10,11 +11,12 @@ use Rattle.ufs_files.specs.Files.{AreNumbered}
 use Rattle.ufs_model.specs.History.{is_excused}
 use Rattle.ufs_model.specs.declared.data.Desc.{Desc}
 use Rattle.ufs_durable.specs.Serving.{IsApplied}
-use Rattle.ufs_durable.specs.State.{DurableState, blocks_held, state_of}
+use Rattle.ufs_durable.specs.State.{CommitState, DurableState, blocks_held, state_of}
 use Rattle.ufs_store.specs.State.{geometry_of_store}
-use Rattle.ufs_stored.specs.Parts.{Parts, with_file}
+use Rattle.ufs_stored.specs.Parts.{Parts}
 use Rattle.ufs_server.specs.Served.{Stays, StaysOnDisk}
 use Rattle.ufs_server.proofs.FileServing.{IsOut, IsServedBack, answered_at_last, apart, away_at_last, excused_on_disk, forgets_at_last, on_disk_at_last, parts_at_last, sound_at_last, whole}
+use Rattle.ufs_server.proofs.Holding.{put_is}
 use Rattle.ufs_server.proofs.Staying.{excused_promise, memory_served, on_disk_gathered, promise_at, rests, rests_on_disk, served_behind, stays_gathered}
 use Rattle.ufs_server.proofs.disk_server.DiskServer.serve_file.Given
 use Rattle.ufs_server.proofs.disk_server.DiskServer.serve_file.Goals as goal
@@ -51,13 +53,16 @@ returns-then-not-is_ready-clause-promise g c visible =
 pub returns-then-not-is_ready-clause-excused : goal.returns-then-not-is_ready-clause-excused
 returns-then-not-is_ready-clause-excused g c visible e = rests_on_disk c.geometry-geometry.result c.always_law.ensures.rest g.D.Door.keeps c.args.self.now (g.D.Door.store c.args.door.now) (sym c.geometry-geometry.ensures.is)
 
-out_before : (g : Given.Over) (c : goal.After-apply-arg-3-1 g) → IsOut (g.D.Door.store c.gather.new.door) c.gather.new.self c.take_out.new.self c.args.file c.in-Ok.held.hand c.in-Ok.held.commits
+known_there : (g : Given.Over) (c : goal.After-apply-arg-1 g) → map.get c.take_out.new.self.commits c.args.file ≡ Some c.in-Some.known.now
+known_there g c = ap (λ (p : Parts). map.get p.commits c.args.file) (sym c.self-2.view_is) ∙ sym c.in-Some.ensures.value
+
+out_before : (g : Given.Over) (c : goal.After-apply-arg-1 g) → IsOut (g.D.Door.store c.gather.new.door) c.gather.new.self c.take_out.new.self c.args.file c.in-Ok.hand c.in-Some.known.now
 out_before g c =
     let moved = c.gather.ensures in
     let took = c.in-Ok.ensures in
     record {
       sound = (stays_gathered (rests c.args.self.now _ c.requires.sound) c.file_request_law.ensures.free_sound moved.moved moved.rest moved.store).sound;
-      held = took.held;
+      held = λ f at. took.held f c.in-Some.known.now at (known_there g c);
       there = took.there;
       number = took.number;
       others = took.others;
@@ -67,12 +72,12 @@ pub apply-applied-requires-clause-noted : goal.apply-applied-requires-clause-not
 apply-applied-requires-clause-noted g c = (whole (out_before g c)).noted
 
 pub apply-applied-requires-clause-apart : goal.apply-applied-requires-clause-apart
-apply-applied-requires-clause-apart g c = subst (λ (b : BlockSet). IsApart b (blocks_held (state_of c.in-Ok.held.hand c.in-Ok.held.commits))) (sym (ap (λ (p : Parts). p.pool) c.self-2.view_is)) (apart (out_before g c))
+apply-applied-requires-clause-apart g c = subst (λ (b : BlockSet). IsApart b (blocks_held (state_of c.in-Ok.hand c.in-Some.known.now))) (sym (ap (λ (p : Parts). p.pool) c.self-2.view_is)) (apart (out_before g c))
 
 pub apply-applied-requires-clause-there : goal.apply-applied-requires-clause-there
 apply-applied-requires-clause-there g c d is allowed =
     let yes : c.is_ready.result ≡ true = search rules in
-    (c.is_ready.ensures.yes yes).needed d c.args.file c.in-Ok.held.hand c.requires.kind is (subst (λ (o : Option Desc). IsOf o c.args.file) is c.requires.named)
+    (c.is_ready.ensures.yes yes).needed d c.args.file c.in-Ok.hand c.requires.kind is (subst (λ (o : Option Desc). IsOf o c.args.file) is c.requires.named)
     (ap (λ (p : Parts). map.get p.files c.args.file) (sym c.gather.ensures.rest) ∙ c.in-Ok.ensures.there) allowed
 
 pub returns : goal.returns
@@ -90,15 +95,16 @@ returns g c =
     let law = c.file_request_law.ensures in
     let stays = stays_gathered (rests p0 s0 c.requires.sound) law.free_sound moved.moved moved.rest moved.store in
     let kept = on_disk_gathered (rests_on_disk c.geometry-geometry.result c.always_law.ensures.rest g.D.Door.keeps p0 s0 (sym c.geometry-geometry.ensures.is)) law.free moved.moved moved.rest moved.store in
-    let hand = c.in-Ok.held.hand in
-    let known = c.in-Ok.held.commits in
+    let hand = c.in-Ok.hand in
+    let known = c.in-Some.known.now in
     let took = c.in-Ok.ensures in
     let done = c.apply-applied.ensures in
     let y : DurableState = state_of c.apply-applied.new.hand c.apply-applied.new.commits in
     let pool = c.apply-applied.new.pool in
     let entry = c.apply-applied.result.entry in
     let desc = c.apply-applied.result.desc in
-    let view = c.self-2.view_is in
+    let before : Parts = record { names = c.self-2.inside.names; files = c.self-2.inside.files; commits = c.self-2.inside.commits; pool = c.self-2.inside.pool; fresh = c.self-2.inside.fresh.items; dropped = c.self-2.inside.dropped } in
+    let view : before ≡ p2 = c.self-2.view_is in
     let applied : IsApplied (state_of hand known) y p2.pool pool ask by ticket entry desc = subst (λ (b : BlockSet). IsApplied (state_of hand known) y b pool ask by ticket entry desc) (ap (λ (p : Parts). p.pool) view) (record {
       of_ask = done.entry;
       served = done.served;
@@ -115,12 +121,13 @@ returns g c =
       pool = done.pool;
       same_desc = done.desc;
     }) in
-    let out : IsOut s1 p1 p2 file hand known = record { sound = stays.sound; held = took.held; there = took.there; number = took.number; others = took.others } in
+    let out : IsOut s1 p1 p2 file hand known = record { sound = stays.sound; held = λ f at. took.held f known at (ap (λ (p : Parts). map.get p.commits file) (sym view) ∙ sym c.in-Some.ensures.value); there = took.there; number = took.number; others = took.others } in
     let back : IsServedBack p1 p2 file hand known y pool c.put_back.new.self ask by ticket entry desc = record {
       applied = applied;
       same_number = done.number;
       back = took.back;
-      put = c.put_back.ensures ∙ ap (with_file y pool) view;
+      put = put_is before p2 c.put_back.new.self y pool file (c.get_mut.follows.lender c.apply-applied.new.commits) view (done.number ∙ took.number)
+          (subst (λ (o : Option (MutBor CommitState)). OnSome o (c.get_mut.follows.lender c.apply-applied.new.commits ≡ map.insert before.commits file c.apply-applied.new.commits)) c.in-Some.is (c.get_mut.follows.holds c.apply-applied.new.commits)) c.put_back.ensures;
       named = c.requires.named;
       kind = c.requires.kind;
     } in
