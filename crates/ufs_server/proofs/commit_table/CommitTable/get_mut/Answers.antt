@@ -14,8 +14,7 @@ use Rattle.ufs_server.proofs.commit_table.CommitTable.get_mut.Goals as goal
 
 pub returns : goal.returns
 returns c =
-    let at = c.args.file in
-    (
+    let at = c.args.file in (
       (refl, λ w. by w c.get_mut.result refl, ap (seen nat_cmp (λ k. k)) c.get_mut.follows.holds-at-none ∙ c.self.view_is),
       record { lends = tt; value = c.get_mut.ensures.value ∙ sym (get-seen nat_cmp (λ k. k) nat_cmp_total nat_cmp-IsAntisymmetric c.self.inside.table at) ∙ ap (λ (m : Commits). map.get m at) c.self.view_is },
     )

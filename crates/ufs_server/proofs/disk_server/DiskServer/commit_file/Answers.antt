@@ -68,13 +68,14 @@ numbered_failed g c = subst AreNumbered (ap (λ (p : Parts). p.files) c.self.vie
 
 back_failed : (g : Given.Over) (c : goal.After-from_residual g) → IsBack c.args.self.now c.take_out.new.self c.args.file (state_of c.sync_held-told.new.hand c.sync_held-told.new.known) c.put_back.new.self
 back_failed g c = record {
-      put = put_is (within c.self-2.inside.names c.self-2.inside.files c.self-2.inside.commits c.self-2.inside.pool c.self-2.inside.fresh.items c.self-2.inside.dropped) c.take_out.new.self c.put_back.new.self
-        (state_of c.sync_held-told.new.hand c.sync_held-told.new.known) c.self-2.inside.pool c.args.file (c.get_mut.follows.lender c.sync_held-told.new.known) c.self-2.view_is
-        (ap (λ (x : DurableState). x.file.file) c.in_err-told.ensures.kept ∙ c.in-Ok.ensures.number)
-        (subst (λ (o : Option (MutBor CommitState)). OnSome o (c.get_mut.follows.lender c.sync_held-told.new.known ≡ map.insert c.self-2.inside.commits c.args.file c.sync_held-told.new.known)) c.in-Some-get_mut.is (c.get_mut.follows.holds c.sync_held-told.new.known))
-        c.put_back.ensures
-        ∙ ap (λ (b : BlockSet). with_file (state_of c.sync_held-told.new.hand c.sync_held-told.new.known) b c.take_out.new.self) (ap (λ (p : Parts). p.pool) c.self-2.view_is);
-      back = c.in-Ok.ensures.back }
+  put = put_is (within c.self-2.inside.names c.self-2.inside.files c.self-2.inside.commits c.self-2.inside.pool c.self-2.inside.fresh.items c.self-2.inside.dropped) c.take_out.new.self c.put_back.new.self
+      (state_of c.sync_held-told.new.hand c.sync_held-told.new.known) c.self-2.inside.pool c.args.file (c.get_mut.follows.lender c.sync_held-told.new.known) c.self-2.view_is
+      (ap (λ (x : DurableState). x.file.file) c.in_err-told.ensures.kept ∙ c.in-Ok.ensures.number)
+      (subst (λ (o : Option (MutBor CommitState)). OnSome o (c.get_mut.follows.lender c.sync_held-told.new.known ≡ map.insert c.self-2.inside.commits c.args.file c.sync_held-told.new.known)) c.in-Some-get_mut.is (c.get_mut.follows.holds c.sync_held-told.new.known))
+      c.put_back.ensures
+      ∙ ap (λ (b : BlockSet). with_file (state_of c.sync_held-told.new.hand c.sync_held-told.new.known) b c.take_out.new.self) (ap (λ (p : Parts). p.pool) c.self-2.view_is);
+  back = c.in-Ok.ensures.back;
+}
 
 pub returns-in_err-told-clause-err : goal.returns-in_err-told-clause-err
 returns-in_err-told-clause-err g c visible =
@@ -111,13 +112,14 @@ numbered g c = subst AreNumbered (ap (λ (p : Parts). p.files) c.self.view_is) c
 
 back : (g : Given.Over) (c : goal.Joined-committed g) → IsBack c.args.self.now c.take_out.new.self c.args.file (state_of c.sync_held-told.new.hand c.sync_held-told.new.known) c.put_back.new.self
 back g c = record {
-      put = put_is (within c.self-2.inside.names c.self-2.inside.files c.self-2.inside.commits c.self-2.inside.pool c.self-2.inside.fresh.items c.self-2.inside.dropped) c.take_out.new.self c.put_back.new.self
-        (state_of c.sync_held-told.new.hand c.sync_held-told.new.known) c.self-2.inside.pool c.args.file (c.get_mut.follows.lender c.sync_held-told.new.known) c.self-2.view_is
-        (ap (λ (x : DurableState). x.file.file) c.in_ok-told.ensures.committed ∙ c.in-Ok.ensures.number)
-        (subst (λ (o : Option (MutBor CommitState)). OnSome o (c.get_mut.follows.lender c.sync_held-told.new.known ≡ map.insert c.self-2.inside.commits c.args.file c.sync_held-told.new.known)) c.in-Some-get_mut.is (c.get_mut.follows.holds c.sync_held-told.new.known))
-        c.put_back.ensures
-        ∙ ap (λ (b : BlockSet). with_file (state_of c.sync_held-told.new.hand c.sync_held-told.new.known) b c.take_out.new.self) (ap (λ (p : Parts). p.pool) c.self-2.view_is);
-      back = c.in-Ok.ensures.back }
+  put = put_is (within c.self-2.inside.names c.self-2.inside.files c.self-2.inside.commits c.self-2.inside.pool c.self-2.inside.fresh.items c.self-2.inside.dropped) c.take_out.new.self c.put_back.new.self
+      (state_of c.sync_held-told.new.hand c.sync_held-told.new.known) c.self-2.inside.pool c.args.file (c.get_mut.follows.lender c.sync_held-told.new.known) c.self-2.view_is
+      (ap (λ (x : DurableState). x.file.file) c.in_ok-told.ensures.committed ∙ c.in-Ok.ensures.number)
+      (subst (λ (o : Option (MutBor CommitState)). OnSome o (c.get_mut.follows.lender c.sync_held-told.new.known ≡ map.insert c.self-2.inside.commits c.args.file c.sync_held-told.new.known)) c.in-Some-get_mut.is (c.get_mut.follows.holds c.sync_held-told.new.known))
+      c.put_back.ensures
+      ∙ ap (λ (b : BlockSet). with_file (state_of c.sync_held-told.new.hand c.sync_held-told.new.known) b c.take_out.new.self) (ap (λ (p : Parts). p.pool) c.self-2.view_is);
+  back = c.in-Ok.ensures.back;
+}
 
 abbrev before : (g : Given.Over) (c : goal.Joined-committed g) → Parts
 before g c = record { names = c.self-3.inside.names; files = c.self-3.inside.files; commits = c.self-3.inside.commits; pool = c.self-3.inside.pool; fresh = c.self-3.inside.fresh.items; dropped = c.self-3.inside.dropped }
