@@ -4,6 +4,7 @@ use Rattle.std.specs.Prelude.{flat_map, if◌then◌else◌, nat_le, ◌==◌, �
 use Rattle.std.specs.List.{slice_get, range_with_len, position_or_len}
 use Rattle.std.proofs.lemmas.Bool.{and_parts, cases_lt}
 use Rattle.std.proofs.lemmas.Bool.Decides.{eqb_tells, nat_tests}
+use Rattle.std.proofs.lemmas.Option.{get_or_from_slice_get, slice_get_within}
 use Rattle.std.proofs.lemmas.List.{ext_get_or, get_or-set_same, get_or-set_other, get_or-replicate, length-replicate, length-set, length-map, set-get_or}
 use Rattle.ufs_extent.specs.Runs as runs
 use Rattle.ufs_extent.specs.Runs.{blocks_from}
@@ -106,15 +107,9 @@ all_filled read end slots long so_far =
 
 -- ---- a slot by its place
 
-got : (xs : List ℕ) (i x : ℕ) → slice_get xs i ≡ Some x → (i < length xs) × (x ≡ get_or xs i 0)
-got [] i x e = cc
-got (y ∷ xs) zero x e = let same : x ≡ y = cc in (omega arith, same)
-got (y ∷ xs) (suc i) x e = let rest = got xs i x e in let less = rest.0 in (omega (arith, less), rest.1)
-
 pub place_is : (d : Directory) (s : Slot) (block place : ℕ) → IsDirectory d → slice_get d.blocks (place / 64) ≡ Some block → s.sector ≡ 8 * block + place % 64 / 8 → s.slot ≡ place % 8 → place_of d.blocks s ≡ place
 place_is d s block place is there sector slot =
-    let at = got d.blocks (place / 64) block there in
     let of_block : s.sector / 8 ≡ block = omega (arith, sector) in
     let in_block : s.sector % 8 ≡ place % 64 / 8 = omega (arith, sector) in
-    let first : position_or_len (λ b. b == s.sector / 8) d.blocks ≡ place / 64 = ap (λ n. position_or_len (λ b. b == n) d.blocks) of_block ∙ position-distinct d.blocks is.blocks_once (place / 64) block at.0 at.1 in
+    let first : position_or_len (λ b. b == s.sector / 8) d.blocks ≡ place / 64 = ap (λ n. position_or_len (λ b. b == n) d.blocks) of_block ∙ position-distinct d.blocks is.blocks_once (place / 64) block (slice_get_within d.blocks (place / 64) block there) (sym (get_or_from_slice_get d.blocks (place / 64) block 0 there)) in
     omega (arith, first, in_block, slot)

@@ -1,5 +1,5 @@
 -- Files that come to others, and the forms that were read.
-use Rattle.std.proofs.Common.{◌≡◌, ◌≢◌, ℕ, zero, suc, ◌+◌, ◌<◌, ◌≤◌, ◌⊎◌, inl, inr, List, [], ◌∷◌, Bool, true, false, Option, None, Some, length, replicate, get_or, slice_index_or, ap, sym, ◌∙◌, subst, arith}
+use Rattle.std.proofs.Common.{◌≡◌, ◌≢◌, ℕ, zero, suc, ◌+◌, ◌<◌, ◌≤◌, ◌⊎◌, inl, inr, List, [], ◌∷◌, Bool, true, false, Option, None, Some, length, get_or, slice_index_or, ap, sym, ◌∙◌, subst, arith}
 use Rattle.std.specs.Prelude.{IsSome, slice_get, unwrap_or}
 use Rattle.std.specs.Ordering.{nat_cmp}
 use Rattle.std.specs.FinMap as fin
@@ -17,6 +17,7 @@ use Rattle.ufs_layout.specs.declared.geometry.Geometry.{Geometry}
 use Rattle.ufs_model.proofs.Facts.Lookups.{same_some}
 use Rattle.ufs_names.specs.NamesPart.{NamesPart}
 use Rattle.ufs_names_image.specs.Loaded.{IsRead, AreRead}
+use Rattle.ufs_walk.proofs.Marked.{get_replicate}
 use Rattle.ufs_start.specs.Files.{AreFormsOf, AreLaid, AreUnread, IsLaid}
 use Rattle.ufs_start.specs.Refused.{NamesFile}
 use Rattle.ufs_start.specs.declared.fault.StartFault.{StartFault}
@@ -51,16 +52,11 @@ names_inode g image forms are place within fault named = by fault named
 
 -- ---- a file of which nothing was read
 
-no_mark : (n k : ℕ) → slice_get (replicate n false) k ≡ Some true → ⊥
-no_mark zero k e = let no = e in cc
-no_mark (suc n) zero e = let no = e in cc
-no_mark (suc n) (suc k) e = no_mark n k e
-
 -- it may have any bytes of its size
 pub may_be : (c : Content) (size : ℕ) (bytes : List ℕ) → c ≡ unread size → length bytes ≡ size → IsContentOf c bytes
 may_be c size bytes is long = record {
   long = long ∙ sym (ap (λ (x : Content). length x.bytes) is ∙ length-replicate {A = ℕ} size 0);
-  same = λ place there. absurd (no_mark (block_count size) place (sym (ap (λ (x : Content). slice_get x.there place) is) ∙ there));
+  same = λ place there. let unlike : true ≡ false = get_replicate (block_count size) place false true (sym (ap (λ (x : Content). slice_get x.there place) is) ∙ there) in absurd cc;
 }
 
 pub marks_of : (c : Content) (size : ℕ) → c ≡ unread size → length c.dirty ≡ block_count size

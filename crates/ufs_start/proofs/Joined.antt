@@ -1,7 +1,6 @@
 -- The files of an image have in its start the numbers that its places get in turn.
-use Rattle.std.proofs.Common.{◌≡◌, ℕ, zero, suc, ◌+◌, ◌-◌, ◌<◌, ◌≤◌, inl, inr, Bool, true, List, [], ◌∷◌, length, Option, Some, None, get_or, replicate, refl, ap, sym, ◌∙◌, subst, arith, eq-eqb}
-use Rattle.std.specs.Prelude.{map, ◌==◌, ◌&&◌, if◌then◌else◌}
-use Rattle.std.specs.List.{AllByRecursion}
+use Rattle.std.proofs.Common.{◌≡◌, ℕ, zero, suc, ◌+◌, ◌-◌, ◌<◌, ◌≤◌, inl, inr, Bool, true, List, [], ◌∷◌, length, Option, Some, None, get_or, replicate, refl, ap, sym, ◌∙◌, arith}
+use Rattle.std.specs.Prelude.{map, ◌==◌, ◌&&◌}
 use Rattle.std.specs.Ordering.{is_lt}
 use Rattle.std.specs.FinMap as fin
 use Rattle.std.specs.FinMap.{find, from_entries, get-from_entries, is_sorted, entries}
@@ -15,7 +14,7 @@ use Rattle.ufs_layout.specs.InodeForm.{InodeForm}
 use Rattle.ufs_damage.specs.Findings.{CatalogRead}
 use Rattle.ufs_image.specs.Images.{form_at, inode_at}
 use Rattle.ufs_image.specs.Catalog.{Catalog, IsInode, IsCatalogOf, catalog_at}
-use Rattle.ufs_image.specs.Opens.{ImageTree, NodeBytes, PathEntry, below, file_bytes, node_bytes, root_entry}
+use Rattle.ufs_image.specs.Opens.{ImageTree, NodeBytes, PathEntry, file_bytes, node_bytes}
 use Rattle.ufs_image.specs.Sound.{IsSoundCatalog}
 use Rattle.ufs_image.specs.Walks.{inode_of, path_text}
 use Rattle.ufs_image.proofs.Lists.{IsIn}
@@ -29,13 +28,14 @@ use Rattle.ufs_model.proofs.Facts.Rising.{entries-rising, entries-rise}
 use Rattle.ufs_ledger.specs.Kept.{path_node_of, paths_of}
 use Rattle.ufs_names_image.specs.Numbered.{IsFileAt}
 use Rattle.ufs_names_image.specs.Starts.{image_start}
-use Rattle.ufs_walk.specs.Walked.{AreInodes, Place, entry_of, places}
+use Rattle.ufs_walk.specs.Walked.{AreInodes, Place, places}
 use Rattle.ufs_walk.proofs.Maps.{mapped_same}
-use Rattle.ufs_walk.proofs.Told.{below_places}
+use Rattle.ufs_walk.proofs.Reached.{IsMetAtPlace, found_in, from_places, in_found, in_places}
+use Rattle.ufs_walk.proofs.Told.{all_places}
 use Rattle.ufs_start.specs.Starts.{AreNumbersOf, IsUndamaged, tree_in}
 use Rattle.ufs_start.specs.Numbers.{after, is_dir_form, is_dir_in, noted, numbers_from, next_number}
-use Rattle.ufs_start.proofs.NumberLemmas.{PathsOnce, AreOnce, found_in, in_found, find_once, rising_once, from_number, has_number, nodes_of, paths_are, next_is}
-use Rattle.ufs_start.proofs.Places.{IsPlaced, from_places, in_places, one_inode, one_place}
+use Rattle.ufs_start.proofs.NumberLemmas.{PathsOnce, AreOnce, find_once, rising_once, from_number, has_number, nodes_of, paths_are, next_is}
+use Rattle.ufs_start.proofs.Places.{one_inode, one_place}
 
 -- ---- lists with the same keys rise alike
 
@@ -59,11 +59,6 @@ none_there zero i = refl
 none_there (suc n) zero = refl
 none_there (suc n) (suc i) = none_there n i
 
-all_in : (P : Place → Type 0) (ps : List Place) → AllByRecursion P ps → (p : Place) → IsIn p ps → P p
-all_in P [] all p there = absurd there
-all_in P (x ∷ ps) all p (inl same) = subst P (sym same) all.0
-all_in P (x ∷ ps) all p (inr there) = all_in P ps all.1 p there
-
 module _ (g : Geometry) (image : Image) (is : IsCatalogOf g image (catalog_at g image)) (sound : IsSoundCatalog g (catalog_at g image)) (some : 1 ≤ g.inodes)
     (ps : List Place) (rising : is_sorted path_cmp ps ≡ true) (at : from_entries {R = path_cmp} ps ≡ from_entries (places g image)) where
   abbrev c : Catalog
@@ -83,11 +78,8 @@ module _ (g : Geometry) (image : Image) (is : IsCatalogOf g image (catalog_at g 
 
   -- ---- the tree's entries
 
-  walked : root_entry ∷ below g.inodes g image [] 1 ≡ map (entry_of g image) (places g image)
-  walked = λ i. (47 ∷ [], ap {B = NodeBytes} (λ b. if b then None else Some (bytes 1)) (sym (eq-eqb (form_at g image 1).kind 2 sound.root)) i) ∷ below_places g.inodes g image [] 1 i
-
   tree_is : tree ≡ from_entries (with_values node ps)
-  tree_is = ap (λ (l : List PathEntry). from_entries {R = path_cmp} l) walked ∙ sym (mapped_same {X = NodeBytes} node ps (places g image) at)
+  tree_is = ap (λ (l : List PathEntry). from_entries {R = path_cmp} l) (all_places g image sound.root) ∙ sym (mapped_same {X = NodeBytes} node ps (places g image) at)
 
   tree_entries : entries tree ≡ with_values node ps
   tree_entries = ap (λ (t : ImageTree). entries t) tree_is ∙ entries_mapped node ps rising
@@ -110,7 +102,7 @@ module _ (g : Geometry) (image : Image) (is : IsCatalogOf g image (catalog_at g 
   once : PathsOnce ps
   once = rising_once ps rising
 
-  placed : (p : Place) → IsIn p ps → IsPlaced c p
+  placed : (p : Place) → IsIn p ps → IsMetAtPlace c p
   placed p there =
       let found : find path_cmp p.0 (places g image) ≡ Some p.1 =
       sym (get-from_entries path_total (places g image) p.0) ∙ ap (λ (m : fin.FinMap path_cmp ℕ). fin.get m p.0) (sym at) ∙ get-from_entries path_total ps p.0 ∙ find_once ps p once there in
@@ -121,7 +113,7 @@ module _ (g : Geometry) (image : Image) (is : IsCatalogOf g image (catalog_at g 
       let here = in_places g image c is sound some names i met in
       let found = in_found (path_text names) i (places g image) here in
       let other = found_in (path_text names) found.0 (places g image) found.1 in
-      let same : found.0 ≡ i = one_inode g image c is sound some (path_text names, found.0) (path_text names, i) (from_places g image c is sound some (path_text names, found.0) other) (from_places g image c is sound some (path_text names, i) here) refl in
+      let same : found.0 ≡ i = one_inode g c sound some (path_text names, found.0) (path_text names, i) (from_places g image c is sound some (path_text names, found.0) other) (from_places g image c is sound some (path_text names, i) here) refl in
       found_in (path_text names) i ps
       (sym (get-from_entries path_total ps (path_text names)) ∙ ap (λ (m : fin.FinMap path_cmp ℕ). fin.get m (path_text names)) at
       ∙ get-from_entries path_total (places g image) (path_text names) ∙ found.1 ∙ ap Some same)
@@ -129,7 +121,7 @@ module _ (g : Geometry) (image : Image) (is : IsCatalogOf g image (catalog_at g 
   all_once : (qs : List Place) → ((q : Place) → IsIn q qs → IsIn q ps) → PathsOnce qs → AreOnce qs
   all_once [] in_ps paths = tt
   all_once (p ∷ qs) in_ps paths = (
-    λ q below. (paths.0 q below, λ same. paths.0 q below (one_place g image c is sound some q p (placed q (in_ps q (inr below))) (placed p (in_ps p (inl refl))) same)),
+    λ q below. (paths.0 q below, λ same. paths.0 q below (one_place g c sound some q p (placed q (in_ps q (inr below))) (placed p (in_ps p (inl refl))) same)),
     all_once qs (λ q below. in_ps q (inr below)) paths.1,
   )
 

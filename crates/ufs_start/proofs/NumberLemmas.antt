@@ -1,7 +1,7 @@
 -- Numbers that are given to the files of places in turn.
 use Rattle.std.proofs.Common.{◌≡◌, ◌≢◌, ℕ, zero, suc, ◌+◌, ◌<◌, ◌≤◌, ◌⊎◌, inl, inr, eqb, Bool, true, false, cond, List, [], ◌∷◌, ◌++◌, length, Option, Some, None, get_or, set, refl, ap, sym, ◌∙◌, subst, arith, ⊎_elim}
 use Rattle.std.specs.Prelude.{map, if◌then◌else◌}
-use Rattle.std.specs.Ordering.{eq_by_cmp, is_eq, is_lt}
+use Rattle.std.specs.Ordering.{eq_by_cmp, is_lt}
 use Rattle.std.specs.declared.cmp.Ordering.{Ordering}
 use Rattle.std.specs.declared.cmp.Ordering.TheVariants.{Less, Equal, Greater}
 use Rattle.std.specs.Cmp.{eq_by_cmp_equiv}
@@ -17,7 +17,7 @@ use Rattle.ufs_model.specs.Start.{paths_from, next_from}
 use Rattle.ufs_model.specs.declared.data.Node.{Node}
 use Rattle.ufs_model.specs.declared.data.Node.TheVariants.{Dir, File}
 use Rattle.ufs_model.specs.declared.data.PathNode.{PathNode}
-use Rattle.ufs_model.proofs.Facts.Lookups.{same_some}
+use Rattle.ufs_model.proofs.Facts.Lookups.{same_some, tied}
 use Rattle.ufs_model.proofs.Facts.Orders.{path_same}
 use Rattle.ufs_ledger.specs.Kept.{path_node_of}
 use Rattle.ufs_walk.specs.Walked.{AreInodes, Place, pairs_of}
@@ -27,11 +27,6 @@ use Rattle.ufs_layout.specs.declared.geometry.Geometry.{Geometry}
 use Rattle.ufs_start.specs.Numbers.{after, noted, numbers_from, next_number}
 
 -- ---- keys
-
-tied : (r : Ordering) → is_eq r ≡ true → r ≡ Equal
-tied Less e = cc
-tied Equal e = refl
-tied Greater e = cc
 
 same_key : (q : List ℕ) → eq_by_cmp path_cmp q q ≡ true
 same_key q = (eq_by_cmp_equiv nat_list_cmp_total).refl q
@@ -49,28 +44,6 @@ module _ {X : Type 0} where
 
   find_behind : (q k : List ℕ) (v : X) (es : List (List ℕ × X)) → q ≢ k → find path_cmp q ((k, v) ∷ es) ≡ find path_cmp q es
   find_behind q k v es differ = ap (λ b. cond b (Some v) (find path_cmp q es)) (other_key q k differ)
-
-  -- what is found is in the list
-  pub found_in : (q : List ℕ) (v : X) (es : List (List ℕ × X)) → find path_cmp q es ≡ Some v → IsIn (q, v) es
-  found_in q v [] e = cc
-  found_in q v (x ∷ es) e = by (eq_by_cmp path_cmp q x.0) refl e (found_in q v es)
-    where
-      by : (b : Bool) → eq_by_cmp path_cmp q x.0 ≡ b → cond b (Some x.1) (find path_cmp q es) ≡ Some v → (find path_cmp q es ≡ Some v → IsIn (q, v) es) → IsIn (q, v) (x ∷ es)
-      by true t is more = let key = path_same q x.0 (tied _ t) in let value : x.1 ≡ v = cc in let back = sym value in inl (λ i. (key i, back i))
-      by false t is more = inr (more is)
-
-  -- what is in the list is found, or another with its key
-  pub in_found : (q : List ℕ) (v : X) (es : List (List ℕ × X)) → IsIn (q, v) es → (w : X) × (find path_cmp q es ≡ Some w)
-  in_found q v [] is = absurd is
-  in_found q v (x ∷ es) is = by (eq_by_cmp path_cmp q x.0) refl is (in_found q v es)
-    where
-      by : (b : Bool) → eq_by_cmp path_cmp q x.0 ≡ b → IsIn (q, v) (x ∷ es) → (IsIn (q, v) es → (w : X) × (find path_cmp q es ≡ Some w)) → (w : X) × (cond (eq_by_cmp path_cmp q x.0) (Some x.1) (find path_cmp q es) ≡ Some w)
-      by true t is more = (x.1, ap (λ b. cond b (Some x.1) (find path_cmp q es)) t)
-      by false t (inl same) more =
-          let key : q ≡ x.0 = ap (λ (e : List ℕ × X). e.0) same in
-          let no : eq_by_cmp path_cmp q x.0 ≡ true = sym (ap (eq_by_cmp path_cmp q) key) ∙ same_key q in
-          absurd cc
-      by false t (inr there) more = let rest = more there in (rest.0, ap (λ b. cond b (Some x.1) (find path_cmp q es)) t ∙ rest.1)
 
 -- ---- each path once, and each inode
 

@@ -1,29 +1,28 @@
 -- The table that is made of what was read of an image is that of its catalog.
-use Rattle.std.proofs.Common.{◌≡◌, ◌≢◌, ℕ, zero, suc, ◌+◌, ◌-◌, ◌<◌, ◌≤◌, List, [], ◌∷◌, Bool, true, false, length, Option, Some, None, get_or, map, refl, ap, sym, ◌∙◌, subst, arith}
-use Rattle.std.specs.Prelude.{filter, flat_map, ◌==◌, ◌&&◌, not, nat_le, if◌then◌else◌}
+use Rattle.std.proofs.Common.{◌≡◌, ◌≢◌, ℕ, ◌+◌, ◌-◌, ◌<◌, ◌≤◌, List, [], ◌∷◌, Bool, true, false, length, Option, Some, None, get_or, map, refl, ap, sym, ◌∙◌, subst, arith}
+use Rattle.std.specs.Prelude.{flat_map, ◌==◌, ◌&&◌, not, nat_le, if◌then◌else◌}
 use Rattle.std.specs.List.{slice_get, enumerate_from}
 use Rattle.std.specs.FinSet as set
 use Rattle.std.proofs.lemmas.Bool.{eqb-true, and_parts}
 use Rattle.std.proofs.lemmas.Bool.Decides.{nat_tests}
+use Rattle.std.proofs.lemmas.Option.{slice_get_within}
 use Rattle.std.proofs.lemmas.List.FromFn.{get_or-map-range_with_len}
-use Rattle.ufs_base.specs.Choices.{some_if}
 use Rattle.ufs_base.specs.Images.{Image}
 use Rattle.ufs_bitmap.specs.Space.{is_between}
-use Rattle.ufs_layout.proofs.Spelled.{some_if-some}
-use Rattle.ufs_layout.specs.Areas.{all_inodes, is_inode_number}
+use Rattle.ufs_layout.specs.Areas.{is_inode_number}
 use Rattle.ufs_layout.specs.InodeForm.{InodeForm, is_used}
 use Rattle.ufs_layout.specs.DentryForm.{DentryForm}
 use Rattle.ufs_layout.specs.declared.geometry.Geometry.{Geometry}
 use Rattle.ufs_damage.specs.Findings.{CatalogRead}
 use Rattle.ufs_image.specs.Images.{form_at, inode_at}
-use Rattle.ufs_image.specs.Nodes.{Dir, Node, ReadSlot, blocks_of, slots_of, sound_node, sound_nodes}
+use Rattle.ufs_image.specs.Nodes.{Dir, Node, ReadSlot, blocks_of, slots_of}
 use Rattle.ufs_image.specs.Catalog.{Catalog, IsInode, IsCatalogOf, catalog_at, slots_in}
 use Rattle.ufs_image.specs.Sound.{IsSoundCatalog}
 use Rattle.ufs_image.proofs.Blamed.{undamaged}
-use Rattle.ufs_image.proofs.Holders.{AreRead, inode_in, in_inodes}
 use Rattle.ufs_image.proofs.Listed.{place_of_in, in_at_place, slots_are}
-use Rattle.ufs_image.proofs.Lists.{IsIn, in_filter, from_filter, in_map, from_map, in_filter_map, from_filter_map}
+use Rattle.ufs_image.proofs.Lists.{IsIn}
 use Rattle.ufs_image.proofs.Whole.{whole_read}
+use Rattle.ufs_walk.proofs.Told.{from_dirs, in_dirs}
 use Rattle.ufs_dirs.specs.Directory.{Directory}
 use Rattle.ufs_dir_tree.specs.DirTable.{DirTable, blocks_at, dir_at, no_dir, slots_at}
 use Rattle.ufs_dir_image.specs.Tables.{IsTableOf, dir_blocks, is_free_inode}
@@ -68,27 +67,16 @@ module _ (g : Geometry) (image : Image) (f : CatalogRead) (u : IsUndamaged g ima
 
   from_read : (p : ℕ) (d : Dir) → slice_get f.dirs p ≡ Some d → IsDirOf d
   from_read p d there =
-      let mapped = from_map dir_of (filter (λ (n : Node). n.1.kind == 2) (sound_nodes g image)) d (subst (IsIn d) u.found.dirs (in_at_place d f.dirs p there)) in
-      let kept = from_filter (λ (n : Node). n.1.kind == 2) (sound_nodes g image) mapped.0 mapped.1 in
-      let node = from_filter_map (sound_node g image) (all_inodes g) mapped.0 kept.0 in
-      let same : (node.0, form_at g image node.0) ≡ mapped.0 = (some_if-some _ (node.0, form_at g image node.0) mapped.0 node.2).1 in
-      let inode : node.0 ≡ d.inode = ap (λ (n : Node). n.0) same ∙ ap (λ (x : Dir). x.inode) (sym mapped.2) in
+      let from = from_dirs g image d (subst (IsIn d) u.found.dirs (in_at_place d f.dirs p there)) in
+      let inode : from.inode ≡ d.inode = ap (λ (x : Dir). x.inode) (sym from.same) in
       record {
-        in_range = subst (IsInode g) inode (inode_in g node.0 node.1);
-        dir = subst (λ (k : ℕ). ((form_at g image k).kind == 2) ≡ true) inode (ap (λ (n : Node). n.1.kind == 2) same ∙ kept.1);
+        in_range = subst (IsInode g) inode from.in_range;
+        dir = subst (λ (k : ℕ). ((form_at g image k).kind == 2) ≡ true) inode from.dir;
       }
-
-  used_dir : (kind : ℕ) → (kind == 2) ≡ true → not (kind == 0) ≡ true
-  used_dir kind is = ap (λ k. not (k == 0)) (eqb-true kind 2 is)
 
   is_read : (inode : ℕ) → IsInode g inode → ((c.forms inode).kind == 2) ≡ true → (p : ℕ) × (slice_get f.dirs p ≡ Some (dir_of (inode, c.forms inode)))
   is_read inode in_range dir =
-      let read : AreRead g image = whole_read g image (undamaged g image u.whole) in
-      let sound : sound_node g image inode ≡ Some (inode, form_at g image inode) =
-      (λ i. some_if (not (read.forms inode in_range i) && (not (read.extents inode in_range i) && used_dir (form_at g image inode).kind dir i)) (inode, form_at g image inode)) in
-      let kept : IsIn (inode, c.forms inode) (filter (λ (n : Node). n.1.kind == 2) (sound_nodes g image)) =
-      in_filter (λ (n : Node). n.1.kind == 2) (sound_nodes g image) (inode, form_at g image inode) (in_filter_map (sound_node g image) (all_inodes g) inode (inode, form_at g image inode) (in_inodes g inode in_range) sound) dir in
-      place_of_in (dir_of (inode, c.forms inode)) f.dirs (subst (IsIn (dir_of (inode, c.forms inode))) (sym u.found.dirs) (in_map dir_of (filter (λ (n : Node). n.1.kind == 2) (sound_nodes g image)) (inode, c.forms inode) kept))
+      place_of_in (dir_of (inode, c.forms inode)) f.dirs (subst (IsIn (dir_of (inode, c.forms inode))) (sym u.found.dirs) (in_dirs g image (whole_read g image (undamaged g image u.whole)) inode in_range dir))
 
   module _ (is : IsCatalogOf g image c) (sound : IsSoundCatalog g c) where
     form_is : (inode : ℕ) → IsInode g inode → form_in f.forms inode ≡ Some (c.forms inode)
@@ -158,11 +146,6 @@ module _ (g : Geometry) (image : Image) (f : CatalogRead) (u : IsUndamaged g ima
         slots : slots_at t inode ≡ slots_in c inode
         blocks : blocks_at t inode ≡ dir_blocks c inode
 
-      place_inside : (xs : List Dir) (p : ℕ) (d : Dir) → slice_get xs p ≡ Some d → p < length xs
-      place_inside [] p d e = absurd cc
-      place_inside (x ∷ xs) zero d e = omega arith
-      place_inside (x ∷ xs) (suc p) d e = let rest = place_inside xs p d e in omega (arith, rest)
-
       none_at : (inode : ℕ) → ((p : ℕ) (d : Dir) → slice_get f.dirs p ≡ Some d → d.inode ≢ inode) → dir_at t inode ≡ no_dir
       none_at inode none = read.others inode (λ p d less there. none p d there)
 
@@ -172,7 +155,7 @@ module _ (g : Geometry) (image : Image) (f : CatalogRead) (u : IsUndamaged g ima
           by : (b : Bool) → ((c.forms inode).kind == 2) ≡ b → HasDirOf inode
           by true dir =
               let at = is_read inode in_range dir in
-              let as_read : IsAsRead (form_in f.forms inode) (slots_of image (c.forms inode)) (dir_at t inode) = read.each at.0 (dir_of (inode, c.forms inode)) (place_inside f.dirs at.0 (dir_of (inode, c.forms inode)) at.1) at.1 in
+              let as_read : IsAsRead (form_in f.forms inode) (slots_of image (c.forms inode)) (dir_at t inode) = read.each at.0 (dir_of (inode, c.forms inode)) (slice_get_within f.dirs at.0 (dir_of (inode, c.forms inode)) at.1) at.1 in
               let slots : slots_at t inode ≡ flat_map c.slots (blocks_of (c.forms inode)) =
               same_slots 0 (slots_at t inode) (flat_map c.slots (blocks_of (c.forms inode))) (sym as_read.slots ∙ slots_are g image c is inode in_range (eqb-true (c.forms inode).kind 2 dir)) in
               record {

@@ -2,5 +2,5 @@ mod Named
 pub mod Maps
 mod Indexed
 pub mod Told
-mod Marked
-mod Reached
+pub mod Marked
+pub mod Reached

@@ -3,7 +3,7 @@ use Rattle.std.proofs.Common.{◌≡◌, ℕ, List, [], ◌∷◌, ◌++◌, Boo
 use Rattle.std.specs.Prelude.{map, is_some, T, Result, Ok, Err, IfOk}
 use Rattle.std.proofs.lemmas.List.{map-append}
 use Rattle.std.specs.Option.{option_map}
-use Rattle.std.specs.Ordering.{eq_by_cmp, is_eq}
+use Rattle.std.specs.Ordering.{eq_by_cmp}
 use Rattle.std.specs.declared.cmp.Ordering.TheVariants.{Less, Equal, Greater}
 use Rattle.std.specs.FinMap as fin
 use Rattle.std.specs.FinMap.{FinMap, find, from_entries, get-from_entries, same_map, from_entries_push}
@@ -11,6 +11,7 @@ use Rattle.std.specs.FinMap.Entries.{put, by_order}
 use Rattle.std.specs.List.{AllByRecursion}
 use Rattle.std.specs.declared.cmp.Ordering.{Ordering}
 use Rattle.ufs_model.specs.Order.{path_cmp}
+use Rattle.ufs_model.proofs.Facts.Lookups.{tied}
 use Rattle.ufs_model.proofs.Facts.Orders.{path_total, path_same}
 use Rattle.ufs_walk.specs.Walked.{Place, pairs_of}
 use Rattle.ufs_walk.specs.declared.places.PathAt.{PathAt}
@@ -28,12 +29,7 @@ find_push (e ∷ es) p q = by (eq_by_cmp path_cmp q e.0) (find_push es p q)
     by false rest = rest
 
 eq_same : (q k : List ℕ) → eq_by_cmp path_cmp q k ≡ true → q ≡ k
-eq_same q k is = path_same q k (by (path_cmp q k) is)
-  where
-    by : (r : Ordering) → is_eq r ≡ true → r ≡ Equal
-    by Less e = absurd (grind (arith, e))
-    by Equal e = refl
-    by Greater e = absurd (grind (arith, e))
+eq_same q k is = path_same q k (tied (path_cmp q k) is)
 
 -- A path that is there already keeps what it has.
 pub kept : (es : List Place) (p : Place) (v : ℕ) → find path_cmp p.0 es ≡ Some v → from_entries {R = path_cmp} (es ++ p ∷ []) ≡ from_entries es

@@ -1,11 +1,11 @@
 -- Marks of the inodes in a list.
-use Rattle.std.proofs.Common.{◌≡◌, ℕ, zero, suc, refl, ◌+◌, ◌<◌, ◌≤◌, ◌⊎◌, inl, inr, List, [], ◌∷◌, ◌++◌, length, get_or, map, replicate, Bool, true, false, Option, Some, None, ap, sym, ◌∙◌, arith}
+use Rattle.std.proofs.Common.{◌≡◌, ℕ, zero, suc, refl, ◌+◌, ◌⊎◌, inl, inr, List, [], ◌∷◌, ◌++◌, map, replicate, Bool, true, false, Some, None, ap, sym, ◌∙◌}
 use Rattle.std.specs.List.{slice_get}
 use Rattle.ufs_image.proofs.Lists.{IsIn, in_one, in_left, in_right}
 use Rattle.ufs_walk.specs.Walked.{Place, pairs_of}
 use Rattle.ufs_walk.specs.declared.places.PathAt.{PathAt}
 use Rattle.ufs_walk.proofs.Maps.{pairs_push}
-use Rattle.std.proofs.lemmas.List.{map-append, length-append}
+use Rattle.std.proofs.lemmas.List.{map-append}
 
 abbrev pub inodes_of : List PathAt → List ℕ
 inodes_of ps = map (λ (p : Place). p.1) (pairs_of ps)
@@ -41,7 +41,7 @@ one_marked old new inodes x was others here = record {
   ];
 }
 
-get_replicate : (n place : ℕ) (b c : Bool) → slice_get (replicate n b) place ≡ Some c → c ≡ b
+pub get_replicate : (n place : ℕ) (b c : Bool) → slice_get (replicate n b) place ≡ Some c → c ≡ b
 get_replicate zero place b c e = let no = e in cc
 get_replicate (suc n) zero b c e = let same = e in cc
 get_replicate (suc n) (suc place) b c e = get_replicate n place b c e

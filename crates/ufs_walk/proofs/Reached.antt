@@ -4,10 +4,8 @@ use Rattle.std.specs.Prelude.{IsTrue, T}
 use Rattle.std.specs.FinMap as fin
 use Rattle.std.specs.FinMap.{FinMap, find, from_entries, get-from_entries, entries_sorted, get-entries}
 use Rattle.std.specs.FinMap.Entries.{same_entries}
-use Rattle.std.specs.Ordering.{is_eq, eq_by_cmp}
+use Rattle.std.specs.Ordering.{eq_by_cmp}
 use Rattle.std.specs.Cmp.{eq_by_cmp_equiv}
-use Rattle.std.specs.declared.cmp.Ordering.{Ordering}
-use Rattle.std.specs.declared.cmp.Ordering.TheVariants.{Less, Equal, Greater}
 use Rattle.std.specs.List.{AllByRecursion}
 use Rattle.std.proofs.lemmas.List.{append-nil}
 use Rattle.ufs_base.specs.Images.{Image}
@@ -26,17 +24,18 @@ use Rattle.ufs_image.proofs.Listed.{listed, is_listed}
 use Rattle.ufs_image.proofs.Lists.{IsIn, in_flat_map, from_flat_map, in_map, from_map}
 use Rattle.ufs_image.proofs.Texts.{joined-onto, same_texts}
 use Rattle.ufs_model.specs.Order.{path_cmp}
+use Rattle.ufs_model.proofs.Facts.Lookups.{tied}
 use Rattle.ufs_model.proofs.Facts.Orders.{path_total, path_same}
 use Rattle.ufs_walk.proofs.Maps.{all_entries}
 use Rattle.ufs_walk.specs.Walked.{Place, place_and_below, places_below, places}
 
 -- a place below a directory with this path
-pub record IsMetBelow (c : Catalog) (path : List ℕ) (inode : ℕ) (p : Place) : Type 0 where
-  pub first : List ℕ
-  pub rest : List (List ℕ)
-  pub text : p.0 ≡ path ++ joined (first ∷ rest)
-  pub pieces : ArePieces (first ∷ rest)
-  pub met : walk_from c (Some inode) (first ∷ rest) ≡ Some p.1
+record IsMetBelow (c : Catalog) (path : List ℕ) (inode : ℕ) (p : Place) : Type 0 where
+  first : List ℕ
+  rest : List (List ℕ)
+  text : p.0 ≡ path ++ joined (first ∷ rest)
+  pieces : ArePieces (first ∷ rest)
+  met : walk_from c (Some inode) (first ∷ rest) ≡ Some p.1
 
 -- a place of the image
 pub record IsMetAtPlace (c : Catalog) (p : Place) : Type 0 where
@@ -47,12 +46,8 @@ pub record IsMetAtPlace (c : Catalog) (p : Place) : Type 0 where
 
 -- ---- maps
 
-tied : (r : Ordering) → is_eq r ≡ true → r ≡ Equal
-tied Less e = absurd (grind (arith, e))
-tied Equal e = refl
-tied Greater e = absurd (grind (arith, e))
-
-found_in : (q : List ℕ) (v : ℕ) (es : List Place) → find path_cmp q es ≡ Some v → IsIn (q, v) es
+-- what is found is in the list
+pub found_in : (q : List ℕ) (v : ℕ) (es : List Place) → find path_cmp q es ≡ Some v → IsIn (q, v) es
 found_in q v [] e = cc
 found_in q v (x ∷ es) e = by (eq_by_cmp path_cmp q x.0) refl e (found_in q v es)
   where
@@ -60,7 +55,8 @@ found_in q v (x ∷ es) e = by (eq_by_cmp path_cmp q x.0) refl e (found_in q v e
     by true t is more = let key = path_same q x.0 (tied (path_cmp q x.0) t) in let value : x.1 ≡ v = cc in let back = sym value in inl (λ i. (key i, back i))
     by false t is more = inr (more is)
 
-in_found : (q : List ℕ) (v : ℕ) (es : List Place) → IsIn (q, v) es → (w : ℕ) × (find path_cmp q es ≡ Some w)
+-- what is in the list is found, or another with its path
+pub in_found : (q : List ℕ) (v : ℕ) (es : List Place) → IsIn (q, v) es → (w : ℕ) × (find path_cmp q es ≡ Some w)
 in_found q v [] is = absurd is
 in_found q v (x ∷ es) is = by (eq_by_cmp path_cmp q x.0) refl is (in_found q v es)
   where
@@ -146,11 +142,13 @@ module _ (g : Geometry) (image : Image) (c : Catalog) (is : IsCatalogOf g image 
             met = ap (λ o. walk_from c o (rest.first ∷ rest.rest)) (child_is g c sound inode place d has) ∙ rest.met;
           }
 
-  in_places : (names : List (List ℕ)) (at : ℕ) → inode_of c names ≡ Some at → IsIn {X = Place} (path_text names, at) (places g image)
+  -- what a walk meets is among the places
+  pub in_places : (names : List (List ℕ)) (at : ℕ) → inode_of c names ≡ Some at → IsIn {X = Place} (path_text names, at) (places g image)
   in_places [] at e = inl (λ i. (47 ∷ [], sym (same_some 1 at e) i))
   in_places (name ∷ names) at e = let most = short g c sound some (name ∷ names) at e in inr (in_below names name g.inodes [] 1 at (root_in_range g c sound some) e (omega (arith, most)))
 
-  from_places : (p : Place) → IsIn p (places g image) → IsMetAtPlace c p
+  -- and each place is what a walk meets
+  pub from_places : (p : Place) → IsIn p (places g image) → IsMetAtPlace c p
   from_places p (inl root) = record { names = []; text = ap (λ (x : Place). x.0) root; pieces = tt; met = ap (λ (x : Place). Some x.1) (sym root) }
   from_places p (inr there) = let met = from_below g.inodes [] 1 p (root_in_range g c sound some) there in record { names = met.first ∷ met.rest; text = met.text; pieces = met.pieces; met = met.met }
 

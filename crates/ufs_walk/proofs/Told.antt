@@ -13,7 +13,7 @@ use Rattle.ufs_image.specs.Nodes.{Node, Dir, NamedSlot, names_of, slots_of, soun
 use Rattle.ufs_image.specs.Catalog.{IsInode, IsCatalogOf, catalog_at}
 use Rattle.ufs_image.specs.Sound.{IsSoundCatalog}
 use Rattle.ufs_image.specs.Damage.{bad_tree}
-use Rattle.ufs_image.specs.Opens.{PathEntry, NodeBytes, path_cmp, names_in, node_bytes, below, entry_and_below, root_entry, walked}
+use Rattle.ufs_image.specs.Opens.{NodeBytes, names_in, node_bytes, below, file_bytes, root_entry, walked}
 use Rattle.ufs_image.specs.Volume.{Volume}
 use Rattle.ufs_image.proofs.Lists.{IsIn, in_filter, from_filter, in_map, from_map, in_filter_map, from_filter_map}
 use Rattle.ufs_image.proofs.Listed.{place_of_in, in_at_place, map-flat_map, is_listed}
@@ -31,20 +31,23 @@ below_places (suc depth) g image path inode =
     (λ i. flat_map (λ (n : NamedSlot). (path ++ 47 ∷ n.1.name, node_bytes image (form_at g image n.1.inode)) ∷ below_places depth g image (path ++ 47 ∷ n.1.name) n.1.inode i) (names_in image inode (form_at g image inode)))
     ∙ map-flat_map (entry_of g image) (place_and_below (places_below depth g image) path) (names_in image inode (form_at g image inode))
 
+pub all_places : (g : Geometry) (image : Image) → (form_at g image 1).kind ≡ 2 → root_entry ∷ below g.inodes g image [] 1 ≡ map (entry_of g image) (places g image)
+all_places g image root =
+    (λ i. (47 ∷ [], ap {B = NodeBytes} (λ b. if b then None else Some (file_bytes image (form_at g image 1))) (sym (eq-eqb (form_at g image 1).kind 2 root)) i) ∷ below_places g.inodes g image [] 1 i)
+
 pub walked_places : (v : Volume) → (form_at v.geometry v.image 1).kind ≡ 2 → walked v ≡ map (entry_of v.geometry v.image) (places v.geometry v.image)
-walked_places v root =
-    (λ i. (47 ∷ [], ap {B = NodeBytes} (λ b. if b then None else Some (Rattle.ufs_image.specs.Opens.file_bytes v.image (form_at v.geometry v.image 1))) (sym (eq-eqb (form_at v.geometry v.image 1).kind 2 root)) i) ∷ below_places v.geometry.inodes v.geometry v.image [] 1 i)
+walked_places v root = all_places v.geometry v.image root
 
 -- ---- the directories of an undamaged image
 
-record IsDirOf (g : Geometry) (image : Image) (d : Dir) : Type 0 where
-  inode : ℕ
-  in_range : IsInode g inode
-  same : d ≡ record { inode = inode; slots = slots_of image (form_at g image inode) }
-  dir : ((form_at g image inode).kind == 2) ≡ true
+pub record IsDirOf (g : Geometry) (image : Image) (d : Dir) : Type 0 where
+  pub inode : ℕ
+  pub in_range : IsInode g inode
+  pub same : d ≡ record { inode = inode; slots = slots_of image (form_at g image inode) }
+  pub dir : ((form_at g image inode).kind == 2) ≡ true
 
 module _ (g : Geometry) (image : Image) where
-  from_dirs : (d : Dir) → IsIn d (dirs_of image (sound_nodes g image)) → IsDirOf g image d
+  pub from_dirs : (d : Dir) → IsIn d (dirs_of image (sound_nodes g image)) → IsDirOf g image d
   from_dirs d there =
       let mapped = from_map {Y = Dir} (λ (n : Node). record { inode = n.0; slots = slots_of image n.1 }) (filter (λ (n : Node). n.1.kind == 2) (sound_nodes g image)) d there in
       let kept = from_filter (λ (n : Node). n.1.kind == 2) (sound_nodes g image) mapped.0 mapped.1 in
@@ -60,7 +63,7 @@ module _ (g : Geometry) (image : Image) where
   used_dir : (kind : ℕ) → (kind == 2) ≡ true → not (kind == 0) ≡ true
   used_dir kind is = ap (λ k. not (k == 0)) (eqb-true kind 2 is)
 
-  in_dirs : AreRead g image → (inode : ℕ) → IsInode g inode → ((form_at g image inode).kind == 2) ≡ true → IsIn (record { inode = inode; slots = slots_of image (form_at g image inode) }) (dirs_of image (sound_nodes g image))
+  pub in_dirs : AreRead g image → (inode : ℕ) → IsInode g inode → ((form_at g image inode).kind == 2) ≡ true → IsIn (record { inode = inode; slots = slots_of image (form_at g image inode) }) (dirs_of image (sound_nodes g image))
   in_dirs read inode in_range dir =
       let sound : sound_node g image inode ≡ Some (inode, form_at g image inode) =
       (λ i. some_if (not (read.forms inode in_range i) && (not (read.extents inode in_range i) && used_dir (form_at g image inode).kind dir i)) (inode, form_at g image inode)) in
