@@ -108,6 +108,34 @@ clean_there c place absent same written = by (get_or c.dirty place false) (got_b
     by false e = e
     by true e = (let both : Some true ≡ Some false = sym (written place e) ∙ absent in cc)
 
+-- A block that wasn't in memory is, once it is loaded, and those beside it stay.
+module _ (f : FileState) (place : ℕ) (buf : List ℕ) (absent : slice_get f.content.there place ≡ Some false) where
+  within : place < length f.content.there
+  within = slice_get_within f.content.there place false absent
+
+  marks_fit : place + length (true ∷ []) ≤ length f.content.there
+  marks_fit = omega (arith, within)
+
+  pub now_there : slice_get (loaded f.content place buf).there place ≡ Some true
+  now_there =
+      let e : 0 ≡ place - place = omega arith in
+      mark_there (loaded f.content place buf).there place
+      (over-inside f.content.there (true ∷ []) place place false marks_fit (omega arith) (omega arith) ∙ ap (λ (i : ℕ). get_or (true ∷ []) i false) (sym e))
+
+  still_there : (p : ℕ) → slice_get f.content.there p ≡ Some true → slice_get (loaded f.content place buf).there p ≡ Some true
+  still_there p e = mark_there (loaded f.content place buf).there p (by (cases_lt p place) (cases_lt place p))
+    where
+      was : get_or f.content.there p false ≡ true
+      was = get_or_from_slice_get f.content.there p true false e
+
+      by : (p < place) ⊎ (place ≤ p) → (place < p) ⊎ (p ≤ place) → get_or (over f.content.there place (true ∷ [])) p false ≡ true
+      by (inl less) _ = over-before f.content.there (true ∷ []) place p false marks_fit less ∙ was
+      by (inr from) (inl more) = over-past f.content.there (true ∷ []) place p false marks_fit (omega (arith, more)) ∙ was
+      by (inr from) (inr to) =
+          let same : place ≡ p = omega (arith, from, to) in
+          let both : Some true ≡ Some false = sym e ∙ ap (slice_get f.content.there) (sym same) ∙ absent in
+          cc
+
 -- The call of the store alone.
 module _ (visible keeps : Bool) (s t : StoreState) (f : FileState) (moved : t ≡ record s { moments = t.moments; faults = t.faults })
     (crash : IsTrue visible → (l : Ledger) → IsLedgerOf s.sectors s.moments.state l → LeavesOnly keeps (IsLeftBy s.sectors l) s.moments t.moments)
@@ -131,32 +159,6 @@ module _ (visible keeps : Bool) (s t : StoreState) (f : FileState) (moved : t �
   module _ (place block : ℕ) (buf : List ℕ) (absent : slice_get f.content.there place ≡ Some false) (clean : slice_get f.content.dirty place ≡ Some false)
       (count : length f.content.there ≡ block_count (length f.content.bytes)) (size : length buf ≡ 4096) (here : slice_get (blocks_of f.extents) place ≡ Some block)
       (told : IsTrue visible → (l : Ledger) → IsLedgerOf s.sectors s.moments.state l → IsDataBlock (geometry_of l.superblock) block → is_held l.now.log block ≡ false → buf ≡ (l.blocks block).seen) where
-    within : place < length f.content.there
-    within = slice_get_within f.content.there place false absent
-
-    marks_fit : place + length (true ∷ []) ≤ length f.content.there
-    marks_fit = omega (arith, within)
-
-    pub now_there : slice_get (loaded f.content place buf).there place ≡ Some true
-    now_there =
-        let e : 0 ≡ place - place = omega arith in
-        mark_there (loaded f.content place buf).there place
-        (over-inside f.content.there (true ∷ []) place place false marks_fit (omega arith) (omega arith) ∙ ap (λ (i : ℕ). get_or (true ∷ []) i false) (sym e))
-
-    still_there : (p : ℕ) → slice_get f.content.there p ≡ Some true → slice_get (loaded f.content place buf).there p ≡ Some true
-    still_there p e = mark_there (loaded f.content place buf).there p (by (cases_lt p place) (cases_lt place p))
-      where
-        was : get_or f.content.there p false ≡ true
-        was = get_or_from_slice_get f.content.there p true false e
-
-        by : (p < place) ⊎ (place ≤ p) → (place < p) ⊎ (p ≤ place) → get_or (over f.content.there place (true ∷ [])) p false ≡ true
-        by (inl less) _ = over-before f.content.there (true ∷ []) place p false marks_fit less ∙ was
-        by (inr from) (inl more) = over-past f.content.there (true ∷ []) place p false marks_fit (omega (arith, more)) ∙ was
-        by (inr from) (inr to) =
-            let same : place ≡ p = omega (arith, from, to) in
-            let both : Some true ≡ Some false = sym e ∙ ap (slice_get f.content.there) (sym same) ∙ absent in
-            cc
-
     given : (l : Ledger) (bytes : List ℕ) → IsTrue visible → IsLedgerOf s.sectors s.moments.state l → IsReadable l (whole_as bytes f) → length bytes ≡ length f.content.bytes
         → block_bytes bytes place ≡ resized (take (length f.content.bytes - 4096 * place) buf) 4096
     given l bytes v is readable long =
@@ -169,8 +171,8 @@ module _ (visible keeps : Bool) (s t : StoreState) (f : FileState) (moved : t �
     fetched_one = record {
       rest = refl;
       still = (loaded_might f.content place buf absent count size (loaded f.content place buf).bytes (content_itself (loaded f.content place buf))).long;
-      marks = length-over f.content.there place (true ∷ []) marks_fit;
-      kept = still_there;
+      marks = length-over f.content.there place (true ∷ []) (marks_fit f place buf absent);
+      kept = still_there f place buf absent;
       fewer = loaded_might f.content place buf absent count size;
       read = λ v l bytes is readable may. loaded_may f.content place buf absent count size bytes may (given l bytes v is readable may.long);
       crash = crash;

@@ -7,7 +7,7 @@ use Rattle.std.proofs.lemmas.Bool.{ltb-true, ltb-false}
 use Rattle.std.proofs.lemmas.List.{take-append-drop, take_at}
 use Rattle.ufs_base.specs.declared.sizes.TheConstants.{MAX_EXTENTS}
 use Rattle.ufs_bitmap.specs.Blocks.{BlockSet}
-use Rattle.ufs_bitmap.specs.Taking.{IsApart, Takes, has}
+use Rattle.ufs_bitmap.specs.Taking.{IsApart, Takes, has, set_of}
 use Rattle.ufs_bitmap.proofs.SetLemmas.{has-union, same_blocks}
 use Rattle.ufs_bitmap.proofs.TakingLemmas.{distinct-append, distinct_apart, distinct_back, distinct_front, has-append, takes_all}
 use Rattle.ufs_extent.specs.declared.Run.{Run}
@@ -36,7 +36,7 @@ use Rattle.ufs_model.specs.declared.data.Op.{Op}
 use Rattle.ufs_model.specs.declared.data.Reply.{Reply}
 use Rattle.ufs_model.specs.declared.data.Reply.TheVariants as reply
 use Rattle.ufs_durable.specs.Serving.{DropsOnly, IsApplied, IsServedKept, TakesOnly, TakesOrDrops, content_behind, noted_as}
-use Rattle.ufs_durable.specs.State.{DurableState, IsNoted, blocks_held, whole_of}
+use Rattle.ufs_durable.specs.State.{CommitState, DurableState, IsNoted, blocks_held, state_of, whole_of}
 
 -- ---- owners in another order
 
@@ -80,22 +80,29 @@ apart_turned pool xs ys zs h = record {
 
 -- ---- what a file alone was answered
 
-pub record IsAlone (old new : FileState) (before after : BlockSet) (ask : Ask) (server : Actor) (ticket : ℕ) (entry : Entry) (desc : Option Desc) : Type 0 where
-  pub of_ask : IsEntryOf ask server ticket entry
-  pub served : is_excused entry.reply ≡ false → (d : Desc) → ask.desc ≡ Some d → IsServedByFile old new before after d ask.op entry.reply desc
-  pub any : is_excused entry.reply ≡ false → (d : Desc) → ask.desc ≡ Some d → (bytes : List ℕ) → IsContentOf old.content bytes
-      → IsServedByFile (whole_as bytes old) (whole_as (file_step bytes d ask.op).bytes new) before after d ask.op entry.reply desc
-  pub goes_on : is_excused entry.reply ≡ false → (d : Desc) → ask.desc ≡ Some d → (bytes : List ℕ) → IsContentOf old.content bytes → IsContentOf new.content (file_step bytes d ask.op).bytes
-  pub excused : (x : Excuse) → entry.reply ≡ reply.Excused x → (d : Desc) → ask.desc ≡ Some d → IsExcusedFor old d ask.op before x
-  pub any_excused : (x : Excuse) → entry.reply ≡ reply.Excused x → (d : Desc) → ask.desc ≡ Some d → (bytes : List ℕ) → IsContentOf old.content bytes → IsExcusedFor (whole_as bytes old) d ask.op before x
-  pub posix : is_excused entry.reply ≡ false → (t : PosixTree) → IsFileOf old t → IsAsk t ask → IsPosix t ask new entry.reply desc
-  pub fits : (x : Excuse) → entry.reply ≡ reply.Excused x → (t : PosixTree) → IsFileOf old t → IsAsk t ask → ExcuseFits t ask.client ask.op x
-  pub away : is_excused entry.reply ≡ false → (d : Desc) → ask.desc ≡ Some d → (bytes : List ℕ) → IsContentOf old.content bytes → (place : ℕ) → slice_get new.content.there place ≡ Some false
-      → (slice_get old.content.there place ≡ Some false) × (own_bytes (file_step bytes d ask.op).bytes place ≡ own_bytes bytes place)
-  pub few : length new.extents ≤ MAX_EXTENTS
-  pub file : is_excused entry.reply ≡ true → new ≡ old
-  pub pool : is_excused entry.reply ≡ true → after ≡ before
-  pub same_desc : is_excused entry.reply ≡ true → desc ≡ ask.desc
+-- These are the clauses of `FileHand::apply`, name by name, so that what a call ensures is this as it stands.
+abbrev pub IsAlone : (old new : FileState) (before after : BlockSet) (ask : Ask) (server : Actor) (ticket : ℕ) (told : Entry) (left : Option Desc) → Type 0
+IsAlone old new before after ask server ticket told left = record {
+  entry : IsEntryOf ask server ticket told;
+  served : is_excused told.reply ≡ false → (d : Desc) → ask.desc ≡ Some d → IsServedByFile old new before after d ask.op told.reply left;
+  excused : (x : Excuse) → told.reply ≡ reply.Excused x → (d : Desc) → ask.desc ≡ Some d → IsExcusedFor old d ask.op before x;
+  any : is_excused told.reply ≡ false → (d : Desc) → ask.desc ≡ Some d → (bytes : List ℕ) → IsContentOf old.content bytes
+      → IsServedByFile (whole_as bytes old) (whole_as (file_step bytes d ask.op).bytes new) before after d ask.op told.reply left;
+  goes_on : is_excused told.reply ≡ false → (d : Desc) → ask.desc ≡ Some d → (bytes : List ℕ) → IsContentOf old.content bytes → IsContentOf new.content (file_step bytes d ask.op).bytes;
+  away : is_excused told.reply ≡ false → (d : Desc) → ask.desc ≡ Some d → (bytes : List ℕ) → IsContentOf old.content bytes → (place : ℕ) → slice_get new.content.there place ≡ Some false
+      → (slice_get old.content.there place ≡ Some false) × (own_bytes (file_step bytes d ask.op).bytes place ≡ own_bytes bytes place);
+  any_excused : (x : Excuse) → told.reply ≡ reply.Excused x → (d : Desc) → ask.desc ≡ Some d → (bytes : List ℕ) → IsContentOf old.content bytes → IsExcusedFor (whole_as bytes old) d ask.op before x;
+  posix : is_excused told.reply ≡ false → (t : PosixTree) → IsFileOf old t → IsAsk t ask → IsPosix t ask new told.reply left;
+  fits : (x : Excuse) → told.reply ≡ reply.Excused x → (t : PosixTree) → IsFileOf old t → IsAsk t ask → ExcuseFits t ask.client ask.op x;
+  number : new.file ≡ old.file;
+  inode : new.inode ≡ old.inode;
+  together : set.union after (set_of new.extents) ≡ set.union before (set_of old.extents);
+  few : length new.extents ≤ MAX_EXTENTS;
+  file : is_excused told.reply ≡ true → new ≡ old;
+  pool : is_excused told.reply ≡ true → after ≡ before;
+  desc : is_excused told.reply ≡ true → left ≡ ask.desc;
+  apart : IsApart after (blocks_of new.extents);
+}
 
 -- The file has its marks.
 pub record IsMarked (f : FileState) : Type 0 where
@@ -118,18 +125,6 @@ logged_already f noted = λ i. record { inode = f.log.inode; committed = f.log.c
 
 not_both : (r : Reply) → is_excused r ≡ false → is_excused r ≡ true → ⊥
 not_both r off on = let e : false ≡ true = sym off ∙ on in absurd cc
-
-pub unexcused : (r : Reply) → ((x : Excuse) → r ≡ reply.Excused x → ⊥) → is_excused r ≡ false
-unexcused (reply.Excused x) off = absurd (off x refl)
-unexcused reply.Done off = refl
-unexcused (reply.Fd fd) off = refl
-unexcused (reply.Count count) off = refl
-unexcused (reply.At at) off = refl
-unexcused (reply.Got bytes) off = refl
-unexcused (reply.IsFile size) off = refl
-unexcused (reply.IsDir entries) off = refl
-unexcused (reply.Names names) off = refl
-unexcused (reply.Refused e) off = refl
 
 -- a request that isn't refused alone changes how many blocks there are
 pub allowed_where_changed : (f : FileState) (d : Desc) (request : Op) → length (blocks_of f.extents) ≡ block_count (length f.content.bytes)
@@ -169,11 +164,10 @@ applied_not f pool ask server ticket entry desc of_ask told same noted few allow
 
 module _ (f : DurableState) (new : FileState) (before after : BlockSet) (ask : Ask) (server : Actor) (ticket : ℕ) (entry : Entry) (desc : Option Desc) (noted : IsNoted f)
     (alone : IsAlone f.file new before after ask server ticket entry desc) where
-  -- The file keeps its blocks, and maybe takes some.
-  pub applied_taking : IsMarked new → ((d : Desc) → ask.desc ≡ Some d → length (blocks_of f.file.extents) ≤ block_count (length (content_behind f.file d ask.op).bytes))
+  applied_taking : IsMarked new → ((d : Desc) → ask.desc ≡ Some d → length (blocks_of f.file.extents) ≤ block_count (length (content_behind f.file d ask.op).bytes))
       → IsApplied f (record { file = new; log = noted_as new f.log; dropped = f.dropped }) before after ask server ticket entry desc
   applied_taking marks most = record {
-    of_ask = alone.of_ask;
+    of_ask = alone.entry;
     served = λ off d is bytes may. let s = alone.any off d is bytes may in let goes = alone.goes_on off d is bytes may in record {
       replied = s.replied;
       told = s.told;
@@ -199,8 +193,13 @@ module _ (f : DurableState) (new : FileState) (before after : BlockSet) (ask : A
     away = alone.away;
     kept = λ e. λ i. record { file = alone.file e i; log = (ap (λ (x : FileState). noted_as x f.log) (alone.file e) ∙ logged_already f noted) i; dropped = f.dropped };
     pool = alone.pool;
-    same_desc = alone.same_desc;
+    same_desc = alone.desc;
   }
+
+  -- The file keeps its blocks, and maybe takes some.
+  pub noted_taking : (commits : CommitState) → commits ≡ record { log = noted_as new f.log; dropped = f.dropped } → IsMarked new
+      → ((d : Desc) → ask.desc ≡ Some d → length (blocks_of f.file.extents) ≤ block_count (length (content_behind f.file d ask.op).bytes)) → IsApplied f (state_of new commits) before after ask server ticket entry desc
+  noted_taking commits known marks most = subst (λ (x : CommitState). IsApplied f (state_of new x) before after ask server ticket entry desc) (sym known) (applied_taking marks most)
 
   -- Where it keeps just those, they lie where they lay.
   pub extents_stay : (d : Desc) → ask.desc ≡ Some d → length (blocks_of f.file.extents) ≡ block_count (length (content_behind f.file d ask.op).bytes) → new.extents ≡ f.file.extents
@@ -237,7 +236,7 @@ module _ (f : DurableState) (new : FileState) (own left : BlockSet) (ask : Ask) 
   -- The file keeps so many blocks and drops the others.
   pub applied_cutting : is_excused entry.reply ≡ false → IsApplied f (record { file = new; log = noted_as new f.log; dropped = f.dropped ++ last_runs f.file.extents count }) pool pool ask server ticket entry desc
   applied_cutting off = record {
-    of_ask = alone.of_ask;
+    of_ask = alone.entry;
     served = λ _ d is bytes may. let s = alone.any off d is bytes may in let goes = alone.goes_on off d is bytes may in
         let same : count ≡ block_count (length (file_step bytes d ask.op).bytes) =
         is_count d is ∙ ap (λ (c : Content). block_count (length c.bytes)) (sym (alone.served off d is).memory) ∙ ap block_count (sym goes.long) in
@@ -265,7 +264,7 @@ module _ (f : DurableState) (new : FileState) (own left : BlockSet) (ask : Ask) 
     away = alone.away;
     kept = λ e. absurd (not_both entry.reply off e);
     pool = λ e. refl;
-    same_desc = alone.same_desc;
+    same_desc = alone.desc;
   }
 
   same_excuse : (x : Excuse) → entry.reply ≡ reply.Excused x → (d : Desc) → ask.desc ≡ Some d → IsExcusedFor f.file d ask.op pool x
@@ -280,7 +279,7 @@ module _ (f : DurableState) (new : FileState) (own left : BlockSet) (ask : Ask) 
   -- Memory ran out for it, and what was dropped already isn't.
   pub applied_uncut : length (blocks_of f.file.extents) ≡ block_count (length f.file.content.bytes) → (rest : List Run) → is_excused entry.reply ≡ true → IsApplied f (record { file = new; log = f.log; dropped = take (length f.dropped) (f.dropped ++ rest) }) pool pool ask server ticket entry desc
   applied_uncut sized rest on = record {
-    of_ask = alone.of_ask;
+    of_ask = alone.entry;
     served = λ off. absurd (not_both entry.reply off on);
     goes_on = λ off. absurd (not_both entry.reply off on);
     excused = λ x e d is. excused_any f.file d ask.op pool x (same_excuse x e d is) (noted.held ∙ noted.marks ∙ sized);
@@ -293,7 +292,7 @@ module _ (f : DurableState) (new : FileState) (own left : BlockSet) (ask : Ask) 
     away = λ off. absurd (not_both entry.reply off on);
     kept = λ e. λ i. record { file = alone.file e i; log = f.log; dropped = take_at f.dropped rest (length f.dropped) refl i };
     pool = λ e. refl;
-    same_desc = alone.same_desc;
+    same_desc = alone.desc;
   }
 
 -- ---- what follows of it
@@ -314,6 +313,16 @@ moved_over false false false y = refl
 
 or_left : (x y b : Bool) → b ≡ (x || y) → x ≡ true → b ≡ true
 or_left x y b e is = e ∙ ap (λ (c : Bool). c || y) is
+
+-- It is the file that it was, its log notes it, the pool gets no block, and none is lost or has two owners.
+pub record Follows (f g : DurableState) (before after : BlockSet) : Type 0 where
+  pub number : g.file.file ≡ f.file.file
+  pub inode : g.file.inode ≡ f.file.inode
+  pub noted : IsNoted g
+  pub committed : g.log.committed ≡ f.log.committed
+  pub together : set.union after (set.from_list (blocks_held g)) ≡ set.union before (set.from_list (blocks_held f))
+  pub taken : (block : ℕ) → set.contains after block ≡ true → set.contains before block ≡ true
+  pub apart : IsApart after (blocks_held g)
 
 module _ (f g : DurableState) (before after : BlockSet) (noted : IsNoted f) (apart : IsApart before (blocks_held f)) where
   abbrev own : List ℕ
@@ -438,3 +447,14 @@ module _ (f g : DurableState) (before after : BlockSet) (noted : IsNoted f) (apa
         once = distinct_front (blocks_of g.file.extents) (blocks_of g.dropped) goes_apart.once;
       };
     })
+
+    pub follows : Follows f g before after
+    follows = record {
+      number = same_number;
+      inode = same_inode;
+      noted = goes_noted;
+      committed = same_committed;
+      together = goes_together;
+      taken = goes_within;
+      apart = goes_apart;
+    }

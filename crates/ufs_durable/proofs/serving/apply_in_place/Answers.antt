@@ -1,49 +1,19 @@
-use Rattle.std.proofs.Common.{◌∙◌, arith, subst, sym}
-use Rattle.ufs_durable.specs.Serving.{IsApplied}
-use Rattle.ufs_durable.specs.State.{CommitState, state_of}
-use Rattle.ufs_durable.proofs.Requests.{applied_taking, desc_there, extents_stay}
+use Rattle.std.proofs.Common.{◌∙◌, arith, sym}
+use Rattle.ufs_durable.specs.State.{state_of}
+use Rattle.ufs_durable.proofs.Requests.{desc_there, extents_stay, noted_taking}
 use Rattle.ufs_durable.proofs.serving.apply_in_place.Goals as goal
 
 pub note-requires : goal.note-requires
 note-requires c =
     let d = desc_there c.args.ask.desc c.args.hand.now.file c.requires.named in
+    let made = c.apply-applied in
     c.extent_list.ensures
-    ∙ extents_stay (state_of c.args.hand.now c.args.commits.now) c.apply-applied.new.self c.args.pool.now c.apply-applied.new.pool c.args.ask c.args.by c.args.ticket c.apply-applied.result.entry c.apply-applied.result.desc c.requires.noted
-    (record {
-      of_ask = c.apply-applied.ensures.entry;
-      served = c.apply-applied.ensures.served;
-      any = c.apply-applied.ensures.any;
-      goes_on = c.apply-applied.ensures.goes_on;
-      excused = c.apply-applied.ensures.excused;
-      any_excused = c.apply-applied.ensures.any_excused;
-      posix = c.apply-applied.ensures.posix;
-      fits = c.apply-applied.ensures.fits;
-      away = c.apply-applied.ensures.away;
-      few = c.apply-applied.ensures.few;
-      file = c.apply-applied.ensures.file;
-      pool = c.apply-applied.ensures.pool;
-      same_desc = c.apply-applied.ensures.desc;
-    }) d.0 d.1 (c.requires.same d.0 d.1)
+    ∙ extents_stay (state_of c.args.hand.now c.args.commits.now) made.new.self c.args.pool.now made.new.pool c.args.ask c.args.by c.args.ticket made.result.entry made.result.desc c.requires.noted made.ensures
+    d.0 d.1 (c.requires.same d.0 d.1)
     ∙ sym c.requires.noted.runs
 
 pub returns : goal.returns
 returns c =
-    let f = state_of c.args.hand.now c.args.commits.now in
-    subst (λ (x : CommitState). IsApplied f (state_of c.apply-applied.new.self x) c.args.pool.now c.apply-applied.new.pool c.args.ask c.args.by c.args.ticket c.apply-applied.result.entry c.apply-applied.result.desc)
-    (sym c.note.ensures.noted)
-    (applied_taking f c.apply-applied.new.self c.args.pool.now c.apply-applied.new.pool c.args.ask c.args.by c.args.ticket c.apply-applied.result.entry c.apply-applied.result.desc c.requires.noted
-    (record {
-      of_ask = c.apply-applied.ensures.entry;
-      served = c.apply-applied.ensures.served;
-      any = c.apply-applied.ensures.any;
-      goes_on = c.apply-applied.ensures.goes_on;
-      excused = c.apply-applied.ensures.excused;
-      any_excused = c.apply-applied.ensures.any_excused;
-      posix = c.apply-applied.ensures.posix;
-      fits = c.apply-applied.ensures.fits;
-      away = c.apply-applied.ensures.away;
-      few = c.apply-applied.ensures.few;
-      file = c.apply-applied.ensures.file;
-      pool = c.apply-applied.ensures.pool;
-      same_desc = c.apply-applied.ensures.desc;
-    }) (record { marks = c.note.ensures.marks; held = c.note.ensures.held; written = c.note.ensures.written }) (λ d is. let same = c.requires.same d is in omega (arith, same)))
+    let made = c.apply-applied in
+    noted_taking (state_of c.args.hand.now c.args.commits.now) made.new.self c.args.pool.now made.new.pool c.args.ask c.args.by c.args.ticket made.result.entry made.result.desc c.requires.noted made.ensures
+    c.note.new.self c.note.ensures.noted (record { marks = c.note.ensures.marks; held = c.note.ensures.held; written = c.note.ensures.written }) (λ d is. let same = c.requires.same d is in omega (arith, same))
