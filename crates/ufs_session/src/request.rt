@@ -1,6 +1,6 @@
 // One request is served, and its entry drawn.
-ghost use Rattle.std.specs.Prelude.{◌^◌, ◌≡◌, ◌<◌, ◌++◌, ◌∷◌, [], List, IsTrue, length, true};
-ghost use Rattle.ufs_client.specs.Own.{server_of};
+ghost use Rattle.std.specs.Prelude.{◌^◌, ◌≡◌, ◌<◌, ◌++◌, ◌∷◌, [], List, IsTrue, false, length, true};
+ghost use Rattle.ufs_client.specs.Own.{is_own, server_of};
 ghost use Rattle.ufs_file.specs.Hand.{IsEntryOf};
 ghost use Rattle.ufs_model.specs.Asks.{IsAsk};
 ghost use Rattle.ufs_model.specs.Bounds.{IsBounded};
@@ -98,7 +98,7 @@ pub(crate) fn serve_request<N: Naming, D: Door, F: Since, T: Telling>(
     let touched = gathered.touched();
     gather(&mut hand, &mut apart, gathered);
     hand.ask(asked.client, &asked.op);
-    let (mut hand, door, applied) = serve_stamped::<N, D, Brand>(
+    let (mut hand, door, applied) = serve_asked::<N, D, Brand>(
         hand, &apart, door, server, asked, own, touched, ticket,
     );
     let desc = applied.desc;
@@ -108,8 +108,9 @@ pub(crate) fn serve_request<N: Naming, D: Door, F: Since, T: Telling>(
     (Running { hand, apart, door }, entry)
 }
 
-// Serves a request that is asked, and stamps the disk at each call of the store.
-fn serve_stamped<N: Naming, D: Door, S: Stamping>(
+// Serves a request that is asked: the client does where its descriptors tell the answer, and then the store isn't called; the
+// server does otherwise.
+fn serve_asked<N: Naming, D: Door, S: Stamping>(
     hand: OneHand<N>,
     apart: &Apart<N>,
     door: D,
@@ -145,21 +146,78 @@ fn serve_stamped<N: Naming, D: Door, S: Stamping>(
     ensures sectors { (D.store result.1).sectors ≡ (D.store door).sectors }
     ensures told { TellsRequest (D.store door) (D.store result.1) result.2.entry.reply }
 {
+    let geometry = door.geometry();
+    on_disk_law(&geometry);
+    always_law(&geometry);
+    match own {
+        Some(answer) => {
+            let applied = Applied {
+                entry: Entry {
+                    ticket,
+                    client: asked.client,
+                    seq: asked.seq,
+                    by: Actor::Client(asked.client),
+                    op: asked.op,
+                    reply: answer.reply,
+                },
+                desc: answer.desc,
+            };
+            (hand, door, applied)
+        }
+        None => serve_stamped::<N, D, S>(hand, apart, door, server, asked, touched, ticket),
+    }
+}
+
+// The server serves a request, and the disk is stamped at each call of the store.
+fn serve_stamped<N: Naming, D: Door, S: Stamping>(
+    hand: OneHand<N>,
+    apart: &Apart<N>,
+    door: D,
+    server: &mut DiskServer,
+    asked: Ask,
+    touched: Result<Option<u32>, Memory>,
+    ticket: u64,
+) -> (OneHand<N>, D, Applied)
+    requires before { S.before ≡ before_of (D.store door) }
+    requires plain { D.stamps → ⊥ }
+    requires stamping { IsStamping N.start S.history S.asked S.files S.first D.visible D.keeps S.before (D.store door) hand }
+    requires client { asked.client < MAX_CLIENTS }
+    requires bounded { IsBounded asked.op }
+    requires numbers { server.old.names.next < 2 ^ 31 }
+    requires asked { (t : PosixTree) × ArePartsOf server.old t × IsAsk t asked }
+    requires served { (t : PosixTree) → IsAsk t asked → is_own t asked.client asked.op ≡ false }
+    requires touched { IsFileTold server.old asked touched }
+    requires sees { SeesDisk N.start D.visible (D.store door) S.history server.old }
+    requires sound { IsSoundServer (geometry_of_store (D.store door)) (D.store door).unassigned.free server.old }
+    ensures stamping { IsStamping N.start S.history S.asked S.files S.first D.visible D.keeps S.before (D.store result.1) result.0 }
+    ensures entry { IsEntryOf asked result.2.entry.by ticket result.2.entry }
+    ensures by { (t : PosixTree) → IsAsk t asked → result.2.entry.by ≡ server_of t asked.client asked.op }
+    ensures reading { IsServedReading D.visible (D.store door) server.old server.new asked result.2.entry.reply result.2.desc }
+    ensures desc { is_excused result.2.entry.reply ≡ true → result.2.desc ≡ asked.desc }
+    ensures on_disk { IsTrue D.visible → (start : PosixTree) (history : List Entry) → IsAsk (tree_after start history) asked → IsLegal start (history ++ result.2.entry ∷ [])
+        → IsOnDisk (D.store door) start history server.old → IsOnDisk (D.store result.1) start (history ++ result.2.entry ∷ []) server.new }
+    ensures moments { IsTrue D.visible → (start : PosixTree) (history : List Entry) → IsAsk (tree_after start history) asked → IsLegal start (history ++ result.2.entry ∷ [])
+        → IsOnDisk (D.store door) start history server.old
+        → IsExplainedThroughout D.keeps (D.store door).sectors start history (result.2.entry ∷ []) (D.store door).moments (D.store result.1).moments }
+    ensures sound { IsSoundServer (geometry_of_store (D.store result.1)) (D.store result.1).unassigned.free server.new }
+    ensures geometry { geometry_of_store (D.store result.1) ≡ geometry_of_store (D.store door) }
+    ensures sectors { (D.store result.1).sectors ≡ (D.store door).sectors }
+    ensures told { TellsRequest (D.store door) (D.store result.1) result.2.entry.reply }
+{
     // For the prover alone.
     let _ = apart;
     let mut stamped = StampedDoor::<N, D, S>::begin(door, hand);
-    let applied = serve_one(server, &mut stamped, asked, own, touched, ticket);
+    let applied = serve_one(server, &mut stamped, asked, touched, ticket);
     let (door, hand) = stamped.end();
     (hand, door, applied)
 }
 
-// Serves a request: the client does where its descriptors tell the answer, and the server otherwise, once the blocks
-// that the request needs are in memory. It is told which file a request of the names touches, where that is known.
+// Serves a request that its client doesn't answer itself, once the blocks that it needs are in memory. The server is told which
+// file a request of the names touches, where that is known.
 fn serve_one<D: Door>(
     server: &mut DiskServer,
     door: &mut D,
     ask: Ask,
-    own: Option<OwnAnswer>,
     touched: Result<Option<u32>, Memory>,
     ticket: u64,
 ) -> Applied
@@ -167,7 +225,7 @@ fn serve_one<D: Door>(
     requires bounded { IsBounded ask.op }
     requires numbers { server.old.names.next < 2 ^ 31 }
     requires asked { (t : PosixTree) × ArePartsOf server.old t × IsAsk t ask }
-    requires own { IsOwnTold ask own }
+    requires served { (t : PosixTree) → IsAsk t ask → is_own t ask.client ask.op ≡ false }
     requires touched { IsFileTold server.old ask touched }
     requires sound { IsSoundServer (geometry_of_store (D.store door.old)) (D.store door.old).unassigned.free server.old }
     requires stamped { D.stamps → ExplainsAllowed D.allows (D.store door.old) server.old }
@@ -188,25 +246,12 @@ fn serve_one<D: Door>(
     let geometry = door.geometry();
     on_disk_law(&geometry);
     always_law(&geometry);
-    let Some(answer) = own else {
-        let Ok(touched) = touched else {
-            return unread(ask, ticket, Excuse::Memory);
-        };
-        return match server.fetch(door, &ask) {
-            Ok(()) => server.apply(door, ask, touched, Actor::Primary, ticket),
-            Err(excuse) => unread(ask, ticket, excuse),
-        };
+    let Ok(touched) = touched else {
+        return unread(ask, ticket, Excuse::Memory);
     };
-    Applied {
-        entry: Entry {
-            ticket,
-            client: ask.client,
-            seq: ask.seq,
-            by: Actor::Client(ask.client),
-            op: ask.op,
-            reply: answer.reply,
-        },
-        desc: answer.desc,
+    match server.fetch(door, &ask) {
+        Ok(()) => server.apply(door, ask, touched, Actor::Primary, ticket),
+        Err(excuse) => unread(ask, ticket, excuse),
     }
 }
 

@@ -3,7 +3,6 @@ use Rattle.std.specs.Prelude.{IfOk, IsTrue}
 use Rattle.ufs_alike.proofs.StepLemmas.{asks}
 use Rattle.ufs_alike.proofs.TreeLemmas.{either_way}
 use Rattle.ufs_base.specs.declared.Memory.{Memory}
-use Rattle.ufs_client.proofs.Replies.{plain_calm}
 use Rattle.ufs_model.specs.Asks.{file_in}
 use Rattle.ufs_model.specs.Excuses.{ExcuseFits}
 use Rattle.ufs_model.specs.declared.data.Ask.{Ask}
@@ -12,26 +11,21 @@ use Rattle.ufs_names.specs.Calls.{IsOfNames}
 use Rattle.ufs_server.specs.Fetched.{IsReady}
 use Rattle.ufs_server.specs.Touching.{IsFileTouched}
 use Rattle.ufs_stored.specs.Parts.{Parts}
-use Rattle.ufs_model.specs.FileBytes.{bytes_of}
 use Rattle.ufs_model.specs.History.{is_excused}
-use Rattle.ufs_model.specs.PosixTree.{Files, PosixTree}
+use Rattle.ufs_model.specs.PosixTree.{PosixTree}
 use Rattle.ufs_model.specs.declared.data.Entry.{Entry}
-use Rattle.ufs_server.proofs.Beside.{calm_told, no_device}
 use Rattle.ufs_server.proofs.FileFetching.{none_read}
 use Rattle.ufs_server.specs.Answered.{device_told}
 use Rattle.ufs_store.specs.State.{geometry_of_store}
 use Rattle.ufs_stored.specs.OnDisk.{IsExplainedBetween, IsOnDisk}
 use Rattle.ufs_stored.proofs.Stamping.{go_on}
-use Rattle.ufs_file.specs.Content.{own_bytes}
-use Rattle.ufs_session.specs.Asking.{IsOwnTold}
 use Rattle.ufs_session.proofs.FurtherLemmas.{tree_read}
-use Rattle.ufs_session.proofs.OwnLemmas.{bytes_behind, nothing, own_answered, parts_behind, parts_on_disk, same_bytes}
+use Rattle.ufs_session.proofs.OwnLemmas.{parts_on_disk}
 use Rattle.ufs_session.proofs.ReadingLemmas.{nothing_forgotten, parts_before, read_failed, read_served, same_excuse}
 use Rattle.ufs_session.proofs.ThroughoutLemmas.{between_joined, throughout_one}
-use Rattle.ufs_session.proofs.ToldLemmas.{plain_going, served_told}
 use Rattle.ufs_session.proofs.request.serve_one.Given.{Over}
 use Rattle.ufs_session.proofs.request.serve_one.Goals as goal
-use Rattle.ufs_session.proofs.request.serve_one.Goals.{After-apply, In-Some}
+use Rattle.ufs_session.proofs.request.serve_one.Goals.{After-apply}
 
 pub apply-requires-clause-asked : goal.apply-requires-clause-asked
 apply-requires-clause-asked g c =
@@ -147,8 +141,8 @@ returns-in-Err-clause-told g c =
 
 -- ---- the file isn't known
 
-pub returns-in_default-touched-clause-reading : goal.returns-in_default-touched-clause-reading
-returns-in_default-touched-clause-reading g c =
+pub returns-in_default-clause-reading : goal.returns-in_default-clause-reading
+returns-in_default-clause-reading g c =
     let p = c.args.server.now in
     let is = c.unread.ensures.reply in
     record {
@@ -162,12 +156,12 @@ returns-in_default-touched-clause-reading g c =
       away = λ plain. let no : false ≡ true = sym plain ∙ ap is_excused is in cc;
     }
 
-pub returns-in_default-touched-clause-on_disk : goal.returns-in_default-touched-clause-on_disk
-returns-in_default-touched-clause-on_disk g c visible start history asked legal is =
+pub returns-in_default-clause-on_disk : goal.returns-in_default-clause-on_disk
+returns-in_default-clause-on_disk g c visible start history asked legal is =
     c.on_disk_law.ensures.excused (g.D.Door.store c.args.door.now) start history _ c.args.server.now (sym c.geometry-geometry.ensures.is) legal (ap is_excused c.unread.ensures.reply) is
 
-pub returns-in_default-touched-clause-moments : goal.returns-in_default-touched-clause-moments
-returns-in_default-touched-clause-moments g c visible start history asked legal is =
+pub returns-in_default-clause-moments : goal.returns-in_default-clause-moments
+returns-in_default-clause-moments g c visible start history asked legal is =
     let s = g.D.Door.store c.args.door.now in
     let p = c.args.server.now in
     let entry = c.unread.result.entry in
@@ -176,63 +170,7 @@ returns-in_default-touched-clause-moments g c visible start history asked legal 
     throughout_one g.D.Door.keeps s.sectors start history entry s.moments s.moments (c.always_law.ensures.rest g.D.Door.keeps s start history p same is)
     (c.always_law.ensures.rest g.D.Door.keeps s start (history ++ entry ∷ []) p same next)
 
-pub returns-in_default-touched-clause-told : goal.returns-in_default-touched-clause-told
-returns-in_default-touched-clause-told g c =
+pub returns-in_default-clause-told : goal.returns-in_default-clause-told
+returns-in_default-clause-told g c =
     let s = g.D.Door.store c.args.door.now in
     read_failed s s excuse.Memory refl refl (λ fault device. absurd cc) (λ none. inl refl) c.unread.result.entry.reply c.unread.ensures.reply
-
--- ---- the client answered
-
-module _ (g : Over) (c : In-Some g) where
-  told : IsOwnTold c.args.ask (Some c.in-Some.answer)
-  told = subst (IsOwnTold c.args.ask) c.in-Some.is c.requires.own
-
-pub returns-clause-reading : goal.returns-clause-reading
-returns-clause-reading g c =
-    let p = c.args.server.now in
-    let ask = c.args.ask in
-    let answer = c.in-Some.answer in
-    let is = told g (goal.at.returns-clause-reading g c).In-Some in
-    record {
-      read = p;
-      further = none_read (geometry_of_store (g.D.Door.store c.args.door.now)) (g.D.Door.store c.args.door.now).unassigned.free ask p c.requires.sound;
-      seen = λ visible start history there. parts_on_disk (g.D.Door.store c.args.door.now) start history p there;
-      served = λ plain t parts asked. own_answered p t ask answer.reply answer.desc asked (sym (is.own t asked)) (is.posix t asked) parts;
-      fits = λ x excused. let no : true ≡ false = ap is_excused (sym excused) ∙ is.plain in cc;
-      unchanged = λ excused t parts. parts;
-      forgets = nothing_forgotten p;
-      away = λ plain t parts asked file place away. ap (λ (bytes : Files). own_bytes (bytes_of bytes file) place) (same_bytes p t ask answer.reply answer.desc asked (sym (is.own t asked)) (is.posix t asked));
-    }
-
-pub returns-clause-on_disk : goal.returns-clause-on_disk
-returns-clause-on_disk g c visible start history asked legal is =
-    let s = g.D.Door.store c.args.door.now in
-    let p = c.args.server.now in
-    let answer = told g (goal.at.returns-clause-on_disk g c).In-Some in
-    let own = sym (answer.own _ asked) in
-    c.on_disk_law.ensures.beside s start history _ p (sym c.geometry-geometry.ensures.is) legal
-    (nothing p _ c.args.ask c.in-Some.answer.reply c.in-Some.answer.desc asked own (answer.posix _ asked))
-    (parts_behind p start history _ c.args.ask c.in-Some.answer.desc refl refl answer.plain asked own (answer.posix _ asked) (parts_on_disk s start history p is))
-    (bytes_behind start history p _ c.args.ask c.in-Some.answer.desc refl refl answer.plain asked own (answer.posix _ asked)) is
-
-pub returns-clause-moments : goal.returns-clause-moments
-returns-clause-moments g c visible start history asked legal is =
-    let s = g.D.Door.store c.args.door.now in
-    let p = c.args.server.now in
-    let answer = told g (goal.at.returns-clause-moments g c).In-Some in
-    let own = sym (answer.own _ asked) in
-    let same = sym c.geometry-geometry.ensures.is in
-    let next = c.on_disk_law.ensures.beside s start history _ p same legal
-    (nothing p _ c.args.ask c.in-Some.answer.reply c.in-Some.answer.desc asked own (answer.posix _ asked))
-    (parts_behind p start history _ c.args.ask c.in-Some.answer.desc refl refl answer.plain asked own (answer.posix _ asked) (parts_on_disk s start history p is))
-    (bytes_behind start history p _ c.args.ask c.in-Some.answer.desc refl refl answer.plain asked own (answer.posix _ asked)) is in
-    throughout_one g.D.Door.keeps s.sectors start history _ s.moments s.moments (c.always_law.ensures.rest g.D.Door.keeps s start history p same is)
-    (c.always_law.ensures.rest g.D.Door.keeps s start (history ++ _ ∷ []) p same next)
-
-pub returns-clause-told : goal.returns-clause-told
-returns-clause-told g c =
-    let s = g.D.Door.store c.args.door.now in
-    let r = c.in-Some.answer.reply in
-    let plain = (told g (goal.at.returns-clause-told g c).In-Some).plain in
-    let calm = plain_calm r plain in
-    served_told s s r (calm_told s s r calm refl refl) (λ fault is. let clash : None ≡ Some fault = sym (plain_going r plain) ∙ is in cc) (λ fault is. no_device r calm)

@@ -69,24 +69,24 @@ ask-requires-clause-idle g c =
     let own = had_own k history c.args.asked.client in
     (had_as k history, (together g (goal.at.ask-requires-clause-idle g c).After-gather).session, omega (arith, own, one.seq, c.requires.few))
 
-pub serve_stamped-hand-requires-clause-asked : goal.serve_stamped-hand-requires-clause-asked
-serve_stamped-hand-requires-clause-asked g c =
+pub serve_asked-hand-requires-clause-asked : goal.serve_asked-hand-requires-clause-asked
+serve_asked-hand-requires-clause-asked g c =
     let asks = c.requires.asks in
     let one = asks.2.asking asks.2.read.tree asks.2.read.may in
     (tree_after asks.2.read.tree g.T.Telling.history, one.reached.parts, one.asked)
 
-pub serve_stamped-hand-requires-clause-own : goal.serve_stamped-hand-requires-clause-own
-serve_stamped-hand-requires-clause-own g c = let own = c.answer_own-own.ensures in record { own = own.own; posix = own.posix; plain = own.plain }
+pub serve_asked-hand-requires-clause-own : goal.serve_asked-hand-requires-clause-own
+serve_asked-hand-requires-clause-own g c = let own = c.answer_own-own.ensures in record { own = own.own; posix = own.posix; plain = own.plain }
 
-pub serve_stamped-hand-requires-clause-touched : goal.serve_stamped-hand-requires-clause-touched
-serve_stamped-hand-requires-clause-touched g c = subst (IsFileTold c.args.server.now c.args.asked) (sym c.touched-touched.ensures) c.files_of-gathered.ensures.told
+pub serve_asked-hand-requires-clause-touched : goal.serve_asked-hand-requires-clause-touched
+serve_asked-hand-requires-clause-touched g c = subst (IsFileTold c.args.server.now c.args.asked) (sym c.touched-touched.ensures) c.files_of-gathered.ensures.told
 
-pub serve_stamped-hand-requires-clause-sees : goal.serve_stamped-hand-requires-clause-sees
-serve_stamped-hand-requires-clause-sees g c = sees_had g (goal.at.serve_stamped-hand-requires-clause-sees g c).After-gather
+pub serve_asked-hand-requires-clause-sees : goal.serve_asked-hand-requires-clause-sees
+serve_asked-hand-requires-clause-sees g c = sees_had g (goal.at.serve_asked-hand-requires-clause-sees g c).After-gather
 
-pub serve_stamped-hand-requires-clause-stamping : goal.serve_stamped-hand-requires-clause-stamping
-serve_stamped-hand-requires-clause-stamping g c =
-    let at = (goal.at.serve_stamped-hand-requires-clause-stamping g c).After-gather in
+pub serve_asked-hand-requires-clause-stamping : goal.serve_asked-hand-requires-clause-stamping
+serve_asked-hand-requires-clause-stamping g c =
+    let at = (goal.at.serve_asked-hand-requires-clause-stamping g c).After-gather in
     let k = g.N.Naming.start in
     let s = g.D.Door.store c.args.running.door in
     let before = had g at in
@@ -110,43 +110,43 @@ module _ (g : Over) (c : After-keep g) where
   history = g.T.Telling.history
 
   abbrev entry : Entry
-  entry = c.serve_stamped-hand.result.2.entry
+  entry = c.serve_asked-hand.result.2.entry
 
   abbrev now : StoreState
   now = g.D.Door.store c.args.running.door
 
   abbrev next : StoreState
-  next = g.D.Door.store c.serve_stamped-hand.result.1
+  next = g.D.Door.store c.serve_asked-hand.result.1
 
   abbrev new : Parts
-  new = c.serve_stamped-hand.new.server
+  new = c.serve_asked-hand.new.server
 
   all_more : AreFaultsTold c.requires.faults.0 next (history ++ entry ∷ [])
-  all_more = told_on c.requires.faults.0 now next history (entry ∷ []) c.requires.faults.1 (one_told now next entry c.serve_stamped-hand.ensures.told)
+  all_more = told_on c.requires.faults.0 now next history (entry ∷ []) c.requires.faults.1 (one_told now next entry c.serve_asked-hand.ensures.told)
 
   -- however far the session had read before
   module _ (begun : Parts) (picks : List Pick) (asks : AsksOf k begun picks c.args.server.now history c.args.fds.now c.args.asked) where
     abbrev read : Parts
-    read = c.serve_stamped-hand.ensures.reading.read
+    read = c.serve_asked-hand.ensures.reading.read
 
     abbrev further : List Pick
-    further = picked_now k g.D.Door.visible g.D.Door.keeps begun picks now next c.args.server.now new history c.args.asked entry c.serve_stamped-hand.result.2.desc asks.read c.serve_stamped-hand.ensures.reading c.requires.sees
+    further = picked_now k g.D.Door.visible g.D.Door.keeps begun picks now next c.args.server.now new history c.args.asked entry c.serve_asked-hand.result.2.desc asks.read c.serve_asked-hand.ensures.reading c.requires.sees
 
     has_read : HasReadOf k begun further read history
-    has_read = read_now k g.D.Door.visible g.D.Door.keeps begun picks now next c.args.server.now new history c.args.asked entry c.serve_stamped-hand.result.2.desc asks.read c.serve_stamped-hand.ensures.reading c.requires.sees
+    has_read = read_now k g.D.Door.visible g.D.Door.keeps begun picks now next c.args.server.now new history c.args.asked entry c.serve_asked-hand.result.2.desc asks.read c.serve_asked-hand.ensures.reading c.requires.sees
 
     -- from a tree with which it may have begun
     module _ (start : PosixTree) (may : MayHaveBegun begun further start) where
       asking : IsAsking start history read c.args.fds.now c.args.asked
       asking =
-          let began = began_before k g.D.Door.visible g.D.Door.keeps begun picks now next c.args.server.now new history c.args.asked entry c.serve_stamped-hand.result.2.desc asks.read c.serve_stamped-hand.ensures.reading c.requires.sees start may in
+          let began = began_before k g.D.Door.visible g.D.Door.keeps begun picks now next c.args.server.now new history c.args.asked entry c.serve_asked-hand.result.2.desc asks.read c.serve_asked-hand.ensures.reading c.requires.sees start may in
           asking_at start history c.args.server.now read c.args.fds.now c.args.asked (asks.asking start began) (has_read.reached start may).parts
 
       answered : HasAnswered start history new c.keep.new.fds c.args.asked entry
       answered =
-          let a = c.serve_stamped-hand.ensures in
+          let a = c.serve_asked-hand.ensures in
           let tree = tree_after start history in
-          has_answered start history read c.args.fds.now c.args.asked asking entry _ a.entry (a.by tree asking.asked) c.requires.ticket new c.keep.new.fds c.serve_stamped-hand.result.2.desc c.keep.ensures
+          has_answered start history read c.args.fds.now c.args.asked asking entry _ a.entry (a.by tree asking.asked) c.requires.ticket new c.keep.new.fds c.serve_asked-hand.result.2.desc c.keep.ensures
           (λ plain. a.reading.served plain tree asking.reached.parts asking.asked) (λ x excused. a.reading.fits x excused tree asking.reached.parts asking.asked) a.desc
           (λ excused. a.reading.unchanged excused tree asking.reached.parts) (c.a_request_makes_one_file_at_most.ensures tree c.args.asked.client c.args.asked.op)
 
@@ -155,25 +155,25 @@ module _ (g : Over) (c : After-keep g) where
 
       served : IsServedIn (tree_after start history) history entry c.keep.new.fds
       served =
-          let a = c.serve_stamped-hand.ensures in
+          let a = c.serve_asked-hand.ensures in
           let tree = tree_after start history in
-          served_behind start history read c.args.fds.now c.args.asked asking entry _ a.entry (a.by tree asking.asked) c.requires.ticket new c.keep.new.fds c.serve_stamped-hand.result.2.desc c.keep.ensures
+          served_behind start history read c.args.fds.now c.args.asked asking entry _ a.entry (a.by tree asking.asked) c.requires.ticket new c.keep.new.fds c.serve_asked-hand.result.2.desc c.keep.ensures
           (λ plain. a.reading.served plain tree asking.reached.parts asking.asked) (λ x excused. a.reading.fits x excused tree asking.reached.parts asking.asked) a.desc
           (subst (λ (n : ℕ). n < 16) (sym a.entry.client) c.requires.client)
 
       stays : AwayStays new (tree_after start history) (tree_after start (history ++ entry ∷ []))
       stays =
-          let a = c.serve_stamped-hand.ensures in
+          let a = c.serve_asked-hand.ensures in
           let tree = tree_after start history in
-          away_behind start history read c.args.fds.now c.args.asked asking entry _ a.entry (a.by tree asking.asked) c.requires.ticket new c.keep.new.fds c.serve_stamped-hand.result.2.desc c.keep.ensures
+          away_behind start history read c.args.fds.now c.args.asked asking entry _ a.entry (a.by tree asking.asked) c.requires.ticket new c.keep.new.fds c.serve_asked-hand.result.2.desc c.keep.ensures
           (λ plain. a.reading.served plain tree asking.reached.parts asking.asked) (λ x excused. a.reading.fits x excused tree asking.reached.parts asking.asked) a.desc
           (λ plain. a.reading.away plain tree asking.reached.parts asking.asked)
 
     -- the session read on
     abbrev one_more : HasReadOn k g.D.Door.visible g.D.Door.keeps begun picks now next c.args.server.now new history (entry ∷ [])
     one_more =
-        let a = c.serve_stamped-hand.ensures in
-        one_on k g.D.Door.visible g.D.Door.keeps begun picks now next c.args.server.now new history c.args.asked entry c.serve_stamped-hand.result.2.desc asks.read a.reading c.requires.sees
+        let a = c.serve_asked-hand.ensures in
+        one_on k g.D.Door.visible g.D.Door.keeps begun picks now next c.args.server.now new history c.args.asked entry c.serve_asked-hand.result.2.desc asks.read a.reading c.requires.sees
         (λ start may. (answered start may).reached) stays
         (λ visible start may is. (
           a.on_disk visible start history (asking start may).asked (legal_more start may) is,
@@ -199,25 +199,25 @@ draw-entry-requires-clause-alike g c =
 
 pub draw-entry-requires-clause-session : goal.draw-entry-requires-clause-session
 draw-entry-requires-clause-session g c =
-    let e = c.serve_stamped-hand.ensures.entry in
-    subst (λ (x : ℕ × Op). HasSession g.N.Naming.start (had_as g.N.Naming.start g.T.Telling.history) (Some x) c.serve_stamped-hand.result.0) (λ i. (sym e.client i, sym e.asked i)) c.serve_stamped-hand.ensures.stamping.session
+    let e = c.serve_asked-hand.ensures.entry in
+    subst (λ (x : ℕ × Op). HasSession g.N.Naming.start (had_as g.N.Naming.start g.T.Telling.history) (Some x) c.serve_asked-hand.result.0) (λ i. (sym e.client i, sym e.asked i)) c.serve_asked-hand.ensures.stamping.session
 
 pub draw-entry-requires-clause-fresh : goal.draw-entry-requires-clause-fresh
-draw-entry-requires-clause-fresh g c = c.serve_stamped-hand.ensures.stamping.fresh
+draw-entry-requires-clause-fresh g c = c.serve_asked-hand.ensures.stamping.fresh
 
 pub draw-entry-requires-clause-covered : goal.draw-entry-requires-clause-covered
-draw-entry-requires-clause-covered g c = c.serve_stamped-hand.ensures.stamping.covered
+draw-entry-requires-clause-covered g c = c.serve_asked-hand.ensures.stamping.covered
 
 pub draw-entry-requires-clause-before : goal.draw-entry-requires-clause-before
 draw-entry-requires-clause-before g c = λ sees.
-    let is = c.serve_stamped-hand.ensures.stamping in
+    let is = c.serve_asked-hand.ensures.stamping in
     subst (ExplainsImages g.N.Naming.start.tree (had_as g.N.Naming.start g.T.Telling.history)) (sym is.state) (is.explained sees)
 
 pub draw-entry-requires-clause-after : goal.draw-entry-requires-clause-after
 draw-entry-requires-clause-after g c = λ sees.
     let at = goal.at.draw-entry-requires-clause-after g c in
     let kept = at.After-keep in
-    let a = c.serve_stamped-hand.ensures in
+    let a = c.serve_asked-hand.ensures in
     let start = g.N.Naming.start.tree in
     let told = history g kept in
     let asks = c.requires.asks in
@@ -233,9 +233,9 @@ draw-entry-requires-clause-after g c = λ sees.
 
 pub draw-entry-requires-clause-faults : goal.draw-entry-requires-clause-faults
 draw-entry-requires-clause-faults g c =
-    let a = c.serve_stamped-hand.ensures in
-    stamping_faults g.N.Naming.start (had_as g.N.Naming.start g.T.Telling.history) (Some (c.args.asked.client, c.args.asked.op)) c.gather.new.apart.files g.F.Since.count g.D.Door.visible g.D.Door.keeps (g.D.Door.store c.args.running.door) (g.D.Door.store c.serve_stamped-hand.result.1)
-    c.serve_stamped-hand.result.0 a.stamping c.serve_stamped-hand.result.2.entry.reply a.told
+    let a = c.serve_asked-hand.ensures in
+    stamping_faults g.N.Naming.start (had_as g.N.Naming.start g.T.Telling.history) (Some (c.args.asked.client, c.args.asked.op)) c.gather.new.apart.files g.F.Since.count g.D.Door.visible g.D.Door.keeps (g.D.Door.store c.args.running.door) (g.D.Door.store c.serve_asked-hand.result.1)
+    c.serve_asked-hand.result.0 a.stamping c.serve_asked-hand.result.2.entry.reply a.told
 
 pub draw-entry-requires-clause-files : goal.draw-entry-requires-clause-files
 draw-entry-requires-clause-files g c =
@@ -244,33 +244,33 @@ draw-entry-requires-clause-files g c =
     let asks = c.requires.asks in
     let h = asks.2.read in
     let one = asks.2.asking h.tree h.may in
-    let e = c.serve_stamped-hand.ensures.entry in
+    let e = c.serve_asked-hand.ensures.entry in
     let tree = tree_after h.tree history in
-    let files = has_files k (had_as k history) tree (tree_had k history) c.args.asked.client c.args.asked.op c.files_of-gathered.result c.serve_stamped-hand.result.0 c.gather.new.apart.files (had_alike k h.tree h.like history)
-    (c.files_of-gathered.ensures.gathered tree one.reached.parts one.asked) c.gather.ensures.files c.serve_stamped-hand.ensures.stamping.each in
-    subst (λ (x : ℕ × Op). HasFilesOf k (had_as k history) (tree_had k history) x.0 x.1 c.serve_stamped-hand.result.0) (λ i. (sym e.client i, sym e.asked i)) files
+    let files = has_files k (had_as k history) tree (tree_had k history) c.args.asked.client c.args.asked.op c.files_of-gathered.result c.serve_asked-hand.result.0 c.gather.new.apart.files (had_alike k h.tree h.like history)
+    (c.files_of-gathered.ensures.gathered tree one.reached.parts one.asked) c.gather.ensures.files c.serve_asked-hand.ensures.stamping.each in
+    subst (λ (x : ℕ × Op). HasFilesOf k (had_as k history) (tree_had k history) x.0 x.1 c.serve_asked-hand.result.0) (λ i. (sym e.client i, sym e.asked i)) files
 
 -- ---- its entry was drawn, and the parts go apart again
 
 module _ (g : Over) (c : After-draw-entry g) where
   abbrev more : List Entry
-  more = g.T.Telling.history ++ c.serve_stamped-hand.result.2.entry ∷ []
+  more = g.T.Telling.history ++ c.serve_asked-hand.result.2.entry ∷ []
 
   drawn : IsTogether g.N.Naming.start (had_as g.N.Naming.start more) c.draw-entry.new.hand c.gather.new.apart
   drawn = record {
     none = (c.gather.ensures.together (had_as g.N.Naming.start g.T.Telling.history) c.args.asked.client 1 c.requires.resting.parted).none;
     session = c.draw-entry.ensures.session;
-    each = c.draw-entry.ensures.apart c.gather.new.apart.files c.serve_stamped-hand.ensures.stamping.each;
+    each = c.draw-entry.ensures.apart c.gather.new.apart.files c.serve_asked-hand.ensures.stamping.each;
   }
 
-  knows_drawn : KnowsDisk g.N.Naming.start g.D.Door.keeps g.F.Since.count (had_as g.N.Naming.start more) (g.D.Door.store c.serve_stamped-hand.result.1) c.draw-entry.new.hand
+  knows_drawn : KnowsDisk g.N.Naming.start g.D.Door.keeps g.F.Since.count (had_as g.N.Naming.start more) (g.D.Door.store c.serve_asked-hand.result.1) c.draw-entry.new.hand
   knows_drawn =
       let k = g.N.Naming.start in
       let before = had_as k g.T.Telling.history in
       let d = c.draw-entry.ensures in
-      let next = g.D.Door.store c.serve_stamped-hand.result.1 in
-      let was = stamping_knows k before (Some (c.args.asked.client, c.args.asked.op)) c.gather.new.apart.files g.F.Since.count g.D.Door.visible g.D.Door.keeps (g.D.Door.store c.args.running.door) next c.serve_stamped-hand.result.0 c.serve_stamped-hand.ensures.stamping in
-      knows_on k g.D.Door.keeps g.F.Since.count before next c.serve_stamped-hand.result.0 was c.draw-entry.new.hand (had_as k more) d.covered d.passed d.stamped d.stop d.state d.answered d.shortages
+      let next = g.D.Door.store c.serve_asked-hand.result.1 in
+      let was = stamping_knows k before (Some (c.args.asked.client, c.args.asked.op)) c.gather.new.apart.files g.F.Since.count g.D.Door.visible g.D.Door.keeps (g.D.Door.store c.args.running.door) next c.serve_asked-hand.result.0 c.serve_asked-hand.ensures.stamping in
+      knows_on k g.D.Door.keeps g.F.Since.count before next c.serve_asked-hand.result.0 was c.draw-entry.new.hand (had_as k more) d.covered d.passed d.stamped d.stop d.state d.answered d.shortages
 
 pub scatter-requires-clause-together : goal.scatter-requires-clause-together
 scatter-requires-clause-together g c =
@@ -283,7 +283,7 @@ scatter-requires-clause-together g c =
     (had_as k told, drawn g at.After-draw-entry, record { tree = tree_after h.tree told; parts = (answered g kept asks.0 asks.1 asks.2 h.tree h.may).reached.parts; alike = had_alike k h.tree h.like told })
 
 pub returns-clause-entry : goal.returns-clause-entry
-returns-clause-entry g c = subst (λ (e : Entry). IsEntryOf c.args.asked e.by c.args.ticket e) (sym c.draw-entry.ensures.same) c.serve_stamped-hand.ensures.entry
+returns-clause-entry g c = subst (λ (e : Entry). IsEntryOf c.args.asked e.by c.args.ticket e) (sym c.draw-entry.ensures.same) c.serve_asked-hand.ensures.entry
 
 pub returns-clause-answered : goal.returns-clause-answered
 returns-clause-answered g c begun picks asks =
@@ -294,14 +294,14 @@ returns-clause-answered g c begun picks asks =
 pub returns-clause-faults : goal.returns-clause-faults
 returns-clause-faults g c =
     let now = g.D.Door.store c.args.running.door in
-    let next = g.D.Door.store c.serve_stamped-hand.result.1 in
-    subst (λ (e : Entry). AreFaultsTold now next (e ∷ [])) (sym c.draw-entry.ensures.same) (one_told now next c.serve_stamped-hand.result.2.entry c.serve_stamped-hand.ensures.told)
+    let next = g.D.Door.store c.serve_asked-hand.result.1 in
+    subst (λ (e : Entry). AreFaultsTold now next (e ∷ [])) (sym c.draw-entry.ensures.same) (one_told now next c.serve_asked-hand.result.2.entry c.serve_asked-hand.ensures.told)
 
 pub returns-clause-resting : goal.returns-clause-resting
 returns-clause-resting g c =
     let at = (goal.at.returns-clause-resting g c).After-draw-entry in
     let k = g.N.Naming.start in
-    let next = g.D.Door.store c.serve_stamped-hand.result.1 in
+    let next = g.D.Door.store c.serve_asked-hand.result.1 in
     let before = had_as k (more g at) in
     subst (λ (e : Entry). IsResting k g.D.Door.keeps g.F.Since.count c.args.asked.client 1 (had_as k (g.T.Telling.history ++ e ∷ [])) next c.scatter.new.hand c.scatter.new.apart) (sym c.draw-entry.ensures.same) (record {
       parted = c.scatter.ensures.parted before (drawn g at);
