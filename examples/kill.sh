@@ -4,7 +4,8 @@
 #     examples/kill.sh [SECONDS]
 #
 # The session appends one byte after another to /log, each with an fsync. It is killed by signal 9 after so many seconds,
-# 2 where none are given.
+# 2 where none are given. `recovered N` counts the transactions since the last checkpoint: where the journal was full before
+# the kill there are more appends than that.
 set -u
 cd "$(dirname "$0")/.." || exit 1
 folder="$(mktemp -d)"

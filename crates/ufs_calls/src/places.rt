@@ -9,7 +9,7 @@ ghost use Rattle.ufs_model.specs.declared.data.Errno.TheVariants.{Efbig};
 use std::alloc::{AllocError, Global};
 use ufs_base::Memory;
 use ufs_model::{Bytes, Desc, Errno, Whence};
-use ufs_path::{PathText, path_fault, read_path};
+use ufs_path::{PathFault, PathText, path_fault, read_path};
 
 /// The greatest size of a file, in bytes.
 pub const MAX_SIZE: u64 = 16_777_216;
@@ -31,11 +31,13 @@ pub fn text_refusal(path: &Bytes) -> Option<Errno>
 
 /// The components of a path whose text isn't refused.
 pub fn text(alloc: Global, path: &Bytes) -> Result<PathText, Memory>
+    requires { paths.text_refusal path.now ≡ None }
     ensures { IfOk result (λ text. text ≡ paths.components path.now) }
 {
     match read_path(alloc, path.as_slice()) {
         Ok(text) => Ok(text),
-        Err(_) => Err(Memory),
+        Err(PathFault::Memory(memory)) => Err(memory),
+        Err(_) => unreachable!(),
     }
 }
 

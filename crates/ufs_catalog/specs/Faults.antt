@@ -4,7 +4,7 @@ use Rattle.ufs_base.specs.Faults.{RoseTo}
 use Rattle.ufs_image.specs.Volume.{Refusal}
 use Rattle.ufs_image.specs.Volume as image
 use Rattle.ufs_catalog.specs.declared.fault.RecoverFault.{RecoverFault}
-use Rattle.ufs_catalog.specs.declared.fault.RecoverFault.TheVariants.{NoSuperblock, BadVersion, BadGeometry, BadRecord, BadTree, Device, Memory}
+use Rattle.ufs_catalog.specs.declared.fault.RecoverFault.TheVariants.{NoSuperblock, BadVersion, BadGeometry, BadRecord, BadTree, Device, Lack}
 
 -- what a fault says of the disk's count of faults
 abbrev pub HasFaultCause : ℕ → ℕ → RecoverFault → Type 0
@@ -14,12 +14,12 @@ HasFaultCause before now (BadGeometry number) = now ≡ before
 HasFaultCause before now (BadRecord sector) = now ≡ before
 HasFaultCause before now (BadTree inode) = now ≡ before
 HasFaultCause before now (Device fault) = RoseTo before now fault
-HasFaultCause before now Memory = now ≡ before
+HasFaultCause before now (Lack _) = now ≡ before
 
 -- It is no cause that the image has.
 abbrev pub IsOutside : RecoverFault → Type 0
 IsOutside (Device fault) = Unit {0}
-IsOutside Memory = Unit {0}
+IsOutside (Lack _) = Unit {0}
 IsOutside _ = ⊥
 
 -- The refusal is the one that is found; a fault that comes from outside says nothing of the image.
@@ -30,7 +30,7 @@ IsRefusal found (BadGeometry number) = found ≡ Some (image.BadGeometry number)
 IsRefusal found (BadRecord sector) = found ≡ Some (image.BadRecord sector)
 IsRefusal found (BadTree inode) = found ≡ Some (image.BadTree inode)
 IsRefusal found (Device fault) = Unit {0}
-IsRefusal found Memory = Unit {0}
+IsRefusal found (Lack _) = Unit {0}
 
 -- The same of what an image gives, or of why it gives nothing.
 abbrev pub IsWhyNot : {X : Type 0} → Result X Refusal → RecoverFault → Type 0
@@ -40,7 +40,7 @@ IsWhyNot given (BadGeometry number) = given ≡ Err (image.BadGeometry number)
 IsWhyNot given (BadRecord sector) = given ≡ Err (image.BadRecord sector)
 IsWhyNot given (BadTree inode) = given ≡ Err (image.BadTree inode)
 IsWhyNot given (Device fault) = Unit {0}
-IsWhyNot given Memory = Unit {0}
+IsWhyNot given (Lack _) = Unit {0}
 
 -- It blames no inode.
 abbrev pub BlamesNone : RecoverFault → Type 0

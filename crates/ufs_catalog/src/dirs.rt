@@ -18,7 +18,7 @@ ghost use Rattle.ufs_catalog.specs.Told.{slots_in};
 use crate::RecoverFault;
 use crate::reading::read_block;
 use std::alloc::{AllocError, Global};
-use ufs_base::BLOCK;
+use ufs_base::{BLOCK, Lack};
 use ufs_damage::{ReadDir, is_sound};
 use ufs_disk::Disk;
 use ufs_layout::{Dentry, Extent, Geometry, Inode, get_dentry};
@@ -133,6 +133,9 @@ pub(crate) fn read_dir<D: Disk>(
         return Ok(());
     }
     let slots = read_slots(alloc, disk, geometry, overlay, found)?;
+    if slots.len() > u32::MAX as usize {
+        return Err(RecoverFault::Lack(Lack::AtEnd));
+    }
     push_dir(dirs, ReadDir::from_slots(inode, slots))?;
     Ok(())
 }

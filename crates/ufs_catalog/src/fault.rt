@@ -1,4 +1,5 @@
 use std::alloc::AllocError;
+use ufs_base::{Lack, Memory};
 
 /// Why an image isn't read.
 #[derive(Clone, Copy, Debug, PartialEq, Eq)]
@@ -16,17 +17,42 @@ pub enum RecoverFault {
     BadTree { inode: u32 },
     /// A call of the disk failed; the disk's count of faults after it.
     Device { fault: u64 },
-    /// No memory.
-    Memory,
+    /// No memory, or no next number.
+    Lack(Lack),
+}
+
+impl From<Lack> for RecoverFault {
+    ghost use Rattle.std.specs.Prelude.{◌≡◌};
+    ghost use Rattle.ufs_catalog.specs.declared.fault.RecoverFault.TheVariants as fault;
+
+    ghost from_gives = { λ l e. e ≡ fault.Lack l };
+
+    fn from(lack: Lack) -> RecoverFault {
+        RecoverFault::Lack(lack)
+    }
+}
+
+impl From<Memory> for RecoverFault {
+    ghost use Rattle.std.specs.Prelude.{◌≡◌};
+    ghost use Rattle.ufs_base.specs.declared.lack.Lack.TheVariants as lack;
+    ghost use Rattle.ufs_catalog.specs.declared.fault.RecoverFault.TheVariants as fault;
+
+    ghost from_gives = { λ m e. e ≡ fault.Lack (lack.Memory m) };
+
+    fn from(memory: Memory) -> RecoverFault {
+        RecoverFault::Lack(Lack::Memory(memory))
+    }
 }
 
 impl From<AllocError> for RecoverFault {
     ghost use Rattle.std.specs.Prelude.{◌≡◌};
+    ghost use Rattle.ufs_base.specs.Wanting.{wanting};
+    ghost use Rattle.ufs_base.specs.declared.lack.Lack.TheVariants as lack;
     ghost use Rattle.ufs_catalog.specs.declared.fault.RecoverFault.TheVariants as fault;
 
-    ghost from_gives = { λ _ e. e ≡ fault.Memory };
+    ghost from_gives = { λ _ e. e ≡ fault.Lack (lack.Memory wanting) };
 
-    fn from(_e: AllocError) -> RecoverFault {
-        RecoverFault::Memory
+    fn from(refused: AllocError) -> RecoverFault {
+        RecoverFault::Lack(Lack::from(refused))
     }
 }

@@ -63,7 +63,7 @@ fn compare_block<D: Disk>(
     read_block(disk, overlay, block, &mut bytes)?;
     match compare_sectors(list, taken, place, &bytes) {
         Ok(()) => Ok(()),
-        Err(Memory) => Err(RecoverFault::Memory),
+        Err(memory) => Err(RecoverFault::from(memory)),
     }
 }
 

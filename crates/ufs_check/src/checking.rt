@@ -57,7 +57,7 @@ fn told_of<D: Disk>(
     let findings = read_findings(alloc, disk, geometry, overlay)?;
     match told(alloc, geometry, &findings) {
         Ok(both) => Ok(both),
-        Err(Memory) => Err(RecoverFault::Memory),
+        Err(memory) => Err(RecoverFault::from(memory)),
     }
 }
 

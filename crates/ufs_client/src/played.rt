@@ -53,17 +53,17 @@ impl ToldLists {
 #[derive(Clone, Copy, Debug, PartialEq, Eq)]
 pub enum EndFault {
     /// No memory was left for a server, or to keep an entry or a transcript.
-    Memory,
+    Memory(Memory),
 }
 
 impl From<Memory> for EndFault {
     ghost use Rattle.std.specs.Prelude.{◌≡◌};
     ghost use Rattle.ufs_client.specs.declared.played.EndFault.TheVariants as fault;
 
-    ghost from_gives = { λ _ e. e ≡ fault.Memory };
+    ghost from_gives = { λ m e. e ≡ fault.Memory m };
 
-    fn from(_: Memory) -> Self {
-        EndFault::Memory
+    fn from(memory: Memory) -> Self {
+        EndFault::Memory(memory)
     }
 }
 

@@ -3,7 +3,6 @@ ghost use Rattle.std.specs.Prelude.{◌≡◌, ◌<◌, ◌^◌, length, IfOk};
 ghost use Rattle.std.specs.List.{enumerate_from};
 
 use std::marker::Model;
-use ufs_base::Memory;
 use ufs_layout::{Dentry, Inode};
 
 /// A directory and the slots of its blocks, those of its first block first, `None` where a slot is off its
@@ -15,17 +14,21 @@ pub struct ReadDir {
 }
 
 impl Model for ReadDir {
+    ghost use Rattle.std.specs.Prelude.{◌<◌, ◌^◌, length};
     ghost use Rattle.std.specs.List.{enumerate_from};
     ghost use Rattle.ufs_image.specs.Nodes.{Dir};
 
     ghost Value = { Dir };
 
     ghost view = { λ d. record { inode = d.inode; slots = enumerate_from 0 d.slots.items } };
+
+    ghost invariant = { λ d. length d.slots.items < 2 ^ 32 };
 }
 
 impl ReadDir {
     /// Takes no memory.
     pub fn from_slots(inode: u32, slots: Vec<Option<Dentry>>) -> ReadDir
+        requires { length slots.items < 2 ^ 32 }
         ensures { result ≡ record { inode = inode; slots = enumerate_from 0 slots.items } }
     {
         ReadDir { inode, slots }
@@ -45,16 +48,12 @@ impl ReadDir {
         self.slots.as_slice()
     }
 
-    // The same, where a place can count them; more than that count as want of memory.
-    pub(crate) fn counted_slots(&self) -> Result<&[Option<Dentry>], Memory>
-        ensures places { IfOk result (λ slots. enumerate_from 0 slots.now ≡ self.now.slots) }
-        ensures few { IfOk result (λ slots. length slots.now < 2 ^ 32) }
+    // The same, which a place can count.
+    pub(crate) fn counted_slots(&self) -> &[Option<Dentry>]
+        ensures places { enumerate_from 0 result.now ≡ self.now.slots }
+        ensures few { length result.now < 2 ^ 32 }
     {
-        let slots = self.slots.as_slice();
-        if slots.len() > u32::MAX as usize {
-            return Err(Memory);
-        }
-        Ok(slots)
+        self.slots.as_slice()
     }
 }
 

@@ -70,7 +70,7 @@ fn push_twice_of(
 fn push_dir_twice(list: &mut DamageList, alloc: Global, dir: &ReadDir) -> Result<(), Memory>
     ensures { OnOk result (list.new ≡ list.old ++ map (λ (n : NamedSlot). NameTwice dir.now.inode n.0) (filter (is_name_twice dir.now) (names_of dir.now))) }
 {
-    let slots = dir.counted_slots()?;
+    let slots = dir.counted_slots();
     push_twice_of(list, alloc, dir.inode(), slots)?;
     Ok(())
 }

@@ -133,7 +133,7 @@ fn push_dir_slots(
 ) -> Result<(), Memory>
     ensures { OnOk result (list.new ≡ list.old ++ slots_damage kind forms.now dir.now) }
 {
-    let slots = dir.counted_slots()?;
+    let slots = dir.counted_slots();
     push_slots_of(list, kind, forms, dir.inode(), slots)?;
     Ok(())
 }

@@ -48,7 +48,7 @@ fn add_block(dir: &mut DirBlocks, block: u32) -> Result<(), Excuse>
     }
     match dir.add_block(block) {
         Ok(()) => Ok(()),
-        Err(_) => Err(Excuse::Memory),
+        Err(memory) => Err(Excuse::from(memory)),
     }
 }
 

@@ -1,10 +1,11 @@
 -- What became of a disk's file.
-use Rattle.std.specs.Prelude.{Bool, true, false, Option, Some, None}
+use Rattle.ufs_disk.specs.File.{FileState}
+use Rattle.ufs_disk.specs.File as file
 use Rattle.ufs_disk.specs.declared.file.Handle.{Handle}
-use Rattle.ufs_disk.specs.declared.file.Handle.TheVariants.{Unopened, Open, Refused}
+use Rattle.ufs_disk.specs.declared.file.Handle.TheVariants.{Unopened, Missing, Open, Refused}
 
--- whether it could be opened, once that was tried
-abbrev pub opened_of : Handle → Option Bool
-opened_of Unopened = None
-opened_of (Open file) = Some true
-opened_of Refused = Some false
+abbrev pub state_of : Handle → FileState
+state_of Unopened = file.Unopened
+state_of Missing = file.Missing
+state_of (Open opened) = file.Open
+state_of Refused = file.Refused

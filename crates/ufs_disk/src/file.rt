@@ -1,4 +1,7 @@
-ghost use Rattle.std.specs.Prelude.{◌≡◌, ◌≤◌, ◌<◌, ◌+◌, ◌^◌, length, true, false, IsTrue, OnOk, IfErr, Some, None, IsSome};
+ghost use Rattle.std.specs.Prelude.{◌≡◌, ◌≢◌, ◌≤◌, ◌<◌, ◌+◌, ◌^◌, length, false, Ok, IsTrue, OnOk, IfErr};
+ghost use Rattle.ufs_disk.specs.Bytes.{AreZeros};
+ghost use Rattle.ufs_disk.specs.File.{CanAnswer, IsSettledFile, Missing, Open, Unopened};
+ghost use Rattle.ufs_disk.specs.Handles.{state_of};
 ghost use Rattle.ufs_disk.specs.Moments.{unseen};
 ghost use Rattle.ufs_base.specs.Faults.{HasCause};
 ghost use Rattle.ufs_disk.specs.Props.{untrue};
@@ -6,7 +9,7 @@ ghost use Rattle.std.proofs.Common.{rules};
 
 use crate::{Disk, Fault};
 use std::fs::{File, Files, OpenOptions};
-use std::io;
+use std::io::{self, ErrorKind};
 use std::marker::Model;
 use std::os::unix::fs::FileExt;
 use ufs_base::SECTOR;
@@ -14,18 +17,23 @@ use ufs_base::SECTOR;
 /// The sectors of a disk over a file: 256 MiB.
 pub const FILE_SECTORS: u32 = 524_288;
 
-// What became of the file.
+// What became of the file. The lock is held as long as the file is open.
 #[derive(Drop)]
 enum Handle {
     Unopened,
+    Missing,
     Open(File),
     Refused,
 }
 
-/// A disk of `FILE_SECTORS` sectors over a file. The file is opened at the disk's first call, and
-/// made there where it is missing; where it can't be opened, that call and every later one fails.
-/// Past the file's end the disk reads zeros. Contracts don't see what it holds. Each error of the
-/// system is a fault.
+/// A disk of `FILE_SECTORS` sectors over a file. The disk's first call opens the file and takes its
+/// lock, which the disk holds to its end: where another holds the lock, or the file can't be opened,
+/// that call and every later one fails. A file that is missing reads zeros, as does a file past its
+/// end. The first write makes it, and fails where it is there by then. Contracts don't see what it
+/// holds. Each error of the system is a fault.
+///
+/// The lock is the advisory one of Linux's `flock`: it keeps out those that ask for it, as every
+/// such disk does.
 #[derive(Drop)]
 pub struct FileDisk<'a, R: Files<File = File>> {
     files: &'a R,
@@ -36,17 +44,17 @@ pub struct FileDisk<'a, R: Files<File = File>> {
 
 impl<'a, R: Files<File = File>> Model for FileDisk<'a, R> {
     ghost use Rattle.ufs_disk.specs.File.{FileView};
-    ghost use Rattle.ufs_disk.specs.Handles.{opened_of};
+    ghost use Rattle.ufs_disk.specs.Handles.{state_of};
 
     ghost Value = { FileView };
 
-    ghost view = { λ d. record { opened = opened_of d.handle; faults = d.faults } };
+    ghost view = { λ d. record { file = state_of d.handle; faults = d.faults } };
 }
 
 impl<'a, R: Files<File = File>> FileDisk<'a, R> {
     /// The disk over the file of that path.
     pub fn new(files: &'a R, path: &'a str) -> Self
-        ensures { result ≡ record { opened = None; faults = 0 } }
+        ensures { result ≡ record { file = Unopened; faults = 0 } }
     {
         FileDisk {
             files,
@@ -56,17 +64,35 @@ impl<'a, R: Files<File = File>> FileDisk<'a, R> {
         }
     }
 
-    // Opens the file, if no call has tried that.
+    // Opens the file and takes its lock, if no call has tried that.
     fn open(&mut self)
-        ensures tried { IsSome self.new.opened }
-        ensures kept { IsSome self.old.opened → self.new.opened ≡ self.old.opened }
+        ensures tried { self.new.file ≢ Unopened }
+        ensures kept { self.old.file ≢ Unopened → self.new.file ≡ self.old.file }
         ensures faults { self.new.faults ≡ self.old.faults }
     {
         if let Handle::Unopened = &self.handle {
-            let mut options = OpenOptions::new();
-            options.read(true).write(true).create(true);
-            self.handle = match options.open(self.files, self.path) {
-                Ok(file) => Handle::Open(file),
+            self.handle = match reading_and_writing().open(self.files, self.path) {
+                Ok(file) => locked(file),
+                Err(error) if error.kind() == ErrorKind::NotFound => Handle::Missing,
+                Err(_) => Handle::Refused,
+            };
+        }
+    }
+
+    // Opens the file to write: makes it where it was missing.
+    fn open_to_write(&mut self)
+        ensures tried { self.new.file ≢ Unopened }
+        ensures made { self.new.file ≢ Missing }
+        ensures kept { IsSettledFile self.old.file → self.new.file ≡ self.old.file }
+        ensures faults { self.new.faults ≡ self.old.faults }
+    {
+        self.open();
+        if let Handle::Missing = &self.handle {
+            let made = reading_and_writing()
+                .create_new(true)
+                .open(self.files, self.path);
+            self.handle = match made {
+                Ok(file) => locked(file),
                 Err(_) => Handle::Refused,
             };
         }
@@ -75,7 +101,8 @@ impl<'a, R: Files<File = File>> FileDisk<'a, R> {
     // Passes on whether a call was done, and counts a fault.
     fn told(&mut self, done: bool) -> Result<(), Fault>
         ensures done { OnOk result (IsTrue done) }
-        ensures kept { self.new.opened ≡ self.old.opened }
+        ensures passed { IsTrue done → result ≡ Ok tt }
+        ensures kept { self.new.file ≡ self.old.file }
         ensures cause { HasCause self.old.faults self.new.faults result }
         ensures number { IfErr result (λ fault. fault.number ≡ self.new.faults) }
     {
@@ -86,6 +113,22 @@ impl<'a, R: Files<File = File>> FileDisk<'a, R> {
         Err(Fault {
             number: self.faults,
         })
+    }
+}
+
+fn reading_and_writing() -> OpenOptions {
+    let mut options = OpenOptions::new();
+    options.read(true).write(true);
+    options
+}
+
+// The file with its lock, unless another holds it.
+fn locked(file: File) -> Handle
+    ensures { IsSettledFile (state_of result) }
+{
+    match file.try_lock() {
+        Ok(()) => Handle::Open(file),
+        Err(_) => Handle::Refused,
     }
 }
 
@@ -135,14 +178,20 @@ impl<'a, R: Files<File = File>> Disk for FileDisk<'a, R> {
 
     fn read(&mut self, sector: u32, buf: &mut [u8]) -> Result<(), Fault>
         requires { IsRange 524288 sector (length buf.old) }
-        ensures open { OnOk result (self.new.opened ≡ Some true) }
-        ensures kept { IsSome self.old.opened → self.new.opened ≡ self.old.opened }
+        ensures open { OnOk result (CanAnswer self.new.file) }
+        ensures kept { self.old.file ≢ Unopened → self.new.file ≡ self.old.file }
+        ensures zeros { self.new.file ≡ Missing → AreZeros buf.new }
+        ensures missing { self.new.file ≡ Missing → result ≡ Ok tt }
         ensures cause { HasCause self.old.faults self.new.faults result }
         ensures number { IfErr result (λ fault. fault.number ≡ self.new.faults) }
     {
         self.open();
         let done = match &self.handle {
             Handle::Open(file) => fill(file, offset(sector), buf).is_ok(),
+            Handle::Missing => {
+                buf.fill(0);
+                true
+            }
             Handle::Unopened | Handle::Refused => false,
         };
         self.told(done)
@@ -150,28 +199,31 @@ impl<'a, R: Files<File = File>> Disk for FileDisk<'a, R> {
 
     fn write(&mut self, sector: u32, bytes: &[u8]) -> Result<(), Fault>
         requires { IsRange 524288 sector (length bytes.now) }
-        ensures open { OnOk result (self.new.opened ≡ Some true) }
-        ensures kept { IsSome self.old.opened → self.new.opened ≡ self.old.opened }
+        ensures open { OnOk result (self.new.file ≡ Open) }
+        ensures kept { IsSettledFile self.old.file → self.new.file ≡ self.old.file }
+        ensures made { self.new.file ≢ Missing }
         ensures cause { HasCause self.old.faults self.new.faults result }
         ensures number { IfErr result (λ fault. fault.number ≡ self.new.faults) }
     {
-        self.open();
+        self.open_to_write();
         let done = match &self.handle {
             Handle::Open(file) => file.write_all_at(bytes, offset(sector)).is_ok(),
-            Handle::Unopened | Handle::Refused => false,
+            Handle::Unopened | Handle::Missing | Handle::Refused => false,
         };
         self.told(done)
     }
 
     fn barrier(&mut self) -> Result<(), Fault>
-        ensures open { OnOk result (self.new.opened ≡ Some true) }
-        ensures kept { IsSome self.old.opened → self.new.opened ≡ self.old.opened }
+        ensures open { OnOk result (CanAnswer self.new.file) }
+        ensures kept { self.old.file ≢ Unopened → self.new.file ≡ self.old.file }
+        ensures missing { self.new.file ≡ Missing → result ≡ Ok tt }
         ensures cause { HasCause self.old.faults self.new.faults result }
         ensures number { IfErr result (λ fault. fault.number ≡ self.new.faults) }
     {
         self.open();
         let done = match &self.handle {
             Handle::Open(file) => file.sync_all().is_ok(),
+            Handle::Missing => true,
             Handle::Unopened | Handle::Refused => false,
         };
         self.told(done)

@@ -17,3 +17,4 @@ pub mod Owned
 pub mod Histories
 pub mod Wholes
 pub mod Fetched
+mod Lacks

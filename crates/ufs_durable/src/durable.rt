@@ -2,6 +2,7 @@ ghost use Rattle.std.specs.Prelude.{ℕ, List, ◌≡◌, ◌≢◌, ◌+◌, �
 ghost use Rattle.std.specs.FinSet as set;
 ghost use Rattle.ufs_bitmap.specs.Blocks.{BlockSet};
 ghost use Rattle.ufs_bitmap.specs.Taking.{IsApart, set_of};
+ghost use Rattle.ufs_base.specs.declared.lack.Lack.{Lack};
 ghost use Rattle.ufs_disk.specs.Moments.{LeavesOnly, Moments};
 ghost use Rattle.ufs_extent.specs.Runs.{blocks_of};
 ghost use Rattle.ufs_ilog.specs.Deltas.{IsDelta, fresh_log};
@@ -9,6 +10,7 @@ ghost use Rattle.ufs_layout.specs.Areas.{is_inode_number};
 ghost use Rattle.ufs_layout.specs.declared.records.LogRecord.{LogRecord};
 ghost use Rattle.ufs_ledger.specs.Changes.{settled};
 ghost use Rattle.ufs_ledger.specs.Ledger.{IsLedgerOf, IsLeftBy, Ledger};
+ghost use Rattle.ufs_store.specs.Ends.{IsLackOf};
 ghost use Rattle.ufs_store.specs.Blocks.{MayReturn};
 ghost use Rattle.ufs_store.specs.Ledgers.{HasAny, HasLedger, IsLeftByAny, MayCommitNext, after_commit, checkpointed, stages};
 ghost use Rattle.ufs_store.specs.Refusals.{IsTold, fault_in, is_no_space, stop_after};
@@ -102,7 +104,8 @@ pub fn fsync<D: Door>(
     ensures device { IsTrue D.visible → (records : List LogRecord) → IsDelta commits.old.log.inode commits.old.log.committed commits.old.log.noted records → commits.old.log.noted ≢ commits.old.log.committed
         → (fault : ℕ) → result ≡ Err (refusal.Device fault) → (l : Ledger) → HasLedger (D.store door.old) l → MayWriteAll l (writes_of hand.old) → MayCommitNext (D.store door.old) records l
         → HasTriedOne (D.store door.new) (writes_of hand.old) l ⊎ ((between : Moments) × HasAny (D.store door.new) (stages (at_moments between (D.store door.old)) records (with_writes (writes_of hand.old) l))) }
-    ensures memory { IsTrue D.visible → result ≡ Err refusal.Memory → (l : Ledger) → HasLedger (D.store door.old) l → MayWriteAll l (writes_of hand.old)
+    ensures lack { (w : Lack) → result ≡ Err (refusal.Lack w) → IsLackOf (D.store door.old) w }
+    ensures memory { IsTrue D.visible → (w : Lack) → result ≡ Err (refusal.Lack w) → (l : Ledger) → HasLedger (D.store door.old) l → MayWriteAll l (writes_of hand.old)
         → HasLedger (D.store door.new) (with_writes (writes_of hand.old) l) ⊎ ((between : Moments) × HasLedger (D.store door.new) (checkpointed (at_moments between (D.store door.old)) (with_writes (writes_of hand.old) l))) }
 
     // With nothing to commit but bytes.

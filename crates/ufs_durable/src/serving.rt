@@ -24,7 +24,7 @@ ghost use Rattle.ufs_durable.specs.Serving.{IsApplied, IsServedKept, content_beh
 use crate::durable::FileCommits;
 use std::alloc::Global;
 use std::mem;
-use ufs_base::{BLOCK, Memory};
+use ufs_base::{BLOCK, Lack, Memory};
 use ufs_bitmap::Pool;
 use ufs_calls::{MAX_SIZE, desc_refusal, is_past, place_of};
 use ufs_extent::{Extents, Run, Runs};
@@ -139,8 +139,9 @@ fn apply_growing(
     ensures { IsApplied (state_of hand.old commits.old) (state_of hand.new commits.new) pool.old pool.new ask by ticket result.entry result.desc }
 {
     is_whole(hand);
-    let Ok(before) = Extents::from_runs(commits.alloc, hand.extent_list().as_slice()) else {
-        return out_of_memory(ask, by, ticket);
+    let before = match Extents::from_runs(commits.alloc, hand.extent_list().as_slice()) {
+        Ok(before) => before,
+        Err(memory) => return out_of_memory(ask, by, ticket, Lack::Memory(memory)),
     };
     let applied = hand.apply(ask, by, ticket, pool);
     commits.note(&before, hand);
@@ -189,13 +190,14 @@ fn apply_cutting(
     ensures { (pool : BlockSet) → IsApplied (state_of hand.old commits.old) (state_of hand.new commits.new) pool pool ask by ticket result.entry result.desc }
 {
     is_whole(hand);
-    let Ok(mut cut) = Cut::make(commits.alloc, hand, blocks) else {
-        return out_of_memory(ask, by, ticket);
+    let mut cut = match Cut::make(commits.alloc, hand, blocks) {
+        Ok(cut) => cut,
+        Err(memory) => return out_of_memory(ask, by, ticket, Lack::Memory(memory)),
     };
     let count = commits.dropped.as_slice().len();
-    let Ok(()) = commits.drop_too(cut.rest.as_slice()) else {
-        return out_of_memory(ask, by, ticket);
-    };
+    if let Err(memory) = commits.drop_too(cut.rest.as_slice()) {
+        return out_of_memory(ask, by, ticket, Lack::Memory(memory));
+    }
     let applied = hand.apply(ask, by, ticket, &mut cut.own);
     if let Reply::Excused(_) = applied.entry.reply {
         is_whole(hand);

@@ -4,6 +4,8 @@ use Rattle.std.specs.Prelude.{OnOk, ◌↔◌}
 use Rattle.std.specs.Prelude.{nat_le}
 use Rattle.std.specs.List.{IsDistinct}
 use Rattle.std.proofs.lemmas.Bool.Decides.{nat_tests}
+use Rattle.ufs_base.specs.Wanting.{wanting}
+use Rattle.ufs_base.specs.declared.lack.Lack.{Lack}
 use Rattle.ufs_base.specs.Faults.{RoseTo}
 use Rattle.ufs_client.specs.declared.played.EndFault.{EndFault}
 use Rattle.ufs_client.specs.declared.played.EndFault.TheVariants as session
@@ -43,7 +45,7 @@ played_as start clients told ended other history leads is = record {
     as_ok (Err fault) (Err other) ok leads = cc
 
 -- where nothing is served
-pub none_played : (start : PosixTree) (clients : List (List Op)) → IsPlayedFrom start clients [] (Err session.Memory) []
+pub none_played : (start : PosixTree) (clients : List (List Op)) → IsPlayedFrom start clients [] (Err (session.Memory wanting)) []
 none_played start clients = record {
   merged = record { rising = tt; each = λ client. refl };
   each = λ ok. cc;
@@ -53,9 +55,9 @@ none_played start clients = record {
   complete = λ ok. cc;
 }
 
-pub not_served : {W : Type 0} (end : PlayFault) (fault : StartFault) → (end ≡ ending.Image fault) ⊎ ((end ≡ ending.Memory) × W) → served_end (Err end) ≡ Err session.Memory
+pub not_served : {W : Lack → Type 0} (end : PlayFault) (fault : StartFault) → (end ≡ ending.Image fault) ⊎ ((w : Lack) × ((end ≡ ending.Lack w) × W w)) → served_end (Err end) ≡ Err (session.Memory wanting)
 not_served end fault (inl is) = ap (λ (e : PlayFault). served_end (Err e)) is
-not_served end fault (inr is) = ap (λ (e : PlayFault). served_end (Err e)) is.0
+not_served end fault (inr is) = ap (λ (e : PlayFault). served_end (Err e)) is.1.0
 
 -- ---- faults
 
@@ -177,7 +179,7 @@ module _ (old new : StoreState) (going : old.stop ≡ None) (history : List Entr
   end_fault (Err (ending.Device fault)) done device at = closing_of fault (device fault refl)
   end_fault (Err (ending.Stopped fault)) done device at = stop_of fault (at fault refl)
   end_fault (Err (ending.Image fault)) done device at = tt
-  end_fault (Err ending.Memory) done device at = tt
+  end_fault (Err (ending.Lack _)) done device at = tt
 
 -- where nobody is told anything
 pub no_faults : (before now : ℕ) → AreFaultsOf before now []

@@ -105,7 +105,7 @@ told_behind before after {now} x fault same told is =
 stopped_is : (x : CloseFault) (fault : ℕ) → stopped_at x ≡ Some fault → x ≡ cause.Stopped fault
 stopped_is (cause.Device n) fault e = cc
 stopped_is (cause.Stopped n) fault e = cc
-stopped_is cause.Memory fault e = cc
+stopped_is (cause.Lack _) fault e = cc
 
 excuse_is : (x : Excuse) (fault : ℕ) → stopped_of x ≡ Some fault → x ≡ excuse.Stopped fault
 excuse_is excuse.Memory fault e = cc

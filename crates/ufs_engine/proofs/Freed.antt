@@ -61,5 +61,5 @@ module _ (sectors : ℕ) (before : images.Image) (after : State) (recovered : Is
 pub none_mended : (sectors : ℕ) (before : images.Image) (after : State) → IsRecovered before (seen after) → IsCleanDisk sectors after → (fault : StartFault) → TellsNoStart sectors (seen after) fault → TellsNoSession sectors (seen after) fault
 none_mended sectors before after recovered clean (Image fault) tells = tells
 none_mended sectors before after recovered clean (Unreached inode) tells = no_dir sectors before after recovered clean tells.0 tells.1.taken inode tells.2
-none_mended sectors before after recovered clean (Unnamed inode) tells = no_file sectors before after recovered clean tells.0 tells.1.taken inode tells.2
+none_mended sectors before after recovered clean (Unnamed inode) tells = no_file sectors before after recovered clean tells.0 tells.1.taken inode tells.2.0
 none_mended sectors before after recovered clean (ExtraBlocks inode) tells = no_block sectors before after recovered clean tells.0 tells.1.taken inode tells.2.0 tells.2.1.0 tells.2.1.1

@@ -5,7 +5,7 @@ use Rattle.ufs_base.specs.Images as images
 use Rattle.ufs_catalog.specs.Faults.{IsOutside, IsWhyNot}
 use Rattle.ufs_catalog.specs.Reading.{IsReadOnly}
 use Rattle.ufs_catalog.specs.declared.fault.RecoverFault.{RecoverFault}
-use Rattle.ufs_catalog.specs.declared.fault.RecoverFault.TheVariants.{NoSuperblock, BadVersion, BadGeometry, BadRecord, BadTree, Device, Memory}
+use Rattle.ufs_catalog.specs.declared.fault.RecoverFault.TheVariants.{NoSuperblock, BadVersion, BadGeometry, BadRecord, BadTree, Device, Lack}
 use Rattle.ufs_disk.specs.Disk.{IsImage, Leaves, State, seen}
 use Rattle.ufs_disk.specs.Moments.{Moments, reads}
 use Rattle.ufs_disk.proofs.Images.{seen_is_image}
@@ -115,7 +115,7 @@ outside_why sectors image (BadGeometry number) is = absurd is
 outside_why sectors image (BadRecord sector) is = absurd is
 outside_why sectors image (BadTree inode) is = absurd is
 outside_why sectors image (Device fault) is = tt
-outside_why sectors image Memory is = tt
+outside_why sectors image (Lack _) is = tt
 
 pub outside_session : (sectors : ℕ) (image : images.Image) (u : StartFault) → (fault : RecoverFault) × (u ≡ Image fault) × IsOutside fault → TellsNoSession sectors image u
 outside_session sectors image u why = subst (TellsNoSession sectors image) (sym why.1) (outside_why sectors image why.0 why.2)

@@ -2,7 +2,7 @@
 use Rattle.std.specs.Prelude.{ℕ, Option, Some, None, Result, Ok, Err}
 use Rattle.ufs_base.specs.Images.{Image}
 use Rattle.ufs_engine.specs.declared.closing.CloseFault.{CloseFault}
-use Rattle.ufs_engine.specs.declared.closing.CloseFault.TheVariants.{Device, Stopped, Memory}
+use Rattle.ufs_engine.specs.declared.closing.CloseFault.TheVariants.{Device, Stopped, Lack}
 use Rattle.ufs_disk.specs.Disk.{IsImage, State}
 use Rattle.ufs_recovery.specs.Home.{OpensAlike}
 
@@ -10,7 +10,7 @@ use Rattle.ufs_recovery.specs.Home.{OpensAlike}
 abbrev pub device_told_by : CloseFault → Option ℕ
 device_told_by (Device fault) = Some fault
 device_told_by (Stopped fault) = None
-device_told_by Memory = None
+device_told_by (Lack _) = None
 
 abbrev pub closing_fault : Result (Unit {0}) CloseFault → Option ℕ
 closing_fault (Ok x) = None
@@ -20,7 +20,7 @@ closing_fault (Err fault) = device_told_by fault
 abbrev pub stopped_at : CloseFault → Option ℕ
 stopped_at (Device fault) = None
 stopped_at (Stopped fault) = Some fault
-stopped_at Memory = None
+stopped_at (Lack _) = None
 
 -- The image opens as one does that a crash might have left before, and is proper where that one is.
 pub record OpensAsLeft (sectors : ℕ) (before : State) (image : Image) : Type 0 where

@@ -2,6 +2,7 @@
 use Rattle.std.specs.Prelude.{ℕ, ◌≡◌, ◌⊎◌, ◌-◌, ◌^◌, ◌++◌, Bool, IsTrue, List, [], Option, Some, None, Result, Ok, Err, nat_eq}
 use Rattle.std.specs.List.{IsDistinct}
 use Rattle.ufs_base.specs.Faults.{RoseTo}
+use Rattle.ufs_base.specs.Wanting.{wanting}
 use Rattle.ufs_disk.specs.Disk.{State}
 use Rattle.ufs_disk.specs.Moments.{Moments, all}
 use Rattle.ufs_client.specs.declared.played.EndFault.{EndFault}
@@ -11,7 +12,7 @@ use Rattle.ufs_model.specs.PosixTree.{PosixTree}
 use Rattle.ufs_model.specs.declared.data.Entry.{Entry}
 use Rattle.ufs_model.specs.declared.data.Op.{Op}
 use Rattle.ufs_engine.specs.declared.playing.PlayFault.{PlayFault}
-use Rattle.ufs_engine.specs.declared.playing.PlayFault.TheVariants.{Image, Device, Stopped, Memory}
+use Rattle.ufs_engine.specs.declared.playing.PlayFault.TheVariants.{Image, Device, Stopped, Lack}
 use Rattle.ufs_recovery.specs.Recovered.{IsProperDisk}
 use Rattle.ufs_session.specs.Played.{IsPlayedFrom}
 use Rattle.ufs_session.specs.Throughout.{AreMomentsStamped}
@@ -27,10 +28,10 @@ pub record MayPlay (visible : Bool) (sectors : ℕ) (state : State) : Type 0 whe
 -- how the serving ended: a fault of the closing comes behind it
 abbrev pub served_end : Result (Unit {0}) PlayFault → Result (Unit {0}) EndFault
 served_end (Ok x) = Ok tt
-served_end (Err (Image fault)) = Err session.Memory
+served_end (Err (Image fault)) = Err (session.Memory wanting)
 served_end (Err (Device fault)) = Ok tt
 served_end (Err (Stopped fault)) = Ok tt
-served_end (Err Memory) = Err session.Memory
+served_end (Err (Lack _)) = Err (session.Memory wanting)
 
 -- ---- faults
 

@@ -26,6 +26,7 @@ use crate::laws::{beginning_law, mounted_law};
 use crate::starting::recovered_start;
 use std::alloc::Global;
 use std::marker::Brand;
+use ufs_base::Lack;
 use ufs_catalog::RecoverFault;
 use ufs_disk::Disk;
 use ufs_hand::{Opened, Opening, Parts};
@@ -118,18 +119,24 @@ fn mount<D: Disk>(alloc: Global, disk: D, parts: Start) -> Result<Begun<D>, Unbe
     beginning_law();
     mounted_law(&parts.superblock.geometry);
     starts_can_begin();
-    let Ok(server) = DiskServer::begin(alloc, parts.names, parts.files) else {
-        return Err(Unbegun {
-            disk,
-            fault: StartFault::Image(RecoverFault::Memory),
-        });
+    let server = match DiskServer::begin(alloc, parts.names, parts.files) {
+        Ok(server) => server,
+        Err(memory) => {
+            return Err(Unbegun {
+                disk,
+                fault: StartFault::Image(RecoverFault::Lack(Lack::Memory(memory))),
+            });
+        }
     };
     let from = seen_parts::<D, Brand>(&disk, parts.parts);
-    let Ok(opened) = Opened::open(alloc, from) else {
-        return Err(Unbegun {
-            disk,
-            fault: StartFault::Image(RecoverFault::Memory),
-        });
+    let opened = match Opened::open(alloc, from) {
+        Ok(opened) => opened,
+        Err(refused) => {
+            return Err(Unbegun {
+                disk,
+                fault: StartFault::Image(RecoverFault::Lack(Lack::from(refused))),
+            });
+        }
     };
     match Store::mount(alloc, disk, superblock, parts.free) {
         Ok(store) => Ok(Begun {
@@ -158,13 +165,13 @@ fn seen_parts<D: Disk, P: Opening>(disk: &D, parts: Parts) -> Parts
 
 // A refusal of a mount, as one of an image.
 fn fault_of(fault: StoreFault) -> RecoverFault
+    requires { IsTrue (refusals.is_own fault) }
     ensures cause { (before now : ℕ) → IsTold before now (refusals.fault_of fault) → HasFaultCause before now result }
     ensures outside { IsOutside result }
 {
     match fault {
         StoreFault::Device { fault } => RecoverFault::Device { fault },
-        StoreFault::Stopped { .. } | StoreFault::NoSpace { .. } | StoreFault::Memory => {
-            RecoverFault::Memory
-        }
+        StoreFault::Lack(lack) => RecoverFault::Lack(lack),
+        StoreFault::Stopped { .. } | StoreFault::NoSpace { .. } => unreachable!(),
     }
 }

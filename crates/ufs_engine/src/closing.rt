@@ -17,6 +17,7 @@ ghost use Rattle.ufs_stored.specs.OnDisk.{IsExplainedBetween, IsOnDisk};
 ghost use Rattle.ufs_stored.specs.Sound.{IsSoundServer};
 
 use std::alloc::Global;
+use ufs_base::Lack;
 use ufs_catalog::RecoverFault;
 use ufs_disk::Disk;
 use ufs_last::last_law;
@@ -33,8 +34,8 @@ pub enum CloseFault {
     Device { fault: u64 },
     /// The store had stopped at this fault before.
     Stopped { fault: u64 },
-    /// No memory.
-    Memory,
+    /// No memory, or no next number.
+    Lack(Lack),
 }
 
 /// A disk behind a session, and how the closing ended.
@@ -102,7 +103,9 @@ fn unclean(fault: RecoverFault) -> CloseFault
 {
     match fault {
         RecoverFault::Device { fault } => CloseFault::Device { fault },
-        _ => CloseFault::Memory,
+        RecoverFault::Lack(lack) => CloseFault::Lack(lack),
+        // The disk gave back other bytes than it was given.
+        _ => CloseFault::Lack(Lack::Unsound),
     }
 }
 
@@ -114,6 +117,6 @@ fn fault_of(excuse: Excuse) -> CloseFault
     match excuse {
         Excuse::Device { fault } => CloseFault::Device { fault },
         Excuse::Stopped { fault } => CloseFault::Stopped { fault },
-        _ => CloseFault::Memory,
+        _ => CloseFault::Lack(Lack::Told),
     }
 }

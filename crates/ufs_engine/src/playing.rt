@@ -3,6 +3,7 @@ ghost use Rattle.std.specs.Prelude.{ℕ, ◌≡◌, ◌≢◌, ◌⊎◌, [], Er
 ghost use Rattle.ufs_engine.specs.Begins.{BeginsWith, TellsNoSession};
 ghost use Rattle.ufs_disk.specs.Disk.{Leaves};
 ghost use Rattle.ufs_disk.specs.Moments.{reads};
+ghost use Rattle.ufs_base.specs.declared.lack.Lack.{Lack};
 ghost use Rattle.ufs_catalog.specs.declared.fault.RecoverFault.{RecoverFault};
 ghost use Rattle.ufs_catalog.specs.declared.fault.RecoverFault.TheVariants as image;
 ghost use Rattle.ufs_engine.specs.declared.closing.CloseFault.TheVariants as cause;
@@ -26,6 +27,7 @@ ghost use Rattle.ufs_start.specs.declared.fault.StartFault.TheVariants as start;
 use crate::beginning::{Begun, begin};
 use crate::closing::{CloseFault, close};
 use std::alloc::Global;
+use ufs_base::Lack;
 use ufs_catalog::RecoverFault;
 use ufs_client::{EndFault, ToldLists};
 use ufs_disk::Disk;
@@ -33,7 +35,7 @@ use ufs_script::Script;
 use ufs_session::{Served, serve};
 use ufs_start::StartFault;
 
-/// Why a session isn't whole: no image to begin with, a fault of the closing, or want of memory.
+/// Why a session isn't whole: no image to begin with, a fault of the closing, or want of memory or of a number.
 #[derive(Clone, Copy, Debug, PartialEq, Eq)]
 pub enum PlayFault {
     /// No session begins with the image. Nothing was served. It is never for want of memory.
@@ -42,8 +44,8 @@ pub enum PlayFault {
     Device { fault: u64 },
     /// Each request was answered, and the store had stopped at this fault.
     Stopped { fault: u64 },
-    /// No memory was left to begin, to keep an entry or a transcript, or to close.
-    Memory,
+    /// No memory was left to begin, to keep an entry or a transcript, or to close; or no next number.
+    Lack(Lack),
 }
 
 /// A session that has ended, with the disk that it was given.
@@ -66,11 +68,11 @@ pub fn play<D: Disk>(alloc: Global, script: Script, _lease: u32, disk: D) -> Pla
     ensures legal { (start : PosixTree) × IsPlayedFrom start script.clients result.told (served_end result.ended) (joined result.told) }
     ensures once { AreTicketsOnce (joined result.told) }
     ensures refused { (fault : StartFault) → result.ended ≡ Err (ending.Image fault) → result.told ≡ [] }
-    ensures outside { result.ended ≢ Err (ending.Image (start.Image image.Memory)) }
+    ensures outside { (w : Lack) → result.ended ≢ Err (ending.Image (start.Image (image.Lack w))) }
     ensures opening { (fault : StartFault) → result.ended ≡ Err (ending.Image fault) → HasStartCause (D.faults disk) (D.faults result.disk) fault }
     ensures faults { AreFaultsOf (D.faults disk) (D.faults result.disk) (joined result.told) }
     ensures unopened { IsTrue D.visible → (refusal : Refusal) → opens (D.size disk) (reads (D.moments disk)) ≡ Err refusal
-        → (result.ended ≡ Err ending.Memory) ⊎ ((fault : RecoverFault) × (result.ended ≡ Err (ending.Image (start.Image fault))) × TellsWhy (D.size disk) (reads (D.moments disk)) fault) }
+        → ((w : Lack) × (result.ended ≡ Err (ending.Lack w))) ⊎ ((fault : RecoverFault) × (result.ended ≡ Err (ending.Image (start.Image fault))) × TellsWhy (D.size disk) (reads (D.moments disk)) fault) }
     ensures closing { IsEndFault (D.faults disk) (D.faults result.disk) (joined result.told) result.ended }
     ensures size { D.size result.disk ≡ D.size disk }
     // over a proper visible disk: the tree that its image stands for gives them
@@ -114,11 +116,11 @@ pub fn play<D: Disk>(alloc: Global, script: Script, _lease: u32, disk: D) -> Pla
 
 // Why nothing was served.
 fn unbegun_end(fault: StartFault) -> PlayFault
-    ensures which { (result ≡ ending.Image fault) ⊎ ((result ≡ ending.Memory) × (fault ≡ start.Image image.Memory)) }
-    ensures outside { result ≢ ending.Image (start.Image image.Memory) }
+    ensures which { (result ≡ ending.Image fault) ⊎ ((w : Lack) × ((result ≡ ending.Lack w) × (fault ≡ start.Image (image.Lack w)))) }
+    ensures outside { (w : Lack) → result ≢ ending.Image (start.Image (image.Lack w)) }
 {
     match fault {
-        StartFault::Image(RecoverFault::Memory) => PlayFault::Memory,
+        StartFault::Image(RecoverFault::Lack(lack)) => PlayFault::Lack(lack),
         fault => PlayFault::Image(fault),
     }
 }
@@ -131,13 +133,13 @@ fn whole_end(served: Result<(), EndFault>, closed: Result<(), CloseFault>) -> Re
     ensures stopped { (fault : ℕ) → result ≡ Err (ending.Stopped fault) → closed ≡ Err (cause.Stopped fault) }
     ensures begun { (fault : StartFault) → result ≢ Err (ending.Image fault) }
 {
-    if served.is_err() {
-        return Err(PlayFault::Memory);
+    if let Err(EndFault::Memory(memory)) = served {
+        return Err(PlayFault::Lack(Lack::Memory(memory)));
     }
     match closed {
         Ok(()) => Ok(()),
         Err(CloseFault::Device { fault }) => Err(PlayFault::Device { fault }),
         Err(CloseFault::Stopped { fault }) => Err(PlayFault::Stopped { fault }),
-        Err(CloseFault::Memory) => Err(PlayFault::Memory),
+        Err(CloseFault::Lack(lack)) => Err(PlayFault::Lack(lack)),
     }
 }

@@ -4,6 +4,7 @@ ghost use Rattle.ufs_model.specs.declared.data.Excuse.TheVariants as excuse;
 ghost use Rattle.ufs_model.specs.declared.data.Reply.TheVariants as reply;
 
 use crate::hand::Applied;
+use ufs_base::Lack;
 use ufs_model::{Actor, Ask, Desc, Entry, Excuse, Reply};
 
 /// The answer to a request with this reply, and what the request's descriptor stands for afterwards.
@@ -25,12 +26,12 @@ pub fn answered(ask: Ask, by: Actor, ticket: u64, reply: Reply, desc: Option<Des
     }
 }
 
-/// The excuse that memory ran out. The request's descriptor stays.
-pub fn out_of_memory(ask: Ask, by: Actor, ticket: u64) -> Applied
+/// The excuse for want of this. The request's descriptor stays.
+pub fn out_of_memory(ask: Ask, by: Actor, ticket: u64, lack: Lack) -> Applied
     ensures entry { IsEntryOf ask by ticket result.entry }
     ensures reply { result.entry.reply ≡ reply.Excused excuse.Memory }
     ensures desc { result.desc ≡ ask.desc }
 {
     let desc = ask.desc;
-    answered(ask, by, ticket, Reply::Excused(Excuse::Memory), desc)
+    answered(ask, by, ticket, Reply::Excused(Excuse::from(lack)), desc)
 }

@@ -215,10 +215,11 @@ impl Blocks {
         }
     }
 
-    /// A range with the place of each block that was written since it was read or made. It is empty behind `clean`. Each
-    /// block that was written is in memory.
+    /// A range with the place of each block that was written since it was read or made, from the first of them on. It is
+    /// empty where there is none. Each block that was written is in memory.
     pub fn dirty_places(&self) -> Range<usize>
         ensures dirty { (place : ℕ) → slice_get self.now.dirty place ≡ Some true → (result.start ≤ place) × (place < result.end) }
+        ensures first { result.start < result.end → slice_get self.now.dirty result.start ≡ Some true }
         ensures held { (place : ℕ) → slice_get self.now.dirty place ≡ Some true → slice_get self.now.there place ≡ Some true }
         ensures ordered { result.start ≤ result.end }
         ensures there { result.end ≤ length self.now.dirty }

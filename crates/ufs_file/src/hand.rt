@@ -345,10 +345,11 @@ impl FileHand {
         self.blocks.load(place, block)
     }
 
-    /// A range with the place of each block that was written since it was read or made. It is empty behind `clean`. Each
-    /// block that was written is in memory.
+    /// A range with the place of each block that was written since it was read or made, from the first of them on. It is
+    /// empty where there is none. Each block that was written is in memory.
     pub fn dirty_places(&self) -> Range<u32>
         ensures dirty { (place : ℕ) → slice_get self.now.content.dirty place ≡ Some true → (result.start ≤ place) × (place < result.end) }
+        ensures first { result.start < result.end → slice_get self.now.content.dirty result.start ≡ Some true }
         ensures held { (place : ℕ) → slice_get self.now.content.dirty place ≡ Some true → slice_get self.now.content.there place ≡ Some true }
         ensures ordered { result.start ≤ result.end }
         ensures marks { result.end ≤ length self.now.content.dirty }
@@ -519,9 +520,7 @@ impl FileHand {
                 desc,
             });
         }
-        let Ok(reply) = self.answer(op, desc) else {
-            return Err(Excuse::Memory);
-        };
+        let reply = self.answer(op, desc)?;
         let after = self.desc_after(op, desc);
         match self.change(op, desc, pool) {
             Ok(()) => Ok(Served { reply, desc: after }),
@@ -565,9 +564,7 @@ impl FileHand {
         if had < need {
             return Err(Excuse::Blocks { need, had });
         }
-        let Ok(runs) = take_runs(self.alloc, pool, need) else {
-            return Err(Excuse::Memory);
-        };
+        let runs = take_runs(self.alloc, pool, need)?;
         let count = self.count_with(runs.as_slice());
         if count > MAX_EXTENTS as u32 {
             give_runs(pool, runs.as_slice());
@@ -597,12 +594,16 @@ impl FileHand {
             Ok(runs) => runs,
             Err(excuse) => return Err(excuse),
         };
-        let Ok(()) = self.blocks.grow(size, from, to) else {
-            give_runs(pool, runs.as_slice());
-            return Err(Excuse::Memory);
-        };
-        append_all(&mut self.extents, runs.as_slice());
-        Ok(())
+        match self.blocks.grow(size, from, to) {
+            Ok(()) => {
+                append_all(&mut self.extents, runs.as_slice());
+                Ok(())
+            }
+            Err(memory) => {
+                give_runs(pool, runs.as_slice());
+                Err(Excuse::from(memory))
+            }
+        }
     }
 
     // The blocks from one place on, below another, are in memory: zeros stand in those that weren't.
@@ -616,7 +617,7 @@ impl FileHand {
         self.stays();
         match self.blocks.cover(from, to) {
             Ok(()) => Ok(()),
-            Err(_) => Err(Excuse::Memory),
+            Err(memory) => Err(Excuse::from(memory)),
         }
     }
 
@@ -633,9 +634,7 @@ impl FileHand {
         ensures err { OnErr result (self.new ≡ self.old) }
         ensures pool { OnErr result (pool.new ≡ pool.old) }
     {
-        let Ok(rest) = self.extents.cut(size.div_ceil(BLOCK as u64) as u32) else {
-            return Err(Excuse::Memory);
-        };
+        let rest = self.extents.cut(size.div_ceil(BLOCK as u64) as u32)?;
         give_runs(pool, rest.as_slice());
         self.blocks.cut(size);
         Ok(())

@@ -13,7 +13,7 @@ use crate::calls::{
 };
 use std::alloc::{AllocGlobal, Global};
 use std::process::Abort;
-use ufs_base::{MAX_EXTENTS, Memory};
+use ufs_base::{Lack, MAX_EXTENTS, Memory};
 use ufs_bitmap::{Pool, take_runs};
 use ufs_extent::Extents;
 use ufs_file::FileHand;
@@ -220,18 +220,18 @@ fn the_greatest_file(rt: HostRuntime) {
 }
 
 // A file of so many bytes, in 4,097 blocks, that an image had; the pool has no block.
-fn longer(alloc: Global, size: usize) -> Result<Play, Memory>
+fn longer(alloc: Global, size: usize) -> Result<Play, Lack>
     requires small { size ≤ max_held }
     requires blocks { block_count size ≡ 4097 }
 {
     let mut pool = pool_of(alloc, 15, 4_097)?;
     let count = pool.count();
     if count != 4_097 {
-        return Err(Memory);
+        return Err(Lack::Unsound);
     }
     let runs = take_runs(alloc, &mut pool, count)?;
     if runs.len() > MAX_EXTENTS {
-        return Err(Memory);
+        return Err(Lack::Unsound);
     }
     let extents = Extents::from_runs(alloc, &runs)?;
     let bytes = vec![in alloc; 97; size]?;

@@ -12,7 +12,7 @@ use crate::asserts::{holds, same};
 use crate::calls::{applied, filled, gave, is_count, is_done, is_excused, open_on, pool_of};
 use std::alloc::{AllocGlobal, Global};
 use std::process::Abort;
-use ufs_base::{BLOCK, MAX_EXTENTS, Memory};
+use ufs_base::{BLOCK, Lack, MAX_EXTENTS, Memory};
 use ufs_bitmap::{Pool, take_runs};
 use ufs_extent::Extents;
 use ufs_file::FileHand;
@@ -29,17 +29,17 @@ struct Partly {
 
 impl Partly {
     // A file of so many bytes, in three blocks, and three more in the pool.
-    fn start(alloc: Global, size: u64) -> Result<Partly, Memory>
+    fn start(alloc: Global, size: u64) -> Result<Partly, Lack>
         requires small { size ≤ max_held }
         requires blocks { block_count size ≡ 3 }
     {
         let mut pool = pool_of(alloc, 15, 6)?;
         if pool.count() < 3 {
-            return Err(Memory);
+            return Err(Lack::Unsound);
         }
         let runs = take_runs(alloc, &mut pool, 3)?;
         if runs.len() > MAX_EXTENTS {
-            return Err(Memory);
+            return Err(Lack::Unsound);
         }
         let extents = Extents::from_runs(alloc, &runs)?;
         let file = FileHand::unread(alloc, 7, 3, extents, size)?;

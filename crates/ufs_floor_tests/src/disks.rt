@@ -282,12 +282,49 @@ fn errors_of_a_file_are_told(rt: HostRuntime) {
     tells(&rt, "/dev/null", [None, None, Some(1)]);
     let missing = "ufs_disk_missing/disk.img";
     tells(&rt, missing, [Some(1), Some(2), Some(3)]);
+}
 
-    // No call, no file.
-    let untouched = FileDisk::new(&rt, "ufs_disk_untouched.img");
-    same(&rt, untouched.sectors(), FILE_SECTORS);
-    holds(
-        &rt,
-        std::fs::metadata(&rt, "ufs_disk_untouched.img").is_err(),
-    );
+// Whether there is no such file.
+fn is_missing<R: Files<File = File>>(rt: &R, path: &str) -> bool {
+    std::fs::metadata(rt, path).is_err()
+}
+
+// Asserts that the disk can't have its file.
+fn is_refused<R: Abort, D: Disk>(rt: &R, disk: &mut D) {
+    same(rt, calls(rt, disk), [Some(1), Some(2), Some(3)]);
+}
+
+#[test]
+fn a_file_is_made_by_writing(rt: HostRuntime) {
+    let path = "ufs_disk_made.img";
+    let mut disk = FileDisk::new(&rt, path);
+    let mut late = FileDisk::new(&rt, path);
+    reads(&rt, &mut disk, FILE_SECTORS - 1, 0);
+    holds(&rt, disk.barrier().is_ok());
+    reads(&rt, &mut late, 0, 0);
+    holds(&rt, is_missing(&rt, path));
+
+    // The other found no file, and doesn't write to one that was made since.
+    keeps_nines(&rt, &mut disk, 0);
+    is_refused(&rt, &mut late);
+    std::fs::remove_file(&rt, path).expect(&rt, "not removed");
+}
+
+// Keeps the file at a path, and asserts that no other disk can have it meanwhile.
+fn keeps_alone<R: Abort + Files<File = File>>(rt: &R, path: &str) {
+    let mut disk = FileDisk::new(rt, path);
+    reads(rt, &mut disk, 0, 3);
+    is_refused(rt, &mut FileDisk::new(rt, path));
+    keeps_nines(rt, &mut disk, 1);
+}
+
+#[test]
+fn a_file_has_one_user(rt: HostRuntime) {
+    let path = "ufs_disk_one.img";
+    std::fs::write(&rt, path, [3u8; SECTOR].as_slice()).expect(&rt, "not written");
+    keeps_alone(&rt, path);
+
+    // Its lock ends with the disk.
+    reads(&rt, &mut FileDisk::new(&rt, path), 1, 9);
+    std::fs::remove_file(&rt, path).expect(&rt, "not removed");
 }

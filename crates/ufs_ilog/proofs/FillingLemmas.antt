@@ -1,11 +1,11 @@
 -- How far records fill sectors with one more behind them.
-use Rattle.std.proofs.Common.{◌≡◌, ℕ, suc, ◌+◌, ◌<◌, ◌≤◌, List, [], ◌∷◌, ◌++◌, Bool, true, false, length, refl, ap, sym, ◌∙◌, arith}
+use Rattle.std.proofs.Common.{◌≡◌, ℕ, suc, ◌+◌, ◌<◌, ◌≤◌, ◌⊎◌, inl, inr, List, [], ◌∷◌, ◌++◌, Bool, true, false, length, refl, ap, sym, ◌∙◌, arith, append_assoc}
 use Rattle.std.specs.Prelude.{if◌then◌else◌, nat_le}
-use Rattle.std.proofs.lemmas.Bool.{le-leb, lt-leb}
+use Rattle.std.proofs.lemmas.Bool.{cases_lt, le-leb, lt-leb}
 use Rattle.std.proofs.lemmas.List.{append-nil, length-append}
 use Rattle.std.proofs.lemmas.List.Concat.{flat_map-append}
 use Rattle.ufs_layout.specs.Records.{records_bytes, record_bytes}
-use Rattle.ufs_layout.specs.Filled.{filled}
+use Rattle.ufs_layout.specs.Filled.{filled, sector_count_of, sectors_of_records}
 use Rattle.ufs_layout.specs.declared.records.LogRecord.{LogRecord}
 use Rattle.ufs_ilog.specs.Filling.{used_in_last, IsFilling}
 
@@ -78,3 +78,23 @@ filling_begins sectors used (x ∷ xs) r is over =
     let some = filled_some (x ∷ []) xs in
     let h = (filled_push (x ∷ []) xs r).begins (omega (arith, is.last, over (omega (arith, is.counted)))) in
     record { counted = ap (λ n. n + 1) is.counted ∙ sym h.0; last = sym h.1 }
+
+-- ---- records more take no fewer sectors
+
+count_push : (xs : List LogRecord) (r : LogRecord) → length (sectors_of_records xs) ≤ length (sectors_of_records (xs ++ r ∷ []))
+count_push [] r = omega arith
+count_push (x ∷ xs) r = by (cases_lt 488 (used_in_last (filled (x ∷ []) xs) + length (record_bytes r)))
+  where
+    is : IsPushed r (filled (x ∷ []) xs) (filled (x ∷ []) (xs ++ r ∷ []))
+    is = filled_push (x ∷ []) xs r
+
+    by : (488 < used_in_last (filled (x ∷ []) xs) + length (record_bytes r)) ⊎ (used_in_last (filled (x ∷ []) xs) + length (record_bytes r) ≤ 488)
+        → length (filled (x ∷ []) xs) ≤ length (filled (x ∷ []) (xs ++ r ∷ []))
+    by (inl over) = omega (arith, (is.begins over).0)
+    by (inr fits) = omega (arith, (is.joins fits).0)
+
+pub count_more : (xs ys : List LogRecord) → sector_count_of xs ≤ sector_count_of (xs ++ ys)
+count_more xs [] = let e : length (sectors_of_records (xs ++ [])) ≡ length (sectors_of_records xs) = ap (λ (l : List LogRecord). length (sectors_of_records l)) (append-nil xs) in omega (arith, e)
+count_more xs (y ∷ ys) =
+    let e : length (sectors_of_records ((xs ++ y ∷ []) ++ ys)) ≡ length (sectors_of_records (xs ++ y ∷ ys)) = ap (λ (l : List LogRecord). length (sectors_of_records l)) (append_assoc xs (y ∷ []) ys) in
+    omega (arith, e, count_push xs y, count_more (xs ++ y ∷ []) ys)

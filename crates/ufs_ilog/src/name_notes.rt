@@ -1,20 +1,23 @@
-ghost use Rattle.std.specs.Prelude.{◌≡◌, [], Some, None, IsSome, IsTrue, IfSome, ◌↔◌, is_some, is_none};
+ghost use Rattle.std.specs.Prelude.{◌≡◌, [], Some, None, IsSome, IsTrue, IfSome, IfErr, OnOk, OnErr, ◌↔◌, is_some, is_none};
 ghost use Rattle.std.specs.List.{list_all};
 ghost use Rattle.ufs_layout.specs.Records.{is_record};
 ghost use Rattle.ufs_layout.specs.Filled.{sector_count_of};
 ghost use Rattle.ufs_ilog.specs.Changes.{is_in_order};
-ghost use Rattle.ufs_ilog.specs.Notes.{IsNotedBehind, sectors_noted};
+ghost use Rattle.ufs_ilog.specs.Notes.{IsLostFor, IsNotedBehind, IsNotedWhole, sectors_noted};
 
 use crate::change::Change;
 use crate::names_log::NamesLog;
 use std::alloc::Global;
 use std::marker::Model;
+use ufs_base::Lack;
 
 /// The log of the names that a server keeps, or nothing: where it keeps none, and where memory for a note was wanting.
 /// What was noted before is lost then, and nothing can be committed any more.
 #[derive(Drop)]
 pub struct NameNotes {
     log: Option<NamesLog>,
+    // For want of what it was lost.
+    lack: Option<Lack>,
 }
 
 impl Model for NameNotes {
@@ -41,7 +44,10 @@ impl NameNotes {
     pub fn off() -> Self
         ensures { result ≡ None }
     {
-        NameNotes { log: None }
+        NameNotes {
+            log: None,
+            lack: None,
+        }
     }
 
     /// No change is noted yet. Takes no memory.
@@ -50,6 +56,7 @@ impl NameNotes {
     {
         NameNotes {
             log: Some(NamesLog::new(alloc)),
+            lack: None,
         }
     }
 
@@ -70,26 +77,36 @@ impl NameNotes {
     }
 
     /// The change goes behind the others, whole. Where memory is wanting, or the sectors pass the end of their count,
-    /// all that was noted is lost.
-    pub fn note(&mut self, change: Change)
+    /// all that was noted is lost, and it answers for want of what.
+    pub fn note(&mut self, change: Change) -> Result<(), Lack>
         requires form { IsTrue (list_all is_record change.records) }
         requires order { IsTrue (is_in_order change.records) }
-        ensures { IsNotedBehind self.old self.new change.records }
+        ensures whole { OnOk result (IsNotedWhole self.old self.new change.records) }
+        ensures lost { OnErr result (self.new ≡ None) }
+        ensures lack { IfErr result (IsLostFor self.old change.records) }
+        ensures behind { IsNotedBehind self.old self.new change.records }
     {
-        let is_lost = match &mut self.log {
-            Some(log) => log.note(change).is_err(),
-            None => false,
+        let noted = match &mut self.log {
+            Some(log) => log.note(change),
+            None => Ok(()),
         };
-        if is_lost {
-            self.lose();
+        if let Err(lack) = noted {
+            self.lose(lack);
         }
+        noted
     }
 
-    /// All that was noted is lost: memory for a change was wanting.
-    pub fn lose(&mut self)
+    /// All that was noted is lost, for want of this.
+    pub fn lose(&mut self, lack: Lack)
         ensures { self.new ≡ None }
     {
         self.log = None;
+        self.lack = Some(lack);
+    }
+
+    /// For want of what nothing is noted any more. Where nothing ever was, there is no next change either.
+    pub fn lack(&self) -> Lack {
+        self.lack.unwrap_or(Lack::AtEnd)
     }
 
     /// The log, for a commit that clears it.

@@ -1,14 +1,15 @@
-ghost use Rattle.std.specs.Prelude.{◌≡◌, ◌++◌, [], List, OnOk, OnErr, IsTrue};
+ghost use Rattle.std.specs.Prelude.{◌≡◌, ◌≤◌, ◌^◌, ◌++◌, [], List, OnOk, OnErr, IfErr, IfNone, IsTrue};
 ghost use Rattle.std.specs.List.{list_all};
 ghost use Rattle.ufs_layout.specs.Records.{is_record};
 ghost use Rattle.ufs_layout.specs.Filled.{sector_count_of};
 ghost use Rattle.ufs_ilog.specs.Changes.{is_in_order};
+ghost use Rattle.ufs_ilog.specs.Notes.{IsLackFor};
 
 use crate::change::Change;
 use std::alloc::Global;
 use std::marker::Model;
 use std::mem;
-use ufs_base::Memory;
+use ufs_base::Lack;
 use ufs_layout::{LogRecord, Records, record_length};
 
 // The bytes of content that a journal sector has room for.
@@ -53,14 +54,15 @@ impl NamesLog {
     }
 
     /// The change goes behind the others, whole.
-    pub fn note(&mut self, change: Change) -> Result<(), Memory>
+    pub fn note(&mut self, change: Change) -> Result<(), Lack>
         requires form { IsTrue (list_all is_record change.records) }
         requires order { IsTrue (is_in_order change.records) }
         ensures ok { OnOk result (self.new ≡ self.old ++ change.records) }
         ensures err { OnErr result (self.new ≡ self.old) }
+        ensures lack { IfErr result (IsLackFor self.old change.records) }
     {
         let Some(filling) = self.filling.with_records(change.records.as_slice()) else {
-            return Err(Memory);
+            return Err(Lack::AtEnd);
         };
         self.records.append(change.records)?;
         self.filling = filling;
@@ -111,7 +113,8 @@ impl Filling {
     // With one record more. `None` where the count would pass its type's end.
     fn with_record(self, added: &LogRecord) -> Option<Filling>
         requires { IsTrue (is_record added.now) }
-        ensures { (before : List LogRecord) → IsFilling self.sectors self.used before → IfSome result (λ f. IsFilling f.sectors f.used (before ++ added.now ∷ [])) }
+        ensures more { (before : List LogRecord) → IsFilling self.sectors self.used before → IfSome result (λ f. IsFilling f.sectors f.used (before ++ added.now ∷ [])) }
+        ensures end { (before : List LogRecord) → IsFilling self.sectors self.used before → IfNone result (2 ^ 32 ≤ sector_count_of (before ++ added.now ∷ [])) }
     {
         let length = record_length(added);
         if self.sectors > 0 && self.used <= CONTENT && length <= CONTENT - self.used {
@@ -120,21 +123,27 @@ impl Filling {
                 used: self.used + length,
             });
         }
-        let sectors = self.sectors.checked_add(1)?;
+        if self.sectors == u32::MAX {
+            return None;
+        }
         Some(Filling {
-            sectors,
+            sectors: self.sectors + 1,
             used: length,
         })
     }
 
-    // With these records more.
+    // With these records more. `None` where the count would pass its type's end.
     fn with_records(self, records: &[LogRecord]) -> Option<Filling>
         requires { IsTrue (list_all is_record records.now) }
-        ensures { (before : List LogRecord) → IsFilling self.sectors self.used before → IfSome result (λ f. IsFilling f.sectors f.used (before ++ records.now)) }
+        ensures more { (before : List LogRecord) → IsFilling self.sectors self.used before → IfSome result (λ f. IsFilling f.sectors f.used (before ++ records.now)) }
+        ensures end { (before : List LogRecord) → IsFilling self.sectors self.used before → IfNone result (2 ^ 32 ≤ sector_count_of (before ++ records.now)) }
     {
         let mut filling = self;
         for record in records {
-            filling = filling.with_record(record)?;
+            let Some(next) = filling.with_record(record) else {
+                return None;
+            };
+            filling = next;
         }
         Some(filling)
     }

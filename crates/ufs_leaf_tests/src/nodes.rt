@@ -5,7 +5,7 @@ use crate::asserts::same;
 use crate::drawn;
 use std::alloc::Global;
 use std::process::Abort;
-use ufs_base::Memory;
+use ufs_base::Lack;
 use ufs_links::{Links, Which};
 
 // A number of a list that is far from 1 and in its bucket, where there are three buckets.
@@ -54,7 +54,7 @@ struct Three {
 }
 
 impl Three {
-    fn make(alloc: Global) -> Result<Three, Memory> {
+    fn make(alloc: Global) -> Result<Three, Lack> {
         let mut links = Links::new(alloc);
         links.reserve(3)?;
         let a = links.fresh();

@@ -1,10 +1,10 @@
 // Nodes that are given out and released, and the lists of two kinds that they are on.
-ghost use Rattle.std.specs.Prelude.{◌≡◌, ◌+◌, ◌^◌, ◌<◌, ◌≤◌};
+ghost use Rattle.std.specs.Prelude.{◌≡◌, ◌+◌, ◌^◌, ◌<◌, ◌≤◌, max};
 
 use crate::numbered::NumberedLists;
 use std::alloc::Global;
 use std::marker::Model;
-use ufs_base::Memory;
+use ufs_base::Lack;
 
 /// A kind of list.
 #[derive(Clone, Copy, Debug, PartialEq, Eq)]
@@ -61,10 +61,11 @@ impl Links {
         }
     }
 
-    /// Makes the next `n` new nodes take no memory.
-    pub fn reserve(&mut self, n: u32) -> Result<(), Memory>
+    /// Makes the next `n` new nodes take no memory. It makes no more spare nodes than that needs.
+    pub fn reserve(&mut self, n: u32) -> Result<(), Lack>
         ensures ok { OnOk result (n ≤ self.new.spare) }
         ensures more { self.old.spare ≤ self.new.spare }
+        ensures most { self.new.spare ≤ max n self.old.spare }
         ensures err { OnErr result (self.new.spare ≡ self.old.spare) }
 
         // Nothing else changes.
@@ -78,7 +79,7 @@ impl Links {
         }
         let nodes = self.nodes as u64 + (n as u64 - spare);
         if nodes > u32::MAX as u64 {
-            return Err(Memory);
+            return Err(Lack::AtEnd);
         }
         self.first.reserve_nodes(nodes as usize)?;
         self.second.reserve_nodes(nodes as usize)?;

@@ -94,6 +94,6 @@ pub fn load<D: Disk>(alloc: Global, disk: &mut D) -> Result<Loaded, RecoverFault
     let opened = open(alloc, disk)?;
     match with_free(alloc, opened) {
         Ok(loaded) => Ok(loaded),
-        Err(Memory) => Err(RecoverFault::Memory),
+        Err(memory) => Err(RecoverFault::from(memory)),
     }
 }

@@ -114,6 +114,8 @@ impl Errno {
     }
 }
 
+/// Why a request was left undone. It is a value that traces print and that may be read back, so `Memory` carries nothing; a
+/// call makes it of a want of memory, or of a number's end, alone.
 #[derive(Clone, Copy, Debug, PartialEq, Eq)]
 pub enum Excuse {
     Memory,

@@ -2,7 +2,7 @@
 use crate::asserts::same;
 use std::alloc::{AllocError, Global};
 use std::process::Abort;
-use ufs_base::Memory;
+use ufs_base::Lack;
 use ufs_owner::{Owner, OwnerTable};
 
 #[derive(Clone, Copy)]
@@ -16,7 +16,7 @@ enum Step {
     Unwait(u8),
 }
 
-fn send(table: &mut OwnerTable, file: u32, to: u8) -> Result<Option<u8>, Memory> {
+fn send(table: &mut OwnerTable, file: u32, to: u8) -> Result<Option<u8>, Lack> {
     match table.owner_of(file) {
         Owner::Primary => {
             if table.waiting(file) {
@@ -41,7 +41,7 @@ fn recall(table: &mut OwnerTable, file: u32, to: u8) -> Option<u8> {
 }
 
 // Takes a step where it may be taken, and tells the number that it answers, 0 where it answers none.
-fn take(table: &mut OwnerTable, file: u32, step: Step) -> Result<Option<u8>, Memory> {
+fn take(table: &mut OwnerTable, file: u32, step: Step) -> Result<Option<u8>, Lack> {
     match (step, table.owner_of(file)) {
         (Step::Send(to), _) => send(table, file, to),
         (Step::Recall(to), _) => Ok(recall(table, file, to)),

@@ -49,7 +49,7 @@ impl NameTree {
             Err(excuse) => return Err(excuse),
         };
         let dentry = Dentry::from_name(added.inode, DIRECTORY, path.last());
-        note_added(&mut self.notes, &self.dirs, dir, added, dentry);
+        let _lost = note_added(&mut self.notes, &self.dirs, dir, added, dentry);
         Ok(added.inode)
     }
 
@@ -91,7 +91,7 @@ impl NameTree {
         };
         self.files[added.inode as usize] = Some(file);
         let dentry = Dentry::from_name(added.inode, FILE, path.last());
-        note_added(&mut self.notes, &self.dirs, dir, added, dentry);
+        let _lost = note_added(&mut self.notes, &self.dirs, dir, added, dentry);
         Ok(added.inode)
     }
 
@@ -118,7 +118,7 @@ impl NameTree {
         let _blocks = self.dirs.blocks(dir);
         let found = self.dirs.entry(dir, path.last());
         let slot = self.dirs.remove(dir, path, pool);
-        note_removed(&mut self.notes, slot, found);
+        let _lost = note_removed(&mut self.notes, slot, found);
     }
 
     /// Gives what stands at `from`, with all below it, the name `to`. What stood there goes as by `remove`; where
@@ -164,7 +164,7 @@ impl NameTree {
             Err(excuse) => return Err(excuse),
         };
         let dentry = Dentry::from_name(old.inode, old.kind, to.last());
-        note_moved(&mut self.notes, &self.dirs, to_dir, moved, found, dentry);
+        let _lost = note_moved(&mut self.notes, &self.dirs, to_dir, moved, found, dentry);
         Ok(())
     }
 
@@ -189,6 +189,6 @@ impl NameTree {
     {
         self.dirs.free_inode(inode, pool);
         self.files[inode as usize] = None;
-        note_freed(&mut self.notes, inode);
+        let _lost = note_freed(&mut self.notes, inode);
     }
 }

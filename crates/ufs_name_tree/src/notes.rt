@@ -1,5 +1,5 @@
 // What the notes of a tree's names are told of a change.
-ghost use Rattle.std.specs.Prelude.{◌≡◌, ◌⊎◌, ◌<◌, ◌≤◌, ◌++◌, ◌∷◌, [], All, IfOk, IfSome, IsTrue, OnOk, length};
+ghost use Rattle.std.specs.Prelude.{◌≡◌, ◌⊎◌, ◌<◌, ◌≤◌, ◌++◌, ◌∷◌, [], All, Err, None, IfErr, IfOk, IfSome, IsTrue, OnOk, length};
 ghost use Rattle.std.specs.List.{list_all};
 ghost use Rattle.ufs_base.specs.declared.sizes.TheConstants.{MAX_BLOCKS};
 ghost use Rattle.ufs_layout.specs.DentryForm.{free_slot, is_dentry};
@@ -9,11 +9,12 @@ ghost use Rattle.ufs_dir_tree.specs.DirTable.{IsDirTable};
 ghost use Rattle.ufs_dir_tree.specs.Space.{extents_of};
 ghost use Rattle.ufs_ilog.specs.Changes.{in_order, is_in_order};
 ghost use Rattle.ufs_ilog.specs.Deltas as log;
-ghost use Rattle.ufs_ilog.specs.Notes.{IsNotedBehind};
+ghost use Rattle.ufs_ilog.specs.Notes.{IsLostFor, IsNotedBehind, IsNotedWhole};
+ghost use Rattle.ufs_base.specs.declared.lack.Lack.TheVariants as lack;
 ghost use Rattle.ufs_name_tree.specs.Records.{added_noted, born_noted, cleared_noted, dir_delta, grown_noted, moved_noted, replaced_noted, slot_noted};
 
 use std::alloc::Global;
-use ufs_base::{BLOCK, Memory};
+use ufs_base::{BLOCK, Lack, Memory};
 use ufs_dir_tree::{Added, DirTree, Found, Moved};
 use ufs_dirs::Slot;
 use ufs_extent::{Extents, Run};
@@ -26,6 +27,8 @@ pub(crate) const FILE: u8 = 1;
 /// The kind of a directory's inode.
 pub(crate) const DIRECTORY: u8 = 2;
 
+// Each answers for want of what the notes are lost, if they are.
+
 /// An inode that was born and got its name, in a directory that may have taken a block for it.
 pub(crate) fn note_added(
     notes: &mut NameNotes,
@@ -33,33 +36,41 @@ pub(crate) fn note_added(
     dir: u32,
     added: Added,
     dentry: Dentry,
-)
+) -> Result<(), Lack>
     requires table { IsDirTable dirs.now }
     requires slot { added.slot.slot < 8 }
     requires form { IsTrue (is_dentry dentry) }
     requires kind { (dentry.kind ≡ 1) ⊎ (dentry.kind ≡ 2) }
-    ensures { IsNotedBehind notes.old notes.new (in_order (added_noted dirs.now dir added.grown added.slot dentry)) }
+    ensures whole { OnOk result (IsNotedWhole notes.old notes.new (in_order (added_noted dirs.now dir added.grown added.slot dentry))) }
+    ensures lack { IfErr result (IsLostFor notes.old (in_order (added_noted dirs.now dir added.grown added.slot dentry))) }
+    ensures behind { IsNotedBehind notes.old notes.new (in_order (added_noted dirs.now dir added.grown added.slot dentry)) }
 {
     let Some(alloc) = notes.alloc() else {
-        return;
+        return Ok(());
     };
     match added_change(alloc, dirs, dir, added, dentry) {
         Ok(change) => notes.note(change),
-        Err(_) => notes.lose(),
+        Err(memory) => lose(notes, memory),
     }
 }
 
 /// A name that went, with the inode of a directory that it stood for.
-pub(crate) fn note_removed(notes: &mut NameNotes, slot: Slot, found: Option<Found>)
+pub(crate) fn note_removed(
+    notes: &mut NameNotes,
+    slot: Slot,
+    found: Option<Found>,
+) -> Result<(), Lack>
     requires slot { slot.slot < 8 }
-    ensures { IsNotedBehind notes.old notes.new (in_order (cleared_noted slot found)) }
+    ensures whole { OnOk result (IsNotedWhole notes.old notes.new (in_order (cleared_noted slot found))) }
+    ensures lack { IfErr result (IsLostFor notes.old (in_order (cleared_noted slot found))) }
+    ensures behind { IsNotedBehind notes.old notes.new (in_order (cleared_noted slot found)) }
 {
     let Some(alloc) = notes.alloc() else {
-        return;
+        return Ok(());
     };
     match removed_change(alloc, slot, found) {
         Ok(change) => notes.note(change),
-        Err(_) => notes.lose(),
+        Err(memory) => lose(notes, memory),
     }
 }
 
@@ -71,34 +82,48 @@ pub(crate) fn note_moved(
     moved: Moved,
     found: Option<Found>,
     dentry: Dentry,
-)
+) -> Result<(), Lack>
     requires table { IsDirTable dirs.now }
     requires left { moved.left.slot < 8 }
     requires taken { moved.taken.slot < 8 }
     requires dropped { IfSome moved.dropped (λ slot. slot.slot < 8) }
     requires form { IsTrue (is_dentry dentry) }
-    ensures { IsNotedBehind notes.old notes.new (in_order (moved_noted dirs.now dir moved found dentry)) }
+    ensures whole { OnOk result (IsNotedWhole notes.old notes.new (in_order (moved_noted dirs.now dir moved found dentry))) }
+    ensures lack { IfErr result (IsLostFor notes.old (in_order (moved_noted dirs.now dir moved found dentry))) }
+    ensures behind { IsNotedBehind notes.old notes.new (in_order (moved_noted dirs.now dir moved found dentry)) }
 {
     let Some(alloc) = notes.alloc() else {
-        return;
+        return Ok(());
     };
     match moved_change(alloc, dirs, dir, moved, found, dentry) {
         Ok(change) => notes.note(change),
-        Err(_) => notes.lose(),
+        Err(memory) => lose(notes, memory),
     }
 }
 
 /// A file's inode that is free.
-pub(crate) fn note_freed(notes: &mut NameNotes, inode: u32)
-    ensures { IsNotedBehind notes.old notes.new (Free inode ∷ []) }
+pub(crate) fn note_freed(notes: &mut NameNotes, inode: u32) -> Result<(), Lack>
+    ensures whole { OnOk result (IsNotedWhole notes.old notes.new (Free inode ∷ [])) }
+    ensures lack { IfErr result (IsLostFor notes.old (Free inode ∷ [])) }
+    ensures behind { IsNotedBehind notes.old notes.new (Free inode ∷ []) }
 {
     let Some(alloc) = notes.alloc() else {
-        return;
+        return Ok(());
     };
     match freed_change(alloc, inode) {
         Ok(change) => notes.note(change),
-        Err(_) => notes.lose(),
+        Err(memory) => lose(notes, memory),
     }
+}
+
+// All that was noted is lost, for want of this memory.
+fn lose(notes: &mut NameNotes, memory: Memory) -> Result<(), Lack>
+    ensures none { notes.new ≡ None }
+    ensures told { result ≡ Err (lack.Memory memory) }
+{
+    let lack = Lack::Memory(memory);
+    notes.lose(lack);
+    Err(lack)
 }
 
 // ---- changes

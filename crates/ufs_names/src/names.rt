@@ -152,6 +152,7 @@ impl Names {
     }
 
     // The same, with the excuse as the error.
+    #[tactic(auto, using(crate::proofs::FitsLemmas::fits_memory))]
     fn serve(&mut self, ask: &Ask, files: &mut FileHands, pool: &mut Pool) -> Result<Served, Excuse>
         requires client { ask.now.client < 16 }
         requires numbers { self.old.next < 2 ^ 31 }
@@ -172,9 +173,8 @@ impl Names {
         }
         match &ask.op {
             Op::Rename { from, to } => {
-                let (Ok(from), Ok(to)) = (text(self.alloc, from), text(self.alloc, to)) else {
-                    return Err(Excuse::Memory);
-                };
+                let from = text(self.alloc, from)?;
+                let to = text(self.alloc, to)?;
                 self.rename(ask, &from, &to, files, pool)
             }
             Op::OpenFile { path, .. }
@@ -183,9 +183,7 @@ impl Names {
             | Op::Unlink { path }
             | Op::Stat { path }
             | Op::List { path } => {
-                let Ok(path) = text(self.alloc, path) else {
-                    return Err(Excuse::Memory);
-                };
+                let path = text(self.alloc, path)?;
                 self.serve_path(ask, &path, files, pool)
             }
             Op::Close { .. } => Ok(self.close(ask, files, pool)),

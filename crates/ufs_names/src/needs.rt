@@ -6,7 +6,7 @@ use crate::holding::Holding;
 use crate::names::Names;
 use crate::path_calls::end_refusal;
 use ufs_base::Memory;
-use ufs_calls::{file_of, own_refusal, text};
+use ufs_calls::{file_of, own_refusal, text, text_refusal};
 use ufs_model::{Ask, Op};
 use ufs_path::PathText;
 
@@ -67,9 +67,15 @@ impl Names {
     {
         match &ask.op {
             Op::OpenFile { path, .. } | Op::Unlink { path } | Op::Stat { path } => {
+                if text_refusal(path).is_some() {
+                    return Ok(None);
+                }
                 Ok(self.need_at(ask, &text(self.alloc, path)?))
             }
             Op::Rename { from, to } => {
+                if text_refusal(from).is_some() || text_refusal(to).is_some() {
+                    return Ok(None);
+                }
                 let from = text(self.alloc, from)?;
                 let to = text(self.alloc, to)?;
                 Ok(self.need_of_rename(&from, &to))

@@ -1,5 +1,6 @@
 use crate::holding::Holding;
 use crate::names::Names;
+use ufs_base::Memory;
 use ufs_bitmap::Pool;
 use ufs_dir_tree::{Found, Look};
 use ufs_files::FileHands;
@@ -107,12 +108,12 @@ impl Names {
             linked: true,
             ..Holding::none()
         };
-        if self.held.put(file, holding.with(client)).is_err() {
-            return Err(Excuse::Memory);
+        if let Err(refused) = self.held.put(file, holding.with(client)) {
+            return Err(Excuse::from(Memory::from(refused)));
         }
-        if files.make(file, inode).is_err() {
+        if let Err(memory) = files.make(file, inode) {
             self.held.remove(file);
-            return Err(Excuse::Memory);
+            return Err(Excuse::from(memory));
         }
         match self.tree.add_file(dir, path, file, pool) {
             Ok(_) => {
@@ -157,8 +158,8 @@ impl Names {
         let Some(holding) = self.held.get(file) else {
             unreachable!()
         };
-        if trunc && files.empty(file, pool).is_err() {
-            return Err(Excuse::Memory);
+        if trunc {
+            files.empty(file, pool)?;
         }
         match self.held.put(file, holding.with(client)) {
             Ok(()) => Ok(file),

@@ -68,9 +68,7 @@ impl Names {
         if let Some(e) = end_refusal(&ask.op, path.is_root(), node, has_entries) {
             return Ok(refused(ask, e));
         }
-        let Ok(reply) = self.answer_found(ask, look.found, files) else {
-            return Err(Excuse::Memory);
-        };
+        let reply = self.answer_found(ask, look.found, files)?;
         match self.change_found(ask, path, look, files, pool) {
             Ok(desc) => Ok(Served { reply, desc }),
             Err(excuse) => Err(excuse),

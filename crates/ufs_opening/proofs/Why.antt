@@ -8,7 +8,7 @@ use Rattle.ufs_image.specs.Opens.{opens, entries_of, by_damage, tree_from}
 use Rattle.ufs_catalog.specs.Faults.{IsWhyNot}
 use Rattle.ufs_catalog.proofs.Outside.{why_then}
 use Rattle.ufs_catalog.specs.declared.fault.RecoverFault.{RecoverFault}
-use Rattle.ufs_catalog.specs.declared.fault.RecoverFault.TheVariants.{NoSuperblock, BadVersion, BadGeometry, BadRecord, BadTree, Device, Memory}
+use Rattle.ufs_catalog.specs.declared.fault.RecoverFault.TheVariants.{NoSuperblock, BadVersion, BadGeometry, BadRecord, BadTree, Device, Lack}
 use Rattle.ufs_opening.specs.Told.{TellsWhy, IsBlame}
 
 module _ (sectors : ℕ) (disk : Image) where
@@ -23,4 +23,4 @@ module _ (sectors : ℕ) (disk : Image) where
   why_damage v taken (BadRecord sector) is = absurd is
   why_damage v taken (BadTree inode) is = ap (λ (w : Result Volume Refusal). tree_from (entries_of w)) taken ∙ ap (λ o. tree_from (by_damage v o)) is
   why_damage v taken (Device fault) is = absurd is
-  why_damage v taken Memory is = tt
+  why_damage v taken (Lack _) is = tt

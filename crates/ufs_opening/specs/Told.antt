@@ -4,7 +4,7 @@ use Rattle.ufs_base.specs.Images.{Image}
 use Rattle.ufs_image.specs.Opens.{opens}
 use Rattle.ufs_catalog.specs.Faults.{IsWhyNot}
 use Rattle.ufs_catalog.specs.declared.fault.RecoverFault.{RecoverFault}
-use Rattle.ufs_catalog.specs.declared.fault.RecoverFault.TheVariants.{BadTree, Memory}
+use Rattle.ufs_catalog.specs.declared.fault.RecoverFault.TheVariants.{BadTree, Lack}
 
 -- The cause is the one for which the image stands for no tree. Faults from outside say nothing of it.
 abbrev pub TellsWhy : ℕ → Image → RecoverFault → Type 0
@@ -14,5 +14,5 @@ TellsWhy sectors disk = IsWhyNot (opens sectors disk)
 
 abbrev pub IsBlame : Option ℕ → RecoverFault → Type 0
 IsBlame lowest (BadTree inode) = lowest ≡ Some inode
-IsBlame lowest Memory = Unit {0}
+IsBlame lowest (Lack _) = Unit {0}
 IsBlame lowest _ = ⊥

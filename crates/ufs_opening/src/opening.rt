@@ -31,9 +31,7 @@ fn refuse_damage(
     ensures refused { (image : Image) → AreFindingsOf geometry.now image findings.now → IfErr result (IsBlame (bad_tree geometry.now image)) }
     ensures calm { IfErr result (λ f. (before : ℕ) → HasFaultCause before before f) }
 {
-    let Ok(list) = damage_of(alloc, geometry, findings) else {
-        return Err(RecoverFault::Memory);
-    };
+    let list = damage_of(alloc, geometry, findings)?;
     match list.lowest_blamed(geometry) {
         Some(inode) => Err(RecoverFault::BadTree { inode }),
         None => Ok(()),

@@ -40,9 +40,7 @@ fn heads_in<D: Disk>(
 {
     let geometry = &opened.volume.superblock.geometry;
     damage_law(geometry);
-    let Ok(places) = places_of(alloc, &opened.findings, geometry) else {
-        return Err(RecoverFault::Memory);
-    };
+    let places = places_of(alloc, &opened.findings, geometry)?;
     let overlay = &opened.volume.overlay;
     let forms = opened.findings.forms();
     let heads = read_heads(alloc, disk, geometry, overlay, forms, &places, most)?;

@@ -1,6 +1,6 @@
 -- Lists of records by sector, with one record more or less.
 use Rattle.std.proofs.Common.{◌≡◌, inl, inr, ℕ, zero, suc, ◌+◌, ◌-◌, List, [], ◌∷◌, ◌++◌, Bool, true, false, ◌&&◌, length, take, get_or, ◌<◌, Result, Ok, Err, subst, refl, ap, sym, ◌∙◌, arith, append_assoc}
-use Rattle.std.specs.Prelude.{if◌then◌else◌, ◌==◌, ◌*◌, ◌≤◌, nat_le, nat_lt, map, filter, OnOk, OnErr}
+use Rattle.std.specs.Prelude.{if◌then◌else◌, ◌==◌, ◌*◌, ◌≤◌, nat_le, nat_lt, map, filter, max, OnOk, OnErr}
 use Rattle.std.specs.List.{list_all}
 use Rattle.std.proofs.lemmas.Bool.{cases_eq, eq-eqb, ne_eqb, eqb-true, and_parts, leb-true, ltb-true, true≢false}
 use Rattle.ufs_layout.specs.Areas.{IsGeometry, first_of_data}
@@ -154,3 +154,26 @@ pub are_after : {T E : Type 0} (g : Geometry) (number : ℕ) (rs : List LogRecor
     → list_all is_record rs ≡ true → ((k : ℕ) → AreOf g k (old k)) → (k : ℕ) → AreOf g k (new k)
 are_after g number rs old new (Ok x) ok err form are k = are_more g k number rs (old k) (new k) (are k) form (ok k)
 are_after g number rs old new (Err e) ok err form are k = subst (AreOf g k) (sym (err k)) (are k)
+
+-- ---- how many records a sector gets
+
+few_numbered : (g : Geometry) (k number : ℕ) (rs : List LogRecord) → length (numbered_of g k number rs) ≤ length rs
+few_numbered g k number [] = omega arith
+few_numbered g k number (r ∷ rs) = by (is_of g k r) (few_numbered g k number rs)
+  where
+    by : (b : Bool) → length (numbered_of g k number rs) ≤ length rs
+        → length (map {B = Numbered} (λ (r : LogRecord). record { number = number; change = r }) (if b then r ∷ filter (is_of g k) rs else filter (is_of g k) rs)) ≤ suc (length rs)
+    by true few = omega (arith, few)
+    by false few = omega (arith, few)
+
+-- A list has room for what it had, or for twice as many records as were given by then.
+pub room_by : (g : Geometry) (k number i old_room room : ℕ) (rs : List LogRecord) (old now : List Numbered) → now ≡ old ++ numbered_of g k number (take i rs)
+    → room ≤ max old_room (2 * (length old + i)) → (new_room : ℕ) → new_room ≤ max room (2 * length now + 1) → new_room ≤ max old_room (2 * (length old + (i + 1)))
+room_by g k number i old_room room rs old now is before new_room after =
+    let counted : length now ≡ length old + length (numbered_of g k number (take i rs)) = ap length is ∙ length-append old (numbered_of g k number (take i rs)) in
+    omega (arith, counted, few_numbered g k number (take i rs), taken_few i rs, before, after)
+  where
+    taken_few : (i : ℕ) (rs : List LogRecord) → length (take i rs) ≤ i
+    taken_few zero rs = omega arith
+    taken_few (suc i) [] = omega arith
+    taken_few (suc i) (r ∷ rs) = omega (arith, taken_few i rs)

@@ -1,10 +1,10 @@
 // A transaction's records, put into the lists of their sectors.
-ghost use Rattle.std.specs.Prelude.{◌≡◌, ◌++◌, ℕ, List, IfOk, IsTrue, OnOk, OnErr};
+ghost use Rattle.std.specs.Prelude.{◌≡◌, ◌++◌, ◌≤◌, ◌+◌, ◌*◌, ℕ, List, length, max, IfOk, IsTrue, OnOk, OnErr};
 ghost use Rattle.std.specs.List.{list_all};
 ghost use Rattle.ufs_layout.specs.Areas.{IsGeometry, sector_of_inode, is_inode_number};
 ghost use Rattle.ufs_image.specs.Fold.{is_in_range};
 ghost use Rattle.ufs_overlay.specs.declared.lists.Numbered.{Numbered};
-ghost use Rattle.ufs_overlay.specs.Lists.{lists_of, with_more};
+ghost use Rattle.ufs_overlay.specs.Lists.{lists_of, room_in, with_more};
 ghost use Rattle.ufs_overlay.specs.Over.{numbered_of, sector_of_record};
 
 use crate::lists::{Numbered, SectorLists};
@@ -76,6 +76,7 @@ fn put_one(
     requires in_range { IsTrue (is_in_range geometry.now change.now) }
     ensures ok { OnOk result ((k : ℕ) → lists_of lists.new k ≡ with_more (sector_of_record geometry.now change.now) (record { number = number; change = change.now }) (lists_of lists.old) k) }
     ensures err { OnErr result ((k : ℕ) → lists_of lists.new k ≡ lists_of lists.old k) }
+    ensures room { (k : ℕ) → room_in lists.new k ≤ max (room_in lists.old k) (2 * length (lists_of lists.old k) + 1) }
 {
     let change_copy = copied(alloc, change)?;
     let sector = sector_of(geometry, change);
@@ -92,7 +93,8 @@ fn put_one(
 fn take_back(lists: &mut SectorLists, geometry: &Geometry, records: &[LogRecord])
     requires limits { IsGeometry geometry.now }
     requires in_range { IsTrue (list_all (is_in_range geometry.now) records.now) }
-    ensures { (number : ℕ) (before : ℕ → List Numbered) → ((k : ℕ) → lists_of lists.old k ≡ before k ++ numbered_of geometry.now k number records.now) → (k : ℕ) → lists_of lists.new k ≡ before k }
+    ensures room { (k : ℕ) → room_in lists.new k ≡ room_in lists.old k }
+    ensures without { (number : ℕ) (before : ℕ → List Numbered) → ((k : ℕ) → lists_of lists.old k ≡ before k ++ numbered_of geometry.now k number records.now) → (k : ℕ) → lists_of lists.new k ≡ before k }
 {
     for done in 0..records.len() {
         let last = records.len() - 1 - done;
@@ -113,12 +115,15 @@ pub fn put_all(
     requires in_range { IsTrue (list_all (is_in_range geometry.now) records.now) }
     ensures ok { OnOk result ((k : ℕ) → lists_of lists.new k ≡ lists_of lists.old k ++ numbered_of geometry.now k number records.now) }
     ensures err { OnErr result ((k : ℕ) → lists_of lists.new k ≡ lists_of lists.old k) }
+
+    // A list has room for what it had, or for twice as many records as it may have now.
+    ensures room { (k : ℕ) → room_in lists.new k ≤ max (room_in lists.old k) (2 * (length (lists_of lists.old k) + length records.now)) }
 {
     for at in 0..records.len() {
-        let Ok(()) = put_one(alloc, lists, geometry, number, &records[at]) else {
+        if let Err(memory) = put_one(alloc, lists, geometry, number, &records[at]) {
             take_back(lists, geometry, &records[..at]);
-            return Err(Memory);
-        };
+            return Err(memory);
+        }
     }
     Ok(())
 }

@@ -1,5 +1,6 @@
-ghost use Rattle.std.specs.Prelude.{◌≡◌, ◌≢◌, ◌≤◌, ◌<◌, ℕ, [], OnOk, OnErr, IfSome, IfNone};
-ghost use Rattle.ufs_overlay.specs.Lists.{lists_of, with_more, without_last};
+ghost use Rattle.std.specs.Prelude.{◌≡◌, ◌≢◌, ◌≤◌, ◌<◌, ◌+◌, ◌*◌, ℕ, [], length, max, OnOk, OnErr, IfSome, IfNone};
+ghost use Rattle.std.specs.Vec.{vec_len, vec_capacity};
+ghost use Rattle.ufs_overlay.specs.Lists.{lists_of, room_in, with_more, without_last};
 
 use std::alloc::Global;
 use std::collections::BTreeMap;
@@ -23,7 +24,8 @@ pub struct SectorLists {
 impl SectorLists {
     /// No record. Takes no memory.
     pub fn new(alloc: Global) -> Self
-        ensures { (k : ℕ) → lists_of result k ≡ [] }
+        ensures none { (k : ℕ) → lists_of result k ≡ [] }
+        ensures room { (k : ℕ) → room_in result k ≡ 0 }
     {
         SectorLists {
             alloc,
@@ -57,23 +59,41 @@ impl SectorLists {
     pub fn push(&mut self, sector: u32, numbered: Numbered) -> Result<(), Memory>
         ensures ok { OnOk result ((k : ℕ) → lists_of self.new k ≡ with_more sector numbered (lists_of self.old) k) }
         ensures err { OnErr result ((k : ℕ) → lists_of self.new k ≡ lists_of self.old k) }
+
+        // A list that is full gets room for at most twice as many.
+        ensures room { (k : ℕ) → room_in self.new k ≤ max (room_in self.old k) (2 * length (lists_of self.old k) + 1) }
     {
         if let Some(list) = self.lists.get_mut(&sector) {
-            list.push(numbered)?;
+            make_room(list)?;
+            list.push_reserved(numbered);
             return Ok(());
         }
-        let mut list = Vec::new(self.alloc);
-        list.push(numbered)?;
-        self.lists.insert(sector, list)?;
+        let mut only = Vec::with_capacity(self.alloc, 1)?;
+        only.push_reserved(numbered);
+        self.lists.insert(sector, only)?;
         Ok(())
     }
 
     /// Takes the last record of a sector out.
     pub fn pop(&mut self, sector: u32)
-        ensures { (k : ℕ) → lists_of self.new k ≡ without_last sector (lists_of self.old) k }
+        ensures without { (k : ℕ) → lists_of self.new k ≡ without_last sector (lists_of self.old) k }
+        ensures room { (k : ℕ) → room_in self.new k ≡ room_in self.old k }
     {
         if let Some(list) = self.lists.get_mut(&sector) {
             let _last = list.pop();
         }
     }
+}
+
+// Room for one record more, and for no more than as many again.
+fn make_room(list: &mut Vec<Numbered>) -> Result<(), Memory>
+    ensures items { list.new.items ≡ list.old.items }
+    ensures ok { OnOk result (vec_len list.new < vec_capacity list.new) }
+    ensures most { vec_capacity list.new ≤ max (vec_capacity list.old) (2 * length list.old.items + 1) }
+{
+    let count = list.len();
+    if count == list.capacity() {
+        list.reserve_exact(count + 1)?;
+    }
+    Ok(())
 }

@@ -1,4 +1,4 @@
-ghost use Rattle.std.specs.Prelude.{◌≡◌, ◌==◌, if◌then◌else◌, ◌≤◌, ◌<◌, ◌∷◌, ◌++◌, [], ℕ, List, false, length, IfSome, IfNone, IfErr, IsTrue, OnOk, OnErr};
+ghost use Rattle.std.specs.Prelude.{◌≡◌, ◌==◌, if◌then◌else◌, ◌≤◌, ◌<◌, ◌+◌, ◌*◌, ◌∷◌, ◌++◌, [], ℕ, List, false, length, max, IfSome, IfNone, IfErr, IsTrue, OnOk, OnErr};
 ghost use Rattle.std.specs.List.{list_all, AllByRecursion};
 ghost use Rattle.ufs_layout.specs.Areas.{IsGeometry, sector_count};
 ghost use Rattle.ufs_layout.specs.Records.{is_record};
@@ -34,13 +34,14 @@ pub struct Overlay {
 }
 
 impl Overlay {
-    ghost use Rattle.ufs_overlay.specs.Seen.{HasAdded, geometry_of, recorded};
+    ghost use Rattle.ufs_overlay.specs.Seen.{HasAdded, geometry_of, recorded, room_for};
 
     /// No transaction. Takes no memory.
     pub fn make(alloc: Global, geometry: &Geometry) -> Overlay
         requires { IsGeometry geometry.now }
         ensures geometry { geometry_of result ≡ geometry.now }
         ensures none { HasAdded result [] }
+        ensures room { (sector : ℕ) → room_for result sector ≡ 0 }
     {
         Overlay {
             alloc,
@@ -58,6 +59,7 @@ impl Overlay {
             → OnOk result (HasAdded self.new (added ++ committed.now ∷ [])) }
         ensures err { (added : List Committed) → HasAdded self.old added → OnErr result (HasAdded self.new added) }
         ensures geometry { geometry_of self.new ≡ geometry_of self.old }
+        ensures room { (sector : ℕ) → room_for self.new sector ≤ max (room_for self.old sector) (2 * (length (recorded self.old sector) + length committed.now.records)) }
     {
         self.add_records(committed.number, committed.records.as_slice())
     }
@@ -71,6 +73,9 @@ impl Overlay {
             → OnOk result (HasAdded self.new (added ++ (record { number = number; records = records.now }) ∷ [])) }
         ensures err { (added : List Committed) → HasAdded self.old added → OnErr result (HasAdded self.new added) }
         ensures geometry { geometry_of self.new ≡ geometry_of self.old }
+
+        // No more memory than for what it had, and for twice the records of a sector.
+        ensures room { (sector : ℕ) → room_for self.new sector ≤ max (room_for self.old sector) (2 * (length (recorded self.old sector) + length records.now)) }
     {
         put_all(self.alloc, &mut self.lists, &self.geometry, number, records)
     }
@@ -79,6 +84,7 @@ impl Overlay {
     /// on the disk for good.
     pub fn empty_after_epoch(&mut self)
         ensures none { HasAdded self.new [] }
+        ensures room { (sector : ℕ) → room_for self.new sector ≡ 0 }
         ensures geometry { geometry_of self.new ≡ geometry_of self.old }
     {
         self.lists = SectorLists::new(self.alloc);

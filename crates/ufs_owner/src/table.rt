@@ -7,7 +7,7 @@ use crate::owner::{Owner, Standing};
 use crate::records::Records;
 use std::alloc::Global;
 use std::marker::Model;
-use ufs_base::Memory;
+use ufs_base::{Lack, Memory};
 
 /// Which server has each file, and which clients wait for it, in order. A file of which nothing is known is at the
 /// primary, and nobody waits for it. Each call takes the time of a look-up by hash, whatever the number of files; those
@@ -106,7 +106,7 @@ impl OwnerTable {
     }
 
     /// Makes sure that a file can be sent without memory.
-    pub fn reserve(&mut self) -> Result<(), Memory>
+    pub fn reserve(&mut self) -> Result<(), Lack>
         ensures files { self.new.files ≡ self.old.files }
         ensures ok { OnOk result (self.new.spare ≡ max 1 self.old.spare) }
         ensures err { OnErr result (self.new ≡ self.old) }
@@ -116,7 +116,7 @@ impl OwnerTable {
             return Ok(());
         }
         if self.out == u32::MAX {
-            return Err(Memory);
+            return Err(Lack::AtEnd);
         }
         self.records.reserve(1)?;
         self.spare = 1;
@@ -124,7 +124,7 @@ impl OwnerTable {
     }
 
     /// A file that is at the primary, and for which nobody waits, is to go to a worker.
-    pub fn send(&mut self, file: u32, to: u8) -> Result<(), Memory>
+    pub fn send(&mut self, file: u32, to: u8) -> Result<(), Lack>
         requires here { owner_at self.old.files file ≡ Primary }
         requires nobody { waiting_at self.old.files file ≡ [] }
         ensures ok { OnOk result (self.new.files ≡ with_owner self.old.files file (Going to) 0) }

@@ -34,4 +34,4 @@ errno_of TooLong = Some Enametoolong
 errno_of BadComponent = Some Einval
 errno_of NameTooLong = Some Enametoolong
 errno_of TrailingSlash = Some Einval
-errno_of Memory = None
+errno_of (Memory _) = None

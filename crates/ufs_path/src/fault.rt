@@ -1,4 +1,5 @@
 // Why a path isn't read.
+use ufs_base::Memory;
 use ufs_model::Errno;
 
 /// The first fault of a path's text, in this order; of two components the left one's comes first.
@@ -17,7 +18,7 @@ pub enum PathFault {
     /// A slash at the end, where the path isn't the root.
     TrailingSlash,
     /// Want of memory, which tells nothing of the text.
-    Memory,
+    Memory(Memory),
 }
 
 impl PathFault {
@@ -34,7 +35,7 @@ impl PathFault {
                 Some(Errno::Einval)
             }
             PathFault::TooLong | PathFault::NameTooLong => Some(Errno::Enametoolong),
-            PathFault::Memory => None,
+            PathFault::Memory(_) => None,
         }
     }
 }

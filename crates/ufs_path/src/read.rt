@@ -1,4 +1,5 @@
 ghost use Rattle.std.specs.Prelude.{◌≡◌, ℕ, List, ◌++◌, ◌∷◌, [], None, IfOk, OnOk, IfErr, IfSome, IfNone, IsOkUnless, length, nat_lt, filter};
+ghost use Rattle.ufs_base.specs.Wanting.{wanting};
 ghost use Rattle.ufs_model.specs.Paths.{components, text_refusal, whole_path};
 ghost use Rattle.ufs_path.specs.Faults.{first_fault, errno_of};
 ghost use Rattle.ufs_path.specs.Texts.{joined, ends_from};
@@ -7,6 +8,7 @@ use crate::check::path_fault;
 use crate::fault::PathFault;
 use crate::text::PathText;
 use std::alloc::{AllocError, Global};
+use ufs_base::Memory;
 
 /// The components of a path. The text is looked at first and without memory, so a text that has a
 /// fault is answered by it, and want of memory comes only of a text that has none.
@@ -15,7 +17,7 @@ pub fn read_path(alloc: Global, path: &[u8]) -> Result<PathText, PathFault>
 
     // The fault that is answered is the first.
     ensures refused { IfSome (first_fault path.now) (λ fault. result ≡ Err fault) }
-    ensures allowed { IfNone (first_fault path.now) (IsOkUnless result PathFault.Memory) }
+    ensures allowed { IfNone (first_fault path.now) (IsOkUnless result (PathFault.Memory wanting)) }
 
     // It tells what a client is answered.
     ensures errno { IfErr result (λ fault. errno_of fault ≡ text_refusal path.now) }
@@ -26,7 +28,7 @@ pub fn read_path(alloc: Global, path: &[u8]) -> Result<PathText, PathFault>
     }
     match kept(alloc, path) {
         Ok(text) => Ok(text),
-        Err(_) => Err(PathFault::Memory),
+        Err(refused) => Err(PathFault::Memory(Memory::from(refused))),
     }
 }
 

@@ -1,5 +1,5 @@
 // Blocks that come to a pool, which may have some of them already.
-ghost use Rattle.std.specs.Prelude.{ℕ, All, ◌≡◌, ◌≤◌, ◌-◌, ◌<◌, true};
+ghost use Rattle.std.specs.Prelude.{ℕ, All, ◌≡◌, ◌⊎◌, ◌≤◌, ◌-◌, ◌<◌, true, false, IfNone, IfSome, IsTrue};
 ghost use Rattle.std.specs.FinSet as set;
 ghost use Rattle.ufs_base.specs.declared.sizes.TheConstants.{MAX_BLOCKS};
 ghost use Rattle.ufs_bitmap.specs.Blocks.{run_set};
@@ -69,6 +69,8 @@ pub fn pour(from: &mut Pool, into: &mut Pool)
 /// One block of the pool is lent, if any is to be and the pool has one. Takes no memory.
 pub fn lend(pool: &mut Pool, lent: &mut Pool, lends: bool) -> Option<u32>
     requires { lent.old ≡ set.empty }
+    ensures asked { IfSome result (λ block. (IsTrue lends) × (set.contains pool.old block ≡ true)) }
+    ensures none { IfNone result ((lends ≡ false) ⊎ (pool.old ≡ set.empty)) }
     ensures lent { lent.new ≡ set.from_list (listed result) }
     ensures pool { pool.new ≡ set.difference pool.old lent.new }
     ensures within { (b : ℕ) → set.contains lent.new b ≡ true → set.contains pool.old b ≡ true }

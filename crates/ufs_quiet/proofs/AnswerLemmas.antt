@@ -1,6 +1,7 @@
 -- How the answer of a part is that of the whole.
 use Rattle.std.proofs.Common.{◌≡◌, inl, inr, ℕ, List, ◌++◌, Option, sym, subst, refl, ◌∙◌}
 use Rattle.std.specs.Io.KnownBytes.{Appends}
+use Rattle.ufs_base.specs.Wanting.{wanting}
 use Rattle.ufs_base.specs.Faults.{raised}
 use Rattle.ufs_script.specs.Reading.{ReadsBreak}
 use Rattle.ufs_script.specs.Script.{IsOutside}
@@ -56,7 +57,7 @@ break_told r f read inside ending text (inl e) = subst (λ (x : Ending). EndsUnr
 break_told r f read inside ending text (inr e) = no_memory r ending text e
 
 -- a fault that is neither the source's nor want of memory is a break
-pub inside : (f : ScriptFault) → (f ≡ fault.Memory → ⊥) → (f ≡ fault.Source → ⊥) → ¬ IsOutside f
+pub inside : (f : ScriptFault) → (f ≡ fault.Memory wanting → ⊥) → (f ≡ fault.Source → ⊥) → ¬ IsOutside f
 inside (fault.NoClient line) m s = λ out. out
 inside (fault.BadWord line) m s = λ out. out
 inside (fault.BadNumber line) m s = λ out. out
@@ -67,7 +68,7 @@ inside (fault.NoEnd line) m s = λ out. out
 inside (fault.AfterEnd line) m s = λ out. out
 inside (fault.NotBuilt line) m s = λ out. out
 inside fault.Source m s = absurd (s refl)
-inside fault.Memory m s = absurd (m refl)
+inside (fault.Memory _) m s = absurd (m refl)
 
 -- why there is no script is told
 pub fault_told : (r : Reading) (f : ScriptFault) → (f ≡ fault.Source → r.now ≡ raised r.before) → ((¬ IsOutside f) → ReadsBreak r.left r.rest f) → (ending : Ending) (text : List ℕ) → TellsFault f ending text → EndsUnread r ending text

@@ -42,7 +42,7 @@ list_refused d (recover.BadGeometry number) cause why = (cause, image.BadGeometr
 list_refused d (recover.BadRecord sector) cause why = (cause, image.BadRecord sector, why, refl)
 list_refused d (recover.BadTree inode) cause why = (cause, image.BadTree inode, why, refl)
 list_refused d (recover.Device fault) cause why = (cause.rose, ap device_line cause.number)
-list_refused d recover.Memory cause why = (cause, refl)
+list_refused d (recover.Lack _) cause why = (cause, refl)
 
 -- ---- by the status
 

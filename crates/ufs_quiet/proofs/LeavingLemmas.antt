@@ -26,7 +26,7 @@ unbegun_short (start.Image (recover.BadGeometry number)) = inl refl
 unbegun_short (start.Image (recover.BadRecord sector)) = inl refl
 unbegun_short (start.Image (recover.BadTree inode)) = inl refl
 unbegun_short (start.Image (recover.Device fault)) = inr (inl refl)
-unbegun_short (start.Image recover.Memory) = inr (inr refl)
+unbegun_short (start.Image (recover.Lack _)) = inr (inr refl)
 unbegun_short (start.Unreached inode) = inl refl
 unbegun_short (start.Unnamed inode) = inl refl
 unbegun_short (start.ExtraBlocks inode) = inl refl
@@ -64,7 +64,7 @@ by_end (Ok x) lines ending text e = elim (printed_status lines ending text e) [ 
 by_end (Err (ended.Image fault)) lines ending text e = inr (subst (λ (x : Ending). IsShort (status_of x)) (sym e.0) (unbegun_short fault))
 by_end (Err (ended.Device fault)) lines ending text e = inr (inr (behind_short lines fault ending text e))
 by_end (Err (ended.Stopped fault)) lines ending text e = inr (inr (behind_short lines fault ending text e))
-by_end (Err ended.Memory) lines ending text e = inr (inr (inr (ap status_of e.0)))
+by_end (Err (ended.Lack _)) lines ending text e = inr (inr (inr (ap status_of e.0)))
 
 -- where no session began, only a fault of the disk raises its count
 unbegun_calm : (before now : ℕ) (fault : StartFault) → HasStartCause before now fault → (status_of (start_ending fault) ≡ 4 → ⊥) → now ≡ before
@@ -74,7 +74,7 @@ unbegun_calm before now (start.Image (recover.BadGeometry number)) cause other =
 unbegun_calm before now (start.Image (recover.BadRecord sector)) cause other = cause
 unbegun_calm before now (start.Image (recover.BadTree inode)) cause other = cause
 unbegun_calm before now (start.Image (recover.Device fault)) cause other = absurd (other refl)
-unbegun_calm before now (start.Image recover.Memory) cause other = cause
+unbegun_calm before now (start.Image (recover.Lack _)) cause other = cause
 unbegun_calm before now (start.Unreached inode) cause other = cause
 unbegun_calm before now (start.Unnamed inode) cause other = cause
 unbegun_calm before now (start.ExtraBlocks inode) cause other = cause
@@ -85,7 +85,7 @@ still_end before now history (Ok x) closing cause lines ending text e four five 
 still_end before now history (Err (ended.Image fault)) closing cause lines ending text e four five silent = inl (unbegun_calm before now fault (cause fault refl) (λ is. four (ap status_of e.0 ∙ is)))
 still_end before now history (Err (ended.Device fault)) closing cause lines ending text e four five silent = absurd (elim (behind_short lines fault ending text e) [ inl is ↦ four is | inr is ↦ five is ])
 still_end before now history (Err (ended.Stopped fault)) closing cause lines ending text e four five silent = absurd (elim (behind_short lines fault ending text e) [ inl is ↦ four is | inr is ↦ five is ])
-still_end before now history (Err ended.Memory) closing cause lines ending text e four five silent = absurd (five (ap status_of e.0))
+still_end before now history (Err (ended.Lack _)) closing cause lines ending text e four five silent = absurd (five (ap status_of e.0))
 
 -- ---- of an answer
 

@@ -185,7 +185,7 @@ begun_there d proper (start.Image (recover.BadGeometry number)) is why = proper_
 begun_there d proper (start.Image (recover.BadRecord sector)) is why = proper_opens d.sectors d.image proper (image.BadRecord sector) why
 begun_there d proper (start.Image (recover.BadTree inode)) is why = proper_opens d.sectors d.image proper (image.BadTree inode) why
 begun_there d proper (start.Image (recover.Device fault)) is why = let no : DeviceFault ≡ NoTree = is in cc
-begun_there d proper (start.Image recover.Memory) is why = let no : OutOfMemory ≡ NoTree = is in cc
+begun_there d proper (start.Image (recover.Lack _)) is why = let no : OutOfMemory ≡ NoTree = is in cc
 begun_there d proper (start.Unreached inode) is none = absurd none
 begun_there d proper (start.Unnamed inode) is none = absurd none
 begun_there d proper (start.ExtraBlocks inode) is none = absurd none

@@ -26,7 +26,7 @@ recovery_refused d (recover.BadGeometry number) cause why outside = (cause, outs
 recovery_refused d (recover.BadRecord sector) cause why outside = (cause, outside, (image.BadRecord sector, why, refl))
 recovery_refused d (recover.BadTree inode) cause why outside = (cause, outside, (image.BadTree inode, why, refl))
 recovery_refused d (recover.Device fault) cause why outside = (cause.rose, ap device_line cause.number)
-recovery_refused d recover.Memory cause why outside = (cause, refl)
+recovery_refused d (recover.Lack _) cause why outside = (cause, refl)
 
 -- what isn't recovered hasn't status 0
 pub refused_apart : (f : RecoverFault) (status : ℕ) → (status ≡ status_of (ending_of f)) ⊎ (status ≡ sink_status) → status ≡ 0 → ⊥
@@ -37,7 +37,7 @@ refused_apart (recover.BadGeometry number) status (inl is) zero = cc
 refused_apart (recover.BadRecord sector) status (inl is) zero = cc
 refused_apart (recover.BadTree inode) status (inl is) zero = cc
 refused_apart (recover.Device fault) status (inl is) zero = cc
-refused_apart recover.Memory status (inl is) zero = cc
+refused_apart (recover.Lack _) status (inl is) zero = cc
 
 -- ---- by the status
 

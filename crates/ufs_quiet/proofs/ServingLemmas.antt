@@ -1,6 +1,7 @@
 -- How a session that was played ends, and what it leaves.
 use Rattle.std.proofs.Common.{◌≡◌, ◌⊎◌, inl, inr, ℕ, List, [], length, Result, Ok, Err, ap, sym, subst, refl, ◌∙◌}
 use Rattle.std.specs.Prelude.{Bool, IsTrue}
+use Rattle.ufs_base.specs.declared.lack.Lack.{Lack}
 use Rattle.ufs_engine.specs.Begins.{BeginsWith, TellsNoSession}
 use Rattle.ufs_catalog.specs.Faults.{IsWhyNot}
 use Rattle.ufs_catalog.specs.declared.fault.RecoverFault.{RecoverFault}
@@ -38,7 +39,7 @@ pub record HasPlayed (d : Formatting) (script : Script) (told : List (List Entry
   pub opened : MayPlay d.visible d.sectors d.state → (begun : PosixTree) × BeginsWith d.sectors d.image begun
   pub why : MayPlay d.visible d.sectors d.state → (fault : StartFault) → result ≡ Err (ended.Image fault) → TellsNoSession d.sectors d.image fault
   pub unopened : IsTrue d.visible → (refusal : Refusal) → opens d.sectors d.image ≡ Err refusal
-      → (result ≡ Err ended.Memory) ⊎ ((fault : RecoverFault) × (result ≡ Err (ended.Image (start.Image fault))) × TellsWhy d.sectors d.image fault)
+      → ((w : Lack) × (result ≡ Err (ended.Lack w))) ⊎ ((fault : RecoverFault) × (result ≡ Err (ended.Image (start.Image fault))) × TellsWhy d.sectors d.image fault)
 
 same_line : {X : Type 0} (given : Result X Refusal) (a b : Refusal) → given ≡ Err a → given ≡ Err b → refusal_line a ≡ refusal_line b
 same_line given a b is was = let both : Err a ≡ Err b = sym is ∙ was in let same : a ≡ b = cc in ap refusal_line same
@@ -51,7 +52,7 @@ told_why given (recover.BadGeometry number) why refusal is none = same_line give
 told_why given (recover.BadRecord sector) why refusal is none = same_line given (image.BadRecord sector) refusal why is
 told_why given (recover.BadTree inode) why refusal is none = same_line given (image.BadTree inode) refusal why is
 told_why given (recover.Device fault) why refusal is none = cc
-told_why given recover.Memory why refusal is none = cc
+told_why given (recover.Lack _) why refusal is none = cc
 
 -- ---- how it ends
 
@@ -98,13 +99,13 @@ module _ (trace : Bool) (d : Formatting) (script : Script) (told : List (List En
   unbegun (start.Image (recover.BadRecord sector)) none count why cause cut = (none, count, no_start (start.Image (recover.BadRecord sector)) refl why cause)
   unbegun (start.Image (recover.BadTree inode)) none count why cause cut = (none, count, no_start (start.Image (recover.BadTree inode)) refl why cause)
   unbegun (start.Image (recover.Device fault)) none count why cause cut = inl (none, count.rose, ap device_line count.number)
-  unbegun (start.Image recover.Memory) none count why cause cut = inl (cut, refl)
+  unbegun (start.Image (recover.Lack _)) none count why cause cut = inl (cut, refl)
   unbegun (start.Unreached inode) none count why cause cut = (none, count, no_start (start.Unreached inode) refl why cause)
   unbegun (start.Unnamed inode) none count why cause cut = (none, count, no_start (start.Unnamed inode) refl why cause)
   unbegun (start.ExtraBlocks inode) none count why cause cut = (none, count, no_start (start.ExtraBlocks inode) refl why cause)
 
   cause_of : (fault : StartFault) → HasPlayed d script told (Err (ended.Image fault)) → Cause fault
-  cause_of fault h visible refusal none = elim (h.unopened visible refusal none) [ inl memory ↦ absurd cc | inr x ↦ (x.0, cc, x.2) ]
+  cause_of fault h visible refusal none = elim (h.unopened visible refusal none) [ inl lacks ↦ (let clash = lacks.1 in absurd cc) | inr x ↦ (x.0, cc, x.2) ]
 
   -- each request was answered
   well_ended : HasPlayed d script told (Ok tt) → (ending : Ending) (text : List ℕ) → EndsPrinting (session_lines trace (joined told)) ending text → EndsServing trace d script told ending text
@@ -141,4 +142,4 @@ module _ (trace : Bool) (d : Formatting) (script : Script) (told : List (List En
       (subst (EndsServing trace d script told (start_ending fault)) (sym e.1) (unbegun fault (h.refused fault refl) (h.opening fault refl) (λ may. h.why may fault refl) (cause_of fault h) (cut_session (Err (ended.Image fault)) h)))
   played_ends (Err (ended.Device fault)) h ending text e = fault_ended fault (session (Err (ended.Device fault)) refl h) (inl h.closing) ending text e
   played_ends (Err (ended.Stopped fault)) h ending text e = fault_ended fault (session (Err (ended.Stopped fault)) refl h) (inr h.closing) ending text e
-  played_ends (Err ended.Memory) h ending text e = subst (λ (x : Ending). EndsServing trace d script told x text) (sym e.0) (inl (cut_session (Err ended.Memory) h, e.1))
+  played_ends (Err (ended.Lack w)) h ending text e = subst (λ (x : Ending). EndsServing trace d script told x text) (sym e.0) (inl (cut_session (Err (ended.Lack w)) h, e.1))

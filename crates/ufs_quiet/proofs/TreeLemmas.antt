@@ -41,7 +41,7 @@ tree_refused d (recover.BadGeometry number) cause why = (cause, (image.BadGeomet
 tree_refused d (recover.BadRecord sector) cause why = (cause, (image.BadRecord sector, why, refl))
 tree_refused d (recover.BadTree inode) cause why = (cause, (image.BadTree inode, why, refl))
 tree_refused d (recover.Device fault) cause why = (cause.rose, ap device_line cause.number)
-tree_refused d recover.Memory cause why = (cause, inl refl)
+tree_refused d (recover.Lack _) cause why = (cause, inl refl)
 
 -- only a fault of the disk that is told raises its count
 pub calm_by : (before now : ℕ) (f : RecoverFault) (status : ℕ) → HasFaultCause before now f → (status ≡ status_of (ending_of f)) ⊎ (status ≡ sink_status) → (status ≡ 4 → ⊥) → (status ≡ 7 → ⊥) → now ≡ before
@@ -52,7 +52,7 @@ calm_by before now (recover.BadRecord sector) status cause is other sink = cause
 calm_by before now (recover.BadTree inode) status cause is other sink = cause
 calm_by before now (recover.Device fault) status cause (inl is) other sink = absurd (other is)
 calm_by before now (recover.Device fault) status cause (inr is) other sink = absurd (sink is)
-calm_by before now recover.Memory status cause is other sink = cause
+calm_by before now (recover.Lack _) status cause is other sink = cause
 
 -- ---- by the status
 

@@ -1,6 +1,7 @@
 -- How a command ends where the sink doesn't fail: why, and what it has written.
 use Rattle.std.specs.Prelude.{ℕ, ◌≡◌, ◌≢◌, ◌<◌, ◌≤◌, ◌⊎◌, Bool, List, [], ◌++◌, length, Option, Some, None, Result, Ok, Err, IsTrue}
 use Rattle.std.specs.Io.KnownBytes.{Appends}
+use Rattle.ufs_base.specs.Wanting.{wanting}
 use Rattle.ufs_base.specs.Faults.{raised}
 use Rattle.ufs_engine.specs.Begins.{TellsNoSession}
 use Rattle.ufs_layout.specs.Areas.{geometry_refusal, sector_count}
@@ -83,7 +84,7 @@ IsBreakLine f ending text = IsLine BadScript (break_line f) ending text ⊎ IsFi
 -- why there is no script: want of memory, a fault of the source, or a break
 abbrev pub TellsFault : ScriptFault → Ending → List ℕ → Type 0
 TellsFault f ending text =
-    ((f ≡ fault.Memory) × IsFixed OutOfMemory ending text)
+    ((f ≡ fault.Memory wanting) × IsFixed OutOfMemory ending text)
     ⊎ (((f ≡ fault.Source) × IsFixed SourceFault ending text) ⊎ ((¬ IsOutside f) × IsBreakLine f ending text))
 
 -- these lines are written, or memory runs out behind the first of them
@@ -109,7 +110,7 @@ EndsMkfs g d _ text = ⊥
 -- how a command ends that can't read the image
 abbrev pub ending_of : RecoverFault → Ending
 ending_of (recover.Device fault) = DeviceFault
-ending_of recover.Memory = OutOfMemory
+ending_of (recover.Lack _) = OutOfMemory
 ending_of _ = NoTree
 
 -- and with which line
@@ -120,7 +121,7 @@ line_of (recover.BadGeometry number) = refusal_line (image.BadGeometry number)
 line_of (recover.BadRecord sector) = refusal_line (image.BadRecord sector)
 line_of (recover.BadTree inode) = refusal_line (image.BadTree inode)
 line_of (recover.Device fault) = device_line fault
-line_of recover.Memory = memory_line
+line_of (recover.Lack _) = memory_line
 
 -- how `play` ends where no session begins
 abbrev pub start_ending : StartFault → Ending
@@ -206,7 +207,7 @@ EndsPlayed (Ok x) lines ending text = EndsPrinting lines ending text
 EndsPlayed (Err (ended.Image fault)) lines ending text = IsLine (start_ending fault) (start_line fault) ending text
 EndsPlayed (Err (ended.Device fault)) lines ending text = EndsBehind lines fault ending text
 EndsPlayed (Err (ended.Stopped fault)) lines ending text = EndsBehind lines fault ending text
-EndsPlayed (Err ended.Memory) lines ending text = IsFixed OutOfMemory ending text
+EndsPlayed (Err (ended.Lack _)) lines ending text = IsFixed OutOfMemory ending text
 
 -- No session begins with the disk, and the text tells why.
 pub record TellsNoStart (d : Formatting) (text : List ℕ) : Type 0 where

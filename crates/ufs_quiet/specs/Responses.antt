@@ -7,7 +7,7 @@ use Rattle.ufs_quiet.specs.declared.ending.Ending.{Ending}
 use Rattle.ufs_quiet.specs.declared.ending.Ending.TheVariants.{OutOfMemory}
 use Rattle.ufs_quiet.specs.declared.words.Command.{Command}
 use Rattle.ufs_quiet.specs.declared.response.WordsFault.{WordsFault}
-use Rattle.ufs_quiet.specs.declared.response.WordsFault.TheVariants.{NotText, Memory}
+use Rattle.ufs_quiet.specs.declared.response.WordsFault.TheVariants.{NotText, Lack}
 use Rattle.ufs_quiet.specs.Commands.{asked, image_word}
 use Rattle.ufs_quiet.specs.Seen.{Reading, Formatting}
 use Rattle.ufs_quiet.specs.Endings.{Ends, IsFixed}
@@ -27,4 +27,4 @@ module _ {Z : Type 0} where
   abbrev pub Responds : Result (Vec (String Z) Z) WordsFault → Reading → Formatting → List (List Entry) → Ending → List ℕ → Type 0
   Responds (Ok words) r d told ending text = Ends (command_for (Ok words)) r d told ending text
   Responds (Err NotText) r d told ending text = Ends None r d told ending text
-  Responds (Err Memory) r d told ending text = IsFixed OutOfMemory ending text
+  Responds (Err (Lack _)) r d told ending text = IsFixed OutOfMemory ending text

@@ -37,7 +37,7 @@ break_line (fault.NoEnd number) = cause_line number (codes "NoEnd")
 break_line (fault.AfterEnd number) = cause_line number (codes "AfterEnd")
 break_line (fault.NotBuilt number) = cause_line number (codes "NotBuilt")
 break_line fault.Source = []
-break_line fault.Memory = []
+break_line (fault.Memory _) = []
 
 -- a disk that is too small is told as a fifth bad geometry
 abbrev pub too_small_line : List ℕ

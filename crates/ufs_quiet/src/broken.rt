@@ -7,8 +7,9 @@ ghost use Rattle.ufs_quiet.specs.Seen.{writing};
 ghost use Rattle.ufs_quiet.specs.Endings.{IsAnswer, IsBreakLine, TellsFault};
 
 use crate::ending::Ending;
-use crate::finish::{finish, tell};
+use crate::finish::{finish, out_of_memory, tell};
 use std::alloc::{AllocError, Global};
+use ufs_base::Lack;
 use ufs_io::Sink;
 use ufs_script::ScriptFault;
 
@@ -34,7 +35,7 @@ fn break_line(alloc: Global, fault: ScriptFault) -> Result<Vec<u8>, AllocError>
         ScriptFault::NoEnd { line } => cause_line(alloc, line, "NoEnd"),
         ScriptFault::AfterEnd { line } => cause_line(alloc, line, "AfterEnd"),
         ScriptFault::NotBuilt { line } => cause_line(alloc, line, "NotBuilt"),
-        ScriptFault::Source | ScriptFault::Memory => unreachable!(),
+        ScriptFault::Source | ScriptFault::Memory(_) => unreachable!(),
     }
 }
 
@@ -45,7 +46,7 @@ fn tell_break<K: Sink>(alloc: Global, sink: &mut K, fault: ScriptFault) -> u8
 {
     match break_line(alloc, fault) {
         Ok(line) => tell(sink, Ending::BadScript, line.as_slice()),
-        Err(_) => finish(sink, Ending::OutOfMemory),
+        Err(refused) => out_of_memory(sink, Lack::from(refused)),
     }
 }
 
@@ -55,7 +56,7 @@ pub fn tell_fault<K: Sink>(alloc: Global, sink: &mut K, fault: ScriptFault) -> u
     ensures told { fault ≡ Source → (result ≡ 6) ⊎ (result ≡ 7) }
 {
     match fault {
-        ScriptFault::Memory => finish(sink, Ending::OutOfMemory),
+        ScriptFault::Memory(memory) => out_of_memory(sink, Lack::Memory(memory)),
         ScriptFault::Source => finish(sink, Ending::SourceFault),
         fault => tell_break(alloc, sink, fault),
     }

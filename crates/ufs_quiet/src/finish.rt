@@ -2,9 +2,11 @@
 ghost use Rattle.std.specs.Prelude.{◌≡◌, ◌⊎◌};
 ghost use Rattle.ufs_quiet.specs.Seen.{writing};
 ghost use Rattle.ufs_quiet.specs.Endings.{IsAnswer, IsFixed, IsLine, status_of, sink_status};
+ghost use Rattle.ufs_quiet.specs.declared.ending.Ending.TheVariants.{OutOfMemory};
 
 use crate::ending::Ending;
 use crate::write::write_all;
+use ufs_base::Lack;
 use ufs_io::Sink;
 
 /// The status of a fault of the sink, whatever else happened.
@@ -19,6 +21,14 @@ pub fn tell<K: Sink>(sink: &mut K, ending: Ending, line: &[u8]) -> u8
         Ok(()) => ending.status(),
         Err(_) => SINK_FAULT,
     }
+}
+
+/// Ends for want of memory, or where a number stands at its end.
+pub fn out_of_memory<K: Sink>(sink: &mut K, _lack: Lack) -> u8
+    ensures answer { IsAnswer (IsFixed OutOfMemory) (writing K.held K.faults sink.old sink.new) result }
+    ensures status { (result ≡ status_of OutOfMemory) ⊎ (result ≡ sink_status) }
+{
+    finish(sink, Ending::OutOfMemory)
 }
 
 /// Ends with the line that is always the same.

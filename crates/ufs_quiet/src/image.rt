@@ -7,7 +7,7 @@ ghost use Rattle.ufs_quiet.specs.declared.ending.Ending.TheVariants.{NoTree, Dev
 ghost use Rattle.ufs_quiet.specs.Endings.{IsAnswer, IsLine, ending_of, line_of, start_ending, start_line, status_of, sink_status};
 
 use crate::ending::Ending;
-use crate::finish::{finish, tell};
+use crate::finish::{out_of_memory, tell};
 use arrayvec::ArrayString;
 use itoa::Buffer;
 use ufs_io::Sink;
@@ -77,7 +77,7 @@ pub fn tell_refusal<K: Sink>(sink: &mut K, fault: RecoverFault) -> u8
         RecoverFault::BadRecord { sector } => tell_number(sink, "BadRecord", sector),
         RecoverFault::BadTree { inode } => tell_number(sink, "BadTree", inode),
         RecoverFault::Device { fault } => tell_device(sink, fault),
-        RecoverFault::Memory => finish(sink, Ending::OutOfMemory),
+        RecoverFault::Lack(lack) => out_of_memory(sink, lack),
     }
 }
 

@@ -7,9 +7,10 @@ ghost use Rattle.ufs_quiet.specs.Seen.{formatting, writing};
 ghost use Rattle.ufs_quiet.specs.Endings.{EndsMkfs, IsAnswer};
 
 use crate::ending::Ending;
-use crate::finish::{finish, tell};
+use crate::finish::{finish, out_of_memory, tell};
 use crate::image::device_line;
 use std::alloc::{AllocError, Global};
+use ufs_base::Lack;
 use ufs_disk::Disk;
 use ufs_io::Sink;
 use ufs_layout::Geometry;
@@ -50,8 +51,9 @@ fn format_disk<K: Sink, D: Disk>(
     if disk.sectors() < 8 * geometry.blocks {
         return finish(sink, Ending::TooSmall);
     }
-    let Ok(line) = made_line(alloc, geometry) else {
-        return finish(sink, Ending::OutOfMemory);
+    let line = match made_line(alloc, geometry) {
+        Ok(line) => line,
+        Err(refused) => return out_of_memory(sink, Lack::from(refused)),
     };
     match format(disk, geometry) {
         Ok(()) => tell(sink, Ending::Done, line.as_slice()),
@@ -59,7 +61,7 @@ fn format_disk<K: Sink, D: Disk>(
             let line = device_line(fault);
             tell(sink, Ending::DeviceFault, line.as_bytes())
         }
-        Err(FormatFault::TooSmall | FormatFault::Memory) => unreachable!(),
+        Err(FormatFault::TooSmall) => unreachable!(),
     }
 }
 

@@ -2,6 +2,7 @@
 ghost use Rattle.std.specs.Prelude.{◌≡◌, ◌≢◌, List, ℕ, OnOk, IfOk};
 ghost use Rattle.std.specs.Io.KnownBytes.{Appends};
 ghost use Rattle.ufs_base.specs.Faults.{raised};
+ghost use Rattle.ufs_base.specs.Wanting.{wanting};
 ghost use Rattle.ufs_model.specs.History.{joined};
 ghost use Rattle.ufs_quiet.specs.Served.{session_lines};
 ghost use Rattle.ufs_quiet.specs.Printed.{entry_line, entry_lines};
@@ -24,7 +25,7 @@ pub enum LineKind {
 /// Why lines weren't all written.
 #[derive(Clone, Copy, Debug, PartialEq, Eq)]
 pub enum PrintFault {
-    Memory,
+    Memory(Memory),
     Sink,
 }
 
@@ -32,10 +33,10 @@ impl From<Memory> for PrintFault {
     ghost use Rattle.std.specs.Prelude.{◌≡◌};
     ghost use Rattle.ufs_quiet.specs.declared.print.PrintFault.TheVariants as fault;
 
-    ghost from_gives = { λ _ e. e ≡ fault.Memory };
+    ghost from_gives = { λ m e. e ≡ fault.Memory m };
 
-    fn from(_: Memory) -> Self {
-        PrintFault::Memory
+    fn from(memory: Memory) -> Self {
+        PrintFault::Memory(memory)
     }
 }
 
@@ -70,7 +71,7 @@ fn print_entry<K: Sink>(
     ensures rose { result ≡ Err PrintFault.Sink → K.faults sink.new ≡ raised (K.faults sink.old) }
     ensures told { result ≢ Err PrintFault.Sink → K.faults sink.new ≡ K.faults sink.old }
     ensures ok { OnOk result (Appends (K.held sink.old) (K.held sink.new) (entry_line kind entry.now)) }
-    ensures memory { result ≡ Err PrintFault.Memory → sink.new ≡ sink.old }
+    ensures memory { result ≡ Err (PrintFault.Memory wanting) → sink.new ≡ sink.old }
     ensures cut { result ≡ Err PrintFault.Sink → (front : List ℕ) × IsFront front (entry_line kind entry.now) × Appends (K.held sink.old) (K.held sink.new) front }
 {
     let line = entry_line(alloc, kind, entry)?;
@@ -88,7 +89,7 @@ fn print_client<K: Sink>(
     ensures rose { result ≡ Err PrintFault.Sink → K.faults sink.new ≡ raised (K.faults sink.old) }
     ensures told { result ≢ Err PrintFault.Sink → K.faults sink.new ≡ K.faults sink.old }
     ensures ok { OnOk result (Appends (K.held sink.old) (K.held sink.new) (entry_lines kind entries.now)) }
-    ensures memory { result ≡ Err PrintFault.Memory → (front : List ℕ) × AreFirstLines front (entry_lines kind entries.now) × Appends (K.held sink.old) (K.held sink.new) front }
+    ensures memory { result ≡ Err (PrintFault.Memory wanting) → (front : List ℕ) × AreFirstLines front (entry_lines kind entries.now) × Appends (K.held sink.old) (K.held sink.new) front }
     ensures cut { result ≡ Err PrintFault.Sink → (front : List ℕ) × IsFront front (entry_lines kind entries.now) × Appends (K.held sink.old) (K.held sink.new) front }
 {
     for entry in entries {
@@ -108,7 +109,7 @@ fn print_lists<K: Sink>(
     ensures rose { result ≡ Err PrintFault.Sink → K.faults sink.new ≡ raised (K.faults sink.old) }
     ensures told { result ≢ Err PrintFault.Sink → K.faults sink.new ≡ K.faults sink.old }
     ensures ok { OnOk result (Appends (K.held sink.old) (K.held sink.new) (entry_lines kind (joined told.now))) }
-    ensures memory { result ≡ Err PrintFault.Memory → (front : List ℕ) × AreFirstLines front (entry_lines kind (joined told.now)) × Appends (K.held sink.old) (K.held sink.new) front }
+    ensures memory { result ≡ Err (PrintFault.Memory wanting) → (front : List ℕ) × AreFirstLines front (entry_lines kind (joined told.now)) × Appends (K.held sink.old) (K.held sink.new) front }
     ensures cut { result ≡ Err PrintFault.Sink → (front : List ℕ) × IsFront front (entry_lines kind (joined told.now)) × Appends (K.held sink.old) (K.held sink.new) front }
 {
     for list in told {
@@ -129,7 +130,7 @@ pub fn print<K: Sink>(
     ensures rose { result ≡ Err PrintFault.Sink → K.faults sink.new ≡ raised (K.faults sink.old) }
     ensures told { result ≢ Err PrintFault.Sink → K.faults sink.new ≡ K.faults sink.old }
     ensures ok { OnOk result (Appends (K.held sink.old) (K.held sink.new) (session_lines trace (joined told.now))) }
-    ensures memory { result ≡ Err PrintFault.Memory → (front : List ℕ) × AreFirstLines front (session_lines trace (joined told.now)) × Appends (K.held sink.old) (K.held sink.new) front }
+    ensures memory { result ≡ Err (PrintFault.Memory wanting) → (front : List ℕ) × AreFirstLines front (session_lines trace (joined told.now)) × Appends (K.held sink.old) (K.held sink.new) front }
     ensures cut { result ≡ Err PrintFault.Sink → (front : List ℕ) × IsFront front (session_lines trace (joined told.now)) × Appends (K.held sink.old) (K.held sink.new) front }
 {
     print_lists(alloc, sink, LineKind::Reply, told)?;

@@ -3,6 +3,7 @@ use crate::response::{WordsFault, image_path, respond};
 use std::env::{self, Env};
 use std::fs::{File, Files};
 use std::io;
+use ufs_base::Lack;
 use ufs_disk::FileDisk;
 use ufs_io::{StreamSink, StreamSource};
 
@@ -13,14 +14,17 @@ fn command_words<R: Env + AllocGlobal>(rt: &R) -> Result<Vec<String>, WordsFault
         Err(e) => {
             return Err(match e.kind() {
                 io::ErrorKind::InvalidData => WordsFault::NotText,
-                _ => WordsFault::Memory,
+                _ => WordsFault::Lack(Lack::Told),
             });
         }
     };
     let mut words = Vec::new(rt.alloc());
     for (place, word) in all.enumerate() {
-        if place > 0 && words.push(word).is_err() {
-            return Err(WordsFault::Memory);
+        if place == 0 {
+            continue;
+        }
+        if let Err(refused) = words.push(word) {
+            return Err(WordsFault::Lack(Lack::from(refused)));
         }
     }
     Ok(words)

@@ -8,11 +8,12 @@ ghost use Rattle.ufs_quiet.specs.Told.{Tells};
 ghost use Rattle.ufs_quiet.specs.Responses.{Responds, command_for, path_of};
 
 use crate::ending::Ending;
-use crate::finish::finish;
+use crate::finish::{finish, out_of_memory};
 use crate::outcome::{Outcome, nothing_told};
 use crate::top::quiet;
 use crate::words::image_of;
 use std::alloc::Global;
+use ufs_base::Lack;
 use ufs_disk::Disk;
 use ufs_io::{Sink, Source};
 
@@ -22,7 +23,7 @@ pub enum WordsFault {
     /// One of them isn't text.
     NotText,
     /// There was no memory for them.
-    Memory,
+    Lack(Lack),
 }
 
 /// The path of the image's file, empty where there is none.
@@ -56,15 +57,14 @@ pub fn respond<S: Source, K: Sink, D: Disk>(
     ensures source { LeavesSource (command_for words.now) result.status (reading S.left S.faults source.old source.new) }
     ensures served { is_play (command_for words.now) ≡ false → result.told ≡ [] }
 {
-    let ending = match words {
+    let status = match words {
         Ok(words) => match image_of(words) {
             Some(_) => return quiet(alloc, words, source, sink, disk),
-            None => Ending::Usage,
+            None => finish(sink, Ending::Usage),
         },
-        Err(WordsFault::NotText) => Ending::Usage,
-        Err(WordsFault::Memory) => Ending::OutOfMemory,
+        Err(WordsFault::NotText) => finish(sink, Ending::Usage),
+        Err(WordsFault::Lack(lack)) => out_of_memory(sink, *lack),
     };
-    let status = finish(sink, ending);
     Outcome {
         status,
         told: nothing_told(alloc),

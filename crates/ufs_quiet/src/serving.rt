@@ -10,12 +10,13 @@ ghost use Rattle.ufs_quiet.specs.Served.{session_lines};
 
 use crate::broken::tell_fault;
 use crate::ending::Ending;
-use crate::finish::{SINK_FAULT, finish};
+use crate::finish::{SINK_FAULT, out_of_memory};
 use crate::image::{tell_device, tell_start};
 use crate::laws::unserved_law;
 use crate::outcome::{Outcome, nothing_told};
 use crate::print::{PrintFault, print};
 use std::alloc::Global;
+use ufs_base::Lack;
 use ufs_client::ToldLists;
 use ufs_disk::Disk;
 use ufs_engine::{PlayFault, play};
@@ -28,7 +29,7 @@ fn print_told<K: Sink>(alloc: Global, sink: &mut K, told: &ToldLists, trace: boo
 {
     match print(alloc, sink, told.as_slice(), trace) {
         Ok(()) => Ending::Done.status(),
-        Err(PrintFault::Memory) => finish(sink, Ending::OutOfMemory),
+        Err(PrintFault::Memory(memory)) => out_of_memory(sink, Lack::Memory(memory)),
         Err(PrintFault::Sink) => SINK_FAULT,
     }
 }
@@ -45,7 +46,7 @@ fn print_behind<K: Sink>(
 {
     match print(alloc, sink, told.as_slice(), trace) {
         Ok(()) => tell_device(sink, fault),
-        Err(PrintFault::Memory) => finish(sink, Ending::OutOfMemory),
+        Err(PrintFault::Memory(memory)) => out_of_memory(sink, Lack::Memory(memory)),
         Err(PrintFault::Sink) => SINK_FAULT,
     }
 }
@@ -65,7 +66,7 @@ fn tell_played<K: Sink>(
         Err(PlayFault::Image(fault)) => tell_start(sink, fault),
         Err(PlayFault::Device { fault }) => print_behind(alloc, sink, told, trace, fault),
         Err(PlayFault::Stopped { fault }) => print_behind(alloc, sink, told, trace, fault),
-        Err(PlayFault::Memory) => finish(sink, Ending::OutOfMemory),
+        Err(PlayFault::Lack(lack)) => out_of_memory(sink, lack),
     }
 }
 

@@ -6,11 +6,12 @@ ghost use Rattle.ufs_quiet.specs.Seen.{formatting, writing};
 ghost use Rattle.ufs_quiet.specs.Endings.{EndsPrinting, EndsTree, IsAnswer};
 
 use crate::ending::Ending;
-use crate::finish::{SINK_FAULT, finish};
+use crate::finish::{SINK_FAULT, out_of_memory};
 use crate::image::tell_refusal;
 use crate::print::PrintFault;
 use crate::tree_lines::{MOST_SHOWN, print_heads};
 use std::alloc::Global;
+use ufs_base::Lack;
 use ufs_disk::Disk;
 use ufs_io::Sink;
 use ufs_opening::{PathHead, tree_heads};
@@ -21,7 +22,7 @@ fn print_whole<K: Sink>(alloc: Global, sink: &mut K, heads: &[PathHead]) -> u8
 {
     match print_heads(alloc, sink, heads) {
         Ok(()) => Ending::Done.status(),
-        Err(PrintFault::Memory) => finish(sink, Ending::OutOfMemory),
+        Err(PrintFault::Memory(memory)) => out_of_memory(sink, Lack::Memory(memory)),
         Err(PrintFault::Sink) => SINK_FAULT,
     }
 }

@@ -1,6 +1,7 @@
 // The lines of the tree that an image stands for.
 ghost use Rattle.std.specs.Prelude.{◌≡◌, ◌≢◌, ◌++◌, List, ℕ, IfOk, OnOk};
 ghost use Rattle.std.specs.Io.KnownBytes.{Appends};
+ghost use Rattle.ufs_base.specs.Wanting.{wanting};
 ghost use Rattle.ufs_base.specs.Faults.{raised};
 ghost use Rattle.ufs_script.specs.Spelling.{data_text};
 ghost use Rattle.ufs_quiet.specs.Texts.{AreFirstLines, IsFront};
@@ -82,7 +83,7 @@ fn print_head<K: Sink>(alloc: Global, sink: &mut K, head: &PathHead) -> Result<(
     ensures rose { result ≡ Err PrintFault.Sink → K.faults sink.new ≡ raised (K.faults sink.old) }
     ensures told { result ≢ Err PrintFault.Sink → K.faults sink.new ≡ K.faults sink.old }
     ensures ok { OnOk result (Appends (K.held sink.old) (K.held sink.new) (head_line head.now)) }
-    ensures memory { result ≡ Err PrintFault.Memory → sink.new ≡ sink.old }
+    ensures memory { result ≡ Err (PrintFault.Memory wanting) → sink.new ≡ sink.old }
     ensures cut { result ≡ Err PrintFault.Sink → (front : List ℕ) × IsFront front (head_line head.now) × Appends (K.held sink.old) (K.held sink.new) front }
 {
     let line = line_of(alloc, head)?;
@@ -100,7 +101,7 @@ pub fn print_heads<K: Sink>(
     ensures rose { result ≡ Err PrintFault.Sink → K.faults sink.new ≡ raised (K.faults sink.old) }
     ensures told { result ≢ Err PrintFault.Sink → K.faults sink.new ≡ K.faults sink.old }
     ensures ok { OnOk result (Appends (K.held sink.old) (K.held sink.new) (head_lines heads.now)) }
-    ensures memory { result ≡ Err PrintFault.Memory → (front : List ℕ) × AreFirstLines front (head_lines heads.now) × Appends (K.held sink.old) (K.held sink.new) front }
+    ensures memory { result ≡ Err (PrintFault.Memory wanting) → (front : List ℕ) × AreFirstLines front (head_lines heads.now) × Appends (K.held sink.old) (K.held sink.new) front }
     ensures cut { result ≡ Err PrintFault.Sink → (front : List ℕ) × IsFront front (head_lines heads.now) × Appends (K.held sink.old) (K.held sink.new) front }
 {
     for head in heads {

@@ -83,7 +83,10 @@ const FAULTS: [(&[&str], &[u64], &[u64], u8, &str); 10] = [
 const NO_FILE: &str = "ufs_quiet_none.img";
 
 // Words over a script that breaks, their status, and no file is made.
-const UNTOUCHED: [(&[&str], u8); 4] = [
+const UNTOUCHED: [(&[&str], u8); 7] = [
+    (&["tree", "--image", NO_FILE], 3),
+    (&["check", "--image", NO_FILE], 3),
+    (&["recover", "--image", NO_FILE], 3),
     (&["frob", "--image", NO_FILE], 1),
     (&["mkfs", "63", "16", "64", "--image", NO_FILE], 1),
     (&["play", "--image", NO_FILE], 2),

@@ -14,7 +14,7 @@ use Rattle.ufs_layout.specs.declared.records.Committed.{Committed}
 use Rattle.ufs_layout.specs.declared.superblock.Super.{Super}
 use Rattle.ufs_catalog.specs.Faults.{IsOutside, IsWhyNot}
 use Rattle.ufs_catalog.specs.declared.fault.RecoverFault.{RecoverFault}
-use Rattle.ufs_catalog.specs.declared.fault.RecoverFault.TheVariants.{NoSuperblock, BadVersion, BadGeometry, BadRecord, BadTree, Device, Memory}
+use Rattle.ufs_catalog.specs.declared.fault.RecoverFault.TheVariants.{NoSuperblock, BadVersion, BadGeometry, BadRecord, BadTree, Device, Lack}
 use Rattle.ufs_damage.specs.Findings.{AreFindingsOf, CatalogRead}
 use Rattle.ufs_image.specs.Agree.{IsOfJournal}
 use Rattle.ufs_image.specs.Damage.{bad_tree}
@@ -91,7 +91,7 @@ outside_tells given (BadGeometry n) is = absurd is
 outside_tells given (BadRecord s) is = absurd is
 outside_tells given (BadTree i) is = absurd is
 outside_tells given (Device fault) is = is
-outside_tells given Memory is = is
+outside_tells given (Lack _) is = is
 
 clash : (tree : ImageTree) (r : Refusal) → ◌≡◌ {A = Result ImageTree Refusal} (Ok tree) (Err r) → ⊥
 clash tree r e = cc
@@ -109,7 +109,7 @@ only_outside sectors disk is f why = by f why
     by (BadRecord s) why = absurd (clash at.0 (image.BadRecord s) (sym at.1 ∙ why))
     by (BadTree i) why = absurd (clash at.0 (image.BadTree i) (sym at.1 ∙ why))
     by (Device fault) why = why
-    by Memory why = why
+    by (Lack _) why = why
 
 -- ---- the highest of some commit numbers
 
@@ -121,6 +121,10 @@ all_below first next (c ∷ log) less =
     let left = le-max_left first c.number in
     let right = le-max_right first c.number in
     (omega (arith, left, most), (omega (arith, right, most), rest.1))
+
+fold_below : (first n : ℕ) (log : List Committed) → first < n → AllByRecursion (λ (c : Committed). c.number < n) log → fold (λ highest (c : Committed). max highest c.number) first log < n
+fold_below first n [] less all = less
+fold_below first n (c ∷ log) less all = let one = all.0 in fold_below (max first c.number) n log (omega (arith, less, one)) all.1
 
 -- ---- the volume that was read
 
@@ -160,6 +164,7 @@ module _ (sectors : ℕ) (image : Image) (v : FoldedVolume) (is : volume sectors
         known = w.known;
         inodes = w.inodes;
         logged = (all_below 0 (superblock_of after).next (log_of image) (subst (λ n. n < (superblock_of after).next) is_highest w.above)).1;
+        least = λ n some from inodes logged. w.least n from (subst (λ h. h < n) (sym is_highest) (fold_below 0 n (log_of image) (omega (arith, some)) logged)) inodes;
         named = w.named;
         fitted = w.fitted;
       }

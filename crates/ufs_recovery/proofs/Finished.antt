@@ -23,7 +23,7 @@ use Rattle.ufs_recovery.specs.Cleared.{Numbers}
 use Rattle.ufs_recovery.specs.Finished.{MayFinish, HasFinished, MayWriteBack, IsWrittenBack}
 use Rattle.ufs_recovery.specs.Home.{IsOver, MayFollow, HasBegun, MayClose, HasClosed}
 use Rattle.ufs_recovery.specs.Orphans.{AreOrphans, AreOrphanDirs, IsPruned}
-use Rattle.ufs_recovery.specs.Recovered.{AreFitted, HasNoOrphans, IsFitted}
+use Rattle.ufs_recovery.specs.Recovered.{AreFitted, AreInodesBelow, HasNoOrphans, IsFitted}
 use Rattle.ufs_recovery.proofs.Alike.{AgreeBehind, form_alike, inode_alike, nodes_alike, walks_alike, orphans_alike}
 use Rattle.ufs_recovery.proofs.Home.{is_geometry, has_superblock}
 use Rattle.ufs_recovery.proofs.Moved.{orphans_moved, dirs_moved}
@@ -38,7 +38,7 @@ module _ (sectors : ℕ) (superblock : Super) (before mid : Image) (g : Geometry
     numbers = λ k ranged. let same = pruned.numbers k ranged in let less = may.behind k ranged in omega (arith, same, less);
   }
 
-  pub has_finished : AreFitted (geometry_of superblock) mid → (after : Image) → HasClosed sectors superblock mid after → HasFinished sectors superblock after
+  pub has_finished : AreFitted (geometry_of superblock) mid → (after : Image) → HasClosed sectors superblock mid after → HasFinished sectors superblock before after
   has_finished fit after closed = record {
     home = closed.home;
     proper = closed.proper;
@@ -47,6 +47,7 @@ module _ (sectors : ℕ) (superblock : Super) (before mid : Image) (g : Geometry
     behind = λ k ranged.
         let same : (form_at (geometry_of superblock) after k).number ≡ (form_at (geometry_of superblock) mid k).number = ap (λ (f : InodeForm). f.number) (form_alike (geometry_of superblock) mid after closed.same k) in
         let was = pruned.numbers k ranged in let less = may.behind k ranged in omega (arith, same, was, less);
+    numbers = λ k ranged. ap (λ (f : InodeForm). f.number) (form_alike (geometry_of superblock) mid after closed.same k) ∙ pruned.numbers k ranged;
   }
 
 module _ (sectors : ℕ) (image : Image) (v : FoldedVolume) (findings : CatalogRead) (may : MayWriteBack sectors image v findings) where
@@ -103,7 +104,9 @@ module _ (sectors : ℕ) (image : Image) (v : FoldedVolume) (findings : CatalogR
             omega (arith, same, less);
       }
 
-    module _ (after : Image) (used : ℕ) (finished : HasFinished sectors superblock after) (version : superblock.version ≡ 1) (known : v.superblock.superblock.next ≤ superblock.next) (above : used < superblock.next)
+    module _ (mid after : Image) (used : ℕ) (begun : HasBegun sectors (volume_in v image) superblock mid) (finished : HasFinished sectors superblock mid after) (version : superblock.version ≡ 1)
+        (known : v.superblock.superblock.next ≤ superblock.next) (above : used < superblock.next)
+        (least : (n : ℕ) → v.superblock.superblock.next ≤ n → used < n → AreInodesBelow v.superblock.geometry (folded_image v image) n → superblock.next ≤ n)
         (of_superblock : v.superblock.geometry ≡ geometry_of v.superblock.superblock) where
       superblocks : superblock_of after ≡ record superblock { clean = true }
       superblocks = has_superblock sectors (record superblock { clean = true }) after finished.home
@@ -113,6 +116,15 @@ module _ (sectors : ℕ) (image : Image) (v : FoldedVolume) (findings : CatalogR
 
       same_geometry : geometry_of superblock ≡ geometry_of v.superblock.superblock
       same_geometry = geometry ∙ of_superblock
+
+      -- the numbers that the inodes had are those that they have
+      numbers_back : (n : ℕ) → AreInodesBelow (geometry_of superblock) after n → AreInodesBelow (geometry_of superblock) (folded_image v image) n
+      numbers_back n each k ranged =
+          let now = each k ranged in
+          let was = finished.numbers k ranged in
+          let same : (form_at (geometry_of superblock) mid k).number ≡ (form_at (geometry_of superblock) (folded_image v image) k).number =
+          ap (λ (f : InodeForm). f.number) (form_alike (geometry_of superblock) (folded_image v image) mid (λ s from. begun.same s (λ zero. omega (arith, zero, from))) k) in
+          omega (arith, now, was, same)
 
       pub is_written : IsWrittenBack sectors v.superblock.superblock used after
       is_written = record {
@@ -131,6 +143,9 @@ module _ (sectors : ℕ) (image : Image) (v : FoldedVolume) (findings : CatalogR
         inodes = λ k ranged.
             let less : (form_at (geometry_of v.superblock.superblock) after k).number < superblock.next = subst (λ h. IsInode h k → (form_at h after k).number < superblock.next) same_geometry (finished.behind k) ranged in
             omega (arith, less, next_is);
+        least = λ n from over each.
+            let most = least n from over (subst (λ h. AreInodesBelow h (folded_image v image) n) geometry (numbers_back n (subst (λ h. AreInodesBelow h after n) (sym same_geometry) each))) in
+            omega (arith, most, next_is);
         named = subst (λ h. HasNoOrphans h after) same_geometry finished.named;
         fitted = subst (λ h. AreFitted h after) same_geometry finished.fitted;
       }

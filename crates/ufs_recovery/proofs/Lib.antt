@@ -23,3 +23,4 @@ mod Reread
 mod Rewritten
 mod Done
 mod Again
+mod Highest

@@ -13,8 +13,10 @@ use Rattle.ufs_image.specs.Catalog.{IsInode, catalog_at}
 use Rattle.ufs_image.specs.Changes.{IsReached, IsUnreached}
 use Rattle.ufs_image.specs.Images.{inode_at, form_at}
 use Rattle.ufs_recovery.specs.Cleared.{Numbers}
+use Rattle.ufs_recovery.specs.Recovered.{AreInodesBelow}
+use Rattle.std.proofs.lemmas.Option.{get_or_from_slice_get}
 use Rattle.ufs_walk.specs.Reached.{AreReachedMarks}
-use Rattle.ufs_recovery.specs.Orphans.{AreOrphans, AreOrphanDirs, AreTold, orphan_number, orphan_dir_number}
+use Rattle.ufs_recovery.specs.Orphans.{AreNumbersBelow, AreOrphans, AreOrphanDirs, AreTold, orphan_number, orphan_dir_number}
 use Rattle.ufs_recovery.proofs.Clears.{get_short}
 use Rattle.ufs_recovery.proofs.OneMore.{get_there}
 
@@ -109,6 +111,15 @@ module _ (g : Geometry) (image : Image) (forms : List (Option InodeForm)) (are :
           by place less (inr other) = inr (λ dir. other (ap (λ o. (unwrap_or o (free_inode 0)).kind) (form_there place less) ∙ dir))
 
   -- ---- numbers
+
+  pub numbers_below : (n : ℕ) → AreInodesBelow g image n → AreNumbersBelow forms n
+  numbers_below n below place form e =
+      let long : length forms ≡ g.inodes = ap length are ∙ length-map-range_with_len (inode_at g image) 1 g.inodes in
+      let less : place < g.inodes = omega (arith, get_short forms place (Some form) e, long) in
+      let is : inode_at g image (place + 1) ≡ Some form = sym (form_there place less) ∙ get_or_from_slice_get forms place (Some form) None e in
+      let number : (form_at g image (place + 1)).number ≡ form.number = ap (λ o. (unwrap_or o (free_inode 0)).number) is in
+      let at = below (place + 1) (record { from_one = omega arith; within = omega (arith, less) }) in
+      omega (arith, number, at)
 
   pub number_below : (highest next : ℕ) → ((place : ℕ) (form : InodeForm) → slice_get forms place ≡ Some (Some form) → form.number ≤ highest) → highest < next → (k : ℕ) → IsInode g k → (form_at g image k).number < next
   number_below highest next each above k ranged = by (inode_at g image k) refl

@@ -20,7 +20,7 @@ use Rattle.ufs_volume.specs.declared.volume.FoldedVolume.{FoldedVolume}
 use Rattle.ufs_recovery.specs.Cleared.{Numbers}
 use Rattle.ufs_recovery.specs.Home.{IsAtHome, KeepsTree}
 use Rattle.ufs_recovery.specs.Orphans.{IsPruned, IsReadOf, MayPrune}
-use Rattle.ufs_recovery.specs.Recovered.{AreFitted, HasNoOrphans}
+use Rattle.ufs_recovery.specs.Recovered.{AreFitted, AreInodesBelow, HasNoOrphans}
 
 -- Orphans may be freed, the findings tell the used blocks, and the commit numbers are behind.
 pub record MayFinish (sectors : ℕ) (superblock : Super) (image : Image) (g : Geometry) (findings : CatalogRead) (numbers dirs : Numbers) : Type 0 where
@@ -43,13 +43,15 @@ abbrev pub KeepsTreeTidying : Bool → (sectors : ℕ) → Geometry → CatalogR
 KeepsTreeTidying keeps sectors g findings numbers dirs old new =
     IsSettled old.state → (superblock : Super) → MayPrune sectors superblock (reads old) g numbers dirs → IsReadOf g (reads old) findings → KeepsTree keeps sectors old new
 
--- The image is clean and proper, without orphans and with no block too many, and the commit numbers are behind.
-pub record HasFinished (sectors : ℕ) (superblock : Super) (after : Image) : Type 0 where
+-- The image is clean and proper, without orphans and with no block too many, and the commit numbers are those that were, and
+-- behind.
+pub record HasFinished (sectors : ℕ) (superblock : Super) (before after : Image) : Type 0 where
   pub home : IsAtHome sectors (record superblock { clean = true }) after
   pub proper : IsProperImage sectors after
   pub named : HasNoOrphans (geometry_of superblock) after
   pub fitted : AreFitted (geometry_of superblock) after
   pub behind : (inode : ℕ) → IsInode (geometry_of superblock) inode → (form_at (geometry_of superblock) after inode).number < superblock.next
+  pub numbers : (inode : ℕ) → IsInode (geometry_of superblock) inode → (form_at (geometry_of superblock) after inode).number ≡ (form_at (geometry_of superblock) before inode).number
 
 -- This is the volume of the image and what was read of it, undamaged, and no sector of the journal is of a later epoch.
 pub record MayWriteBack (sectors : ℕ) (image : Image) (v : FoldedVolume) (findings : CatalogRead) : Type 0 where
@@ -60,12 +62,13 @@ pub record MayWriteBack (sectors : ℕ) (image : Image) (v : FoldedVolume) (find
   pub none_later : (sector : ℕ) → IsOfJournal v.superblock.geometry sector → epoch_in (image sector) ≤ v.superblock.superblock.epoch
 
 -- The image is clean and proper in the next epoch, without orphans and with no block too many, and its next commit number is
--- above this one, which was used.
+-- the least above this one, which was used, and above those of all inodes that isn't below the one it had.
 pub record IsWrittenBack (sectors : ℕ) (superblock : Super) (used : ℕ) (after : Image) : Type 0 where
   pub proper : IsProperImage sectors after
   pub superblock_is : superblock_of after ≡ record superblock { version = 1; epoch = superblock.epoch + 1; next = (superblock_of after).next; clean = true }
   pub known : superblock.next ≤ (superblock_of after).next
   pub above : used < (superblock_of after).next
   pub inodes : (inode : ℕ) → IsInode (geometry_of superblock) inode → (form_at (geometry_of superblock) after inode).number < (superblock_of after).next
+  pub least : (n : ℕ) → superblock.next ≤ n → used < n → AreInodesBelow (geometry_of superblock) after n → (superblock_of after).next ≤ n
   pub named : HasNoOrphans (geometry_of superblock) after
   pub fitted : AreFitted (geometry_of superblock) after

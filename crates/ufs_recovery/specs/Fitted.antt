@@ -1,5 +1,5 @@
 -- Files without blocks that their sizes don't need.
-use Rattle.std.specs.Prelude.{ℕ, ◌≡◌, ◌≢◌, ◌≤◌, ◌<◌, ◌+◌, ◌-◌, ◌⊎◌, ◌==◌, ◌&&◌, nat_lt, min, List, [], ◌∷◌, ◌++◌, length, Bool, false, Option, Some, None, slice_index_or, if◌then◌else◌}
+use Rattle.std.specs.Prelude.{ℕ, ◌≡◌, ◌≢◌, ◌≤◌, ◌<◌, ◌+◌, ◌-◌, ◌⊎◌, ◌==◌, ◌&&◌, nat_lt, min, List, [], ◌∷◌, ◌++◌, length, slice_get, Bool, false, Option, Some, None, slice_index_or, if◌then◌else◌}
 use Rattle.ufs_base.specs.Images.{Image}
 use Rattle.ufs_disk.specs.Disk.{State, IsImage}
 use Rattle.ufs_layout.specs.Areas.{sector_of_inode}
@@ -21,6 +21,10 @@ use Rattle.ufs_recovery.specs.Recovered.{AreFitted, IsFitted}
 -- the file has a block that its size doesn't need
 abbrev pub has_extra : InodeForm → Bool
 has_extra form = form.kind == 1 && nat_lt (excuses.blocks_of form.size) (length (blocks_of form))
+
+-- None of these forms is such a file's.
+abbrev pub HaveNoExtra : List (Option InodeForm) → Type 0
+HaveNoExtra forms = (place : ℕ) (form : InodeForm) → slice_get forms place ≡ Some (Some form) → has_extra form ≡ false
 
 -- at most so many blocks of an extent
 abbrev pub first_part : Extent → ℕ → List Extent

@@ -79,6 +79,10 @@ AreTold test forms marks numbers = (place : ℕ) → place < length numbers → 
 abbrev pub HasNone : Numbers → Type 0
 HasNone numbers = (place number : ℕ) → slice_get numbers place ≡ Some (Some number) → ⊥
 
+-- The commit numbers of these inodes are below this one.
+abbrev pub AreNumbersBelow : List (Option InodeForm) → ℕ → Type 0
+AreNumbersBelow forms n = (place : ℕ) (form : InodeForm) → slice_get forms place ≡ Some (Some form) → form.number < n
+
 -- What was read of an image that has the same inodes.
 pub record IsReadOf (g : Geometry) (image : Image) (findings : CatalogRead) : Type 0 where
   pub read : Image

@@ -37,13 +37,22 @@ IsFitted form = form.kind ≡ 1 → excuses.blocks_of form.size ≡ length (bloc
 abbrev pub AreFitted : Geometry → Image → Type 0
 AreFitted g image = (inode : ℕ) → IsInode g inode → IsFitted (form_at g image inode)
 
--- What was in use is clean, in the next epoch, its next commit number is above those of all inodes and of all transactions that
--- were committed, no inode is used without a name, and no file has a block that its size doesn't need.
+-- The commit numbers of all inodes are below this one.
+abbrev pub AreInodesBelow : Geometry → Image → ℕ → Type 0
+AreInodesBelow g image n = (inode : ℕ) → IsInode g inode → (form_at g image inode).number < n
+
+-- So are those of the transactions.
+abbrev pub AreCommitsBelow : List Committed → ℕ → Type 0
+AreCommitsBelow log n = AllByRecursion (λ (c : Committed). c.number < n) log
+
+-- What was in use is clean, in the next epoch, its next commit number is the least that isn't below the one it had and is above those
+-- of all inodes and of all transactions that were committed, no inode is used without a name, and no file has a block that its size doesn't need.
 pub record IsRecovered (before after : Image) : Type 0 where
   pub superblock : superblock_of after ≡ record (superblock_of before) { version = 1; epoch = (superblock_of before).epoch + 1; next = (superblock_of after).next; clean = true }
   pub known : (superblock_of before).next ≤ (superblock_of after).next
   pub inodes : (inode : ℕ) → IsInode (geometry_of (superblock_of before)) inode → (form_at (geometry_of (superblock_of before)) after inode).number < (superblock_of after).next
   pub logged : AllByRecursion (λ (c : Committed). c.number < (superblock_of after).next) (log_of before)
+  pub least : (n : ℕ) → 1 ≤ n → (superblock_of before).next ≤ n → AreInodesBelow (geometry_of (superblock_of before)) after n → AreCommitsBelow (log_of before) n → (superblock_of after).next ≤ n
   pub named : HasNoOrphans (geometry_of (superblock_of before)) after
   pub fitted : AreFitted (geometry_of (superblock_of before)) after
 

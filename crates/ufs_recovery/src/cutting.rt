@@ -1,9 +1,9 @@
 // Which blocks of a file its size needs.
 ghost use Rattle.std.specs.Prelude.{ℕ, ◌≡◌, ◌≤◌, ◌*◌, ◌^◌, length, flat_map, true, false, Some, IsTrue, IfOk};
-ghost use Rattle.std.specs.List.{range_with_len, slice_get};
-ghost use Rattle.ufs_layout.specs.InodeForm.{InodeForm, inode_of, is_inode};
+ghost use Rattle.std.specs.List.{range_with_len};
+ghost use Rattle.ufs_layout.specs.InodeForm.{inode_of, is_inode};
 ghost use Rattle.ufs_layout.specs.declared.inode.Extent.{Extent};
-ghost use Rattle.ufs_recovery.specs.Fitted.{first_extents, fitted, has_extra};
+ghost use Rattle.ufs_recovery.specs.Fitted.{HaveNoExtra, first_extents, fitted, has_extra};
 
 use std::alloc::Global;
 use ufs_base::{BLOCK, MAX_EXTENTS, Memory, SECTOR};
@@ -34,7 +34,8 @@ pub(crate) fn has_extra(form: &Inode) -> bool
 
 /// Whether none of them is such a file.
 pub(crate) fn are_fitted(forms: &[Option<Inode>]) -> bool
-    ensures { result ≡ true → (place : ℕ) (form : InodeForm) → slice_get forms.now place ≡ Some (Some form) → has_extra form ≡ false }
+    ensures yes { result ≡ true → HaveNoExtra forms.now }
+    ensures no { result ≡ false → ¬ HaveNoExtra forms.now }
 {
     for form in forms {
         if let Some(found) = form

@@ -36,7 +36,7 @@ fn finish<D: Disk>(
     ensures settled { IsTrue D.visible → OnOk result (IsSettled (D.moments disk.new).state) }
     ensures finished { IsTrue D.visible → OnOk result (IsSettled (D.moments disk.old).state
         → MayFinish (D.size disk.old) plan.now.superblock (reads (D.moments disk.old)) geometry.now findings.now plan.now.orphans.numbers.items plan.now.orphans.dirs.items
-        → HasFinished (D.size disk.old) plan.now.superblock (reads (D.moments disk.new))) }
+        → HasFinished (D.size disk.old) plan.now.superblock (reads (D.moments disk.old)) (reads (D.moments disk.new))) }
     ensures tree { IsTrue D.visible → IsSettled (D.moments disk.old).state
         → MayFinish (D.size disk.old) plan.now.superblock (reads (D.moments disk.old)) geometry.now findings.now plan.now.orphans.numbers.items plan.now.orphans.dirs.items
         → KeepsTree D.keeps (D.size disk.old) (D.moments disk.old) (D.moments disk.new) }
@@ -69,9 +69,7 @@ pub(crate) fn write_back<D: Disk>(
     ensures cause { IfErr result (HasFaultCause (D.faults disk.old) (D.faults disk.new)) }
     ensures outside { IfErr result IsOutside }
 {
-    let Ok(plan) = make_plan(alloc, &volume.superblock, findings, volume.highest) else {
-        return Err(RecoverFault::Memory);
-    };
+    let plan = make_plan(alloc, &volume.superblock, findings, volume.highest)?;
     of_device(begin(disk, &volume.overlay, &plan.superblock))?;
     finish(alloc, disk, &volume.superblock.geometry, findings, &plan)
 }

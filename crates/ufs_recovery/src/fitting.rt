@@ -63,9 +63,7 @@ fn put_fitted<D: Disk>(
     ensures cause { IfErr result (HasFaultCause (D.faults disk.old) (D.faults disk.new)) }
     ensures outside { IfErr result IsOutside }
 {
-    let Ok(short) = fitted(alloc, form) else {
-        return Err(RecoverFault::Memory);
-    };
+    let short = fitted(alloc, form)?;
     of_device(put_form(disk, geometry, place, &short))
 }
 

@@ -21,7 +21,6 @@ use crate::fitting::fit;
 use crate::orphans::has_none;
 use crate::pruning::{Orphans, prune};
 use std::alloc::Global;
-use ufs_base::Memory;
 use ufs_catalog::{RecoverFault, read_findings};
 use ufs_damage::{Findings, TakenBlocks, taken_blocks};
 use ufs_disk::Disk;
@@ -41,7 +40,7 @@ fn used_blocks(
 {
     match taken_blocks(alloc, geometry, findings) {
         Ok(taken) => Ok(taken),
-        Err(Memory) => Err(RecoverFault::Memory),
+        Err(memory) => Err(RecoverFault::from(memory)),
     }
 }
 

@@ -1,8 +1,8 @@
 // The orphans among what was read, and the commit numbers.
-ghost use Rattle.std.specs.Prelude.{ℕ, ◌≡◌, ◌≤◌, Some, length, IsTrue, IfOk, true, false};
+ghost use Rattle.std.specs.Prelude.{ℕ, ◌≡◌, ◌≤◌, ◌<◌, Some, length, IsTrue, IfOk, true, false};
 ghost use Rattle.std.specs.List.{slice_get};
 ghost use Rattle.ufs_layout.specs.InodeForm.{InodeForm};
-ghost use Rattle.ufs_recovery.specs.Orphans.{AreTold, HasNone, orphan_dir_number, orphan_number};
+ghost use Rattle.ufs_recovery.specs.Orphans.{AreNumbersBelow, AreTold, HasNone, orphan_dir_number, orphan_number};
 
 use crate::pruning::Orphans;
 use std::alloc::Global;
@@ -56,7 +56,8 @@ pub(crate) fn find_orphans(
 
 // Whether no place has a number.
 pub(crate) fn has_none(numbers: &[Option<u64>]) -> bool
-    ensures { IsTrue result → HasNone numbers.now }
+    ensures yes { IsTrue result → HasNone numbers.now }
+    ensures no { result ≡ false → ¬ HasNone numbers.now }
 {
     for number in numbers {
         if number.is_some() {
@@ -66,9 +67,10 @@ pub(crate) fn has_none(numbers: &[Option<u64>]) -> bool
     true
 }
 
-// The highest commit number of these inodes.
+// The highest commit number of these inodes; 0 where there is none.
 pub(crate) fn highest_number(forms: &[Option<Inode>]) -> u64
-    ensures { (place : ℕ) (form : InodeForm) → slice_get forms.now place ≡ Some (Some form) → form.number ≤ result }
+    ensures most { (place : ℕ) (form : InodeForm) → slice_get forms.now place ≡ Some (Some form) → form.number ≤ result }
+    ensures least { (n : ℕ) → 0 < n → AreNumbersBelow forms.now n → result < n }
 {
     let mut highest = 0;
     for place in 0..forms.len() {

@@ -7,13 +7,14 @@ ghost use Rattle.ufs_image.specs.Damage.{bad_tree};
 ghost use Rattle.ufs_image.specs.Images.{form_at};
 ghost use Rattle.ufs_layout.specs.Areas.{IsGeometry};
 ghost use Rattle.ufs_layout.specs.Superblock.{geometry_of, is_super};
+ghost use Rattle.ufs_recovery.specs.Recovered.{AreInodesBelow};
 ghost use Rattle.ufs_recovery.specs.Orphans.{AreOrphanDirs, AreOrphans};
 
 use crate::orphans::{find_orphans, highest_number};
 use crate::pruning::Orphans;
 use crate::superblocks::next_superblock;
 use std::alloc::Global;
-use ufs_base::Memory;
+use ufs_base::Lack;
 use ufs_catalog::ImageSuperblock;
 use ufs_damage::Findings;
 use ufs_layout::Super;
@@ -27,13 +28,13 @@ pub(crate) struct Plan {
 }
 
 // The plan for an undamaged image whose commit numbers outside of the inodes are at most `used`. Where the epochs
-// or the commit numbers end, it is refused as by want of memory.
+// or the commit numbers end, it is refused: they are at their end.
 pub(crate) fn make_plan(
     alloc: Global,
     image: &ImageSuperblock,
     findings: &Findings,
     used: u64,
-) -> Result<Plan, Memory>
+) -> Result<Plan, Lack>
     requires read { length findings.now.forms ≡ image.now.geometry.inodes }
     ensures counted { IfOk result (λ p. length p.orphans.numbers.items ≡ image.now.geometry.inodes) }
     ensures counted_dirs { IfOk result (λ p. length p.orphans.dirs.items ≡ image.now.geometry.inodes) }
@@ -46,6 +47,8 @@ pub(crate) fn make_plan(
     ensures in_use { IfOk result (λ p. p.superblock.clean ≡ false) }
     ensures known { IfOk result (λ p. image.now.superblock.next ≤ p.superblock.next) }
     ensures above { IfOk result (λ p. used < p.superblock.next) }
+    ensures least { IfOk result (λ p. (folded : Image) → AreFindingsOf image.now.geometry folded findings.now
+        → (n : ℕ) → image.now.superblock.next ≤ n → used < n → AreInodesBelow image.now.geometry folded n → p.superblock.next ≤ n) }
     ensures inodes { IfOk result (λ p. (folded : Image) → AreFindingsOf image.now.geometry folded findings.now → (inode : ℕ) → IsInode image.now.geometry inode → (form_at image.now.geometry folded inode).number < p.superblock.next) }
 {
     let reached = reached_inodes(alloc, findings, &image.geometry)?;
@@ -56,6 +59,6 @@ pub(crate) fn make_plan(
             orphans,
             superblock,
         }),
-        None => Err(Memory),
+        None => Err(Lack::AtEnd),
     }
 }

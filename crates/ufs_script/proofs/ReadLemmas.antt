@@ -22,7 +22,7 @@ fewer count more None b le h = tt
 fewer count more (Some n) None le h = tt
 fewer count more (Some n) (Some m) le h = omega arith
 
-pub takes_at_most : (old new : Option (List ℕ)) (text : List ℕ) → Consumes old new text → length text ≤ 16777216 + 4096 → TakesAtMost old new
+pub takes_at_most : (old new : Option (List ℕ)) (text : List ℕ) → Consumes old new text → length text ≤ 16777216 + 65536 → TakesAtMost old new
 takes_at_most None new text taken few = tt
 takes_at_most (Some xs) None text taken few = tt
 takes_at_most (Some xs) (Some ys) text taken few = let e = ap length taken ∙ length-append text ys in omega arith

@@ -12,7 +12,7 @@ pub record HasRead (old new : Option (List ℕ)) (text : List ℕ) : Type 0 wher
 
 -- the bytes of a piece that is read at once
 abbrev pub piece : ℕ
-piece = 4096
+piece = 65536
 
 -- It took at most the greatest length of a script and one piece more, where the source is visible.
 abbrev pub TakesAtMost : Option (List ℕ) → Option (List ℕ) → Type 0

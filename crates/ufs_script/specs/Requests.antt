@@ -2,6 +2,7 @@
 use Rattle.std.specs.Prelude.{ℕ, ◌≡◌, ◌⊎◌, List, Bool, true, false, nat_le, length, drop, fold, slice_get, if◌then◌else◌, Option, Some, None, Result, Ok, Err, ℤ, codes}
 use Rattle.std.specs.Option.{ok_or}
 use Rattle.std.specs.Str.{bytes_eq}
+use Rattle.ufs_base.specs.Wanting.{wanting}
 use Rattle.ufs_model.specs.declared.data.Whence.{Whence}
 use Rattle.ufs_model.specs.declared.data.Op.{Op}
 use Rattle.ufs_model.specs.declared.data.Op.TheVariants as op
@@ -14,7 +15,7 @@ use Rattle.ufs_script.specs.declared.request.Flags.{Flags}
 
 -- the causes of a reading that gives this: want of memory, and its break
 abbrev pub IsCauseOf : {A : Type 0} → Result A Cause → Cause → Type 0
-IsCauseOf given c = (c ≡ cause.Memory) ⊎ (given ≡ Err c)
+IsCauseOf given c = (c ≡ cause.Memory wanting) ⊎ (given ≡ Err c)
 
 -- go on with what was read, or stop at the break
 abbrev pub and_then : {A B : Type 0} → Result A Cause → (A → Result B Cause) → Result B Cause

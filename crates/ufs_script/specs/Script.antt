@@ -2,6 +2,7 @@
 use Rattle.std.specs.Prelude.{ℕ, ◌≡◌, ◌≤◌, ◌+◌, ◌⊎◌, List, [], ◌∷◌, ◌++◌, Bool, true, false, ◌==◌, nat_le, nat_lt, length, take, fold, if◌then◌else◌, Option, Some, None, Result, Ok, Err, codes}
 use Rattle.std.specs.Option.{option_to_list}
 use Rattle.std.specs.Str.{bytes_eq}
+use Rattle.ufs_base.specs.Wanting.{wanting}
 use Rattle.ufs_base.specs.declared.limits.TheConstants.{MAX_CLIENTS, MAX_REQUESTS}
 use Rattle.ufs_model.specs.declared.data.Op.{Op}
 use Rattle.ufs_script.specs.Words.{words_of}
@@ -21,7 +22,7 @@ max_script = 16777216
 
 -- the faults of a reading that gives this: want of memory, and its break
 abbrev pub IsFaultOf : {A : Type 0} → Result A ScriptFault → ScriptFault → Type 0
-IsFaultOf given f = (f ≡ fault.Memory) ⊎ (given ≡ Err f)
+IsFaultOf given f = (f ≡ fault.Memory wanting) ⊎ (given ≡ Err f)
 
 -- ---- one line, after a draft: what the lines before it came to
 
@@ -95,7 +96,7 @@ fault_at line cause.BadData = fault.BadData line
 fault_at line cause.TooMany = fault.TooMany line
 fault_at line cause.AfterEnd = fault.AfterEnd line
 fault_at line cause.NotBuilt = fault.NotBuilt line
-fault_at line cause.Memory = fault.Memory
+fault_at line (cause.Memory memory) = fault.Memory memory
 
 abbrev pub counted : ℕ → Result Draft Cause → Result Draft ScriptFault
 counted line (Ok draft) = Ok (record draft { lines = line })
@@ -133,5 +134,5 @@ script_of text =
 -- the faults that aren't the text's
 abbrev pub IsOutside : ScriptFault → Type 0
 IsOutside fault.Source = Unit {0}
-IsOutside fault.Memory = Unit {0}
+IsOutside (fault.Memory _) = Unit {0}
 IsOutside _ = ⊥

@@ -1,6 +1,7 @@
 // A script line by line: what the lines so far came to.
 ghost use Rattle.std.specs.Prelude.{◌≡◌, ◌≢◌, ◌≤◌, ◌<◌, ◌+◌, ◌^◌, ◌++◌, Ok, IfOk, IfErr, map, length};
 ghost use Rattle.std.specs.Option.{option_to_list};
+ghost use Rattle.ufs_base.specs.Wanting.{wanting};
 ghost use Rattle.ufs_script.specs.Requests.{IsCauseOf};
 ghost use Rattle.ufs_script.specs.Script.{IsFaultOf, IsFew, clients_of};
 ghost use Rattle.ufs_script.specs.Script as specs;
@@ -44,7 +45,7 @@ pub fn no_lines(alloc: Global) -> Draft
 pub fn all_clients(before: OpLists, current: Option<OpList>) -> Result<OpLists, Cause>
     requires { length (before ++ option_to_list current) ≤ MAX_CLIENTS }
     ensures ok { IfOk result (λ lists. lists ≡ before ++ option_to_list current) }
-    ensures err { IfErr result (λ c. c ≡ Cause.Memory) }
+    ensures err { IfErr result (λ c. c ≡ Cause.Memory wanting) }
 {
     let mut lists = before;
     if let Some(list) = current {

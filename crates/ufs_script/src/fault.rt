@@ -30,7 +30,7 @@ pub enum ScriptFault {
     /// The source failed.
     Source,
     /// No memory.
-    Memory,
+    Memory(Memory),
 }
 
 /// What is wrong with a line, or want of memory.
@@ -43,7 +43,7 @@ pub enum Cause {
     TooMany,
     AfterEnd,
     NotBuilt,
-    Memory,
+    Memory(Memory),
 }
 
 impl Cause {
@@ -60,19 +60,20 @@ impl Cause {
             Cause::TooMany => ScriptFault::TooMany { line },
             Cause::AfterEnd => ScriptFault::AfterEnd { line },
             Cause::NotBuilt => ScriptFault::NotBuilt { line },
-            Cause::Memory => ScriptFault::Memory,
+            Cause::Memory(memory) => ScriptFault::Memory(memory),
         }
     }
 }
 
 impl From<AllocError> for ScriptFault {
     ghost use Rattle.std.specs.Prelude.{◌≡◌};
+    ghost use Rattle.ufs_base.specs.Wanting.{wanting};
     ghost use Rattle.ufs_script.specs.declared.fault.ScriptFault.TheVariants as fault;
 
-    ghost from_gives = { λ _ e. e ≡ fault.Memory };
+    ghost from_gives = { λ _ e. e ≡ fault.Memory wanting };
 
-    fn from(_: AllocError) -> Self {
-        ScriptFault::Memory
+    fn from(refused: AllocError) -> Self {
+        ScriptFault::Memory(Memory::from(refused))
     }
 }
 
@@ -80,32 +81,34 @@ impl From<Memory> for ScriptFault {
     ghost use Rattle.std.specs.Prelude.{◌≡◌};
     ghost use Rattle.ufs_script.specs.declared.fault.ScriptFault.TheVariants as fault;
 
-    ghost from_gives = { λ _ e. e ≡ fault.Memory };
+    ghost from_gives = { λ m e. e ≡ fault.Memory m };
 
-    fn from(_: Memory) -> Self {
-        ScriptFault::Memory
+    fn from(memory: Memory) -> Self {
+        ScriptFault::Memory(memory)
     }
 }
 
 impl<T: Drop> From<AllocFailed<T>> for ScriptFault {
     ghost use Rattle.std.specs.Prelude.{◌≡◌};
+    ghost use Rattle.ufs_base.specs.Wanting.{wanting};
     ghost use Rattle.ufs_script.specs.declared.fault.ScriptFault.TheVariants as fault;
 
-    ghost from_gives = { λ _ e. e ≡ fault.Memory };
+    ghost from_gives = { λ _ e. e ≡ fault.Memory wanting };
 
-    fn from(_: AllocFailed<T>) -> Self {
-        ScriptFault::Memory
+    fn from(failed: AllocFailed<T>) -> Self {
+        ScriptFault::Memory(Memory::from(failed))
     }
 }
 
 impl From<AllocError> for Cause {
     ghost use Rattle.std.specs.Prelude.{◌≡◌};
+    ghost use Rattle.ufs_base.specs.Wanting.{wanting};
     ghost use Rattle.ufs_script.specs.declared.fault.Cause.TheVariants as cause;
 
-    ghost from_gives = { λ _ e. e ≡ cause.Memory };
+    ghost from_gives = { λ _ e. e ≡ cause.Memory wanting };
 
-    fn from(_: AllocError) -> Self {
-        Cause::Memory
+    fn from(refused: AllocError) -> Self {
+        Cause::Memory(Memory::from(refused))
     }
 }
 
@@ -113,20 +116,21 @@ impl From<Memory> for Cause {
     ghost use Rattle.std.specs.Prelude.{◌≡◌};
     ghost use Rattle.ufs_script.specs.declared.fault.Cause.TheVariants as cause;
 
-    ghost from_gives = { λ _ e. e ≡ cause.Memory };
+    ghost from_gives = { λ m e. e ≡ cause.Memory m };
 
-    fn from(_: Memory) -> Self {
-        Cause::Memory
+    fn from(memory: Memory) -> Self {
+        Cause::Memory(memory)
     }
 }
 
 impl<T: Drop> From<AllocFailed<T>> for Cause {
     ghost use Rattle.std.specs.Prelude.{◌≡◌};
+    ghost use Rattle.ufs_base.specs.Wanting.{wanting};
     ghost use Rattle.ufs_script.specs.declared.fault.Cause.TheVariants as cause;
 
-    ghost from_gives = { λ _ e. e ≡ cause.Memory };
+    ghost from_gives = { λ _ e. e ≡ cause.Memory wanting };
 
-    fn from(_: AllocFailed<T>) -> Self {
-        Cause::Memory
+    fn from(failed: AllocFailed<T>) -> Self {
+        Cause::Memory(Memory::from(failed))
     }
 }

@@ -11,6 +11,9 @@ use std::alloc::Global;
 use ufs_base::MAX_CLIENTS;
 use ufs_io::Source;
 
+// The most bytes of a read.
+const PIECE: usize = 65_536;
+
 // The number of reads that suffices: each but the last gives a byte, and one byte past the greatest
 // length is enough.
 const MAX_READS: u32 = 16_777_218;
@@ -28,7 +31,7 @@ fn read_all<S: Source>(alloc: Global, source: &mut S) -> Result<Vec<u8>, ScriptF
         (S.reads source.old) (S.reads source.new) }
 {
     let mut text = Vec::new(alloc);
-    let mut buf = [0u8; 4096];
+    let mut buf = [0u8; PIECE];
     for _turn in 0..MAX_READS {
         let count = match source.read(&mut buf) {
             Ok(count) => count,

@@ -236,7 +236,7 @@ fn read_of<R: Abort + AllocGlobal>(
 #[test]
 fn a_fault_is_answered_at_once(rt: HostRuntime) {
     for (call, calls) in &[(0, 1), (1, 2), (2, 3)] {
-        let found = read_of(&rt, 10_000, &[*call]);
+        let found = read_of(&rt, 150_000, &[*call]);
         same(&rt, "a read fails", found, (ScriptFault::Source, *calls, 1));
     }
 }
@@ -244,11 +244,11 @@ fn a_fault_is_answered_at_once(rt: HostRuntime) {
 const LENGTHS: [(usize, u64, ScriptFault); 7] = [
     (0, 1, ScriptFault::NoEnd { line: 0 }),
     (1, 2, ScriptFault::NoEnd { line: 1 }),
-    (4_096, 2, ScriptFault::NoEnd { line: 1 }),
-    (10_000, 4, ScriptFault::NoEnd { line: 1 }),
-    (16_777_216, 4_097, ScriptFault::NoEnd { line: 1 }),
-    (16_777_217, 4_097, ScriptFault::TooLong { line: 1 }),
-    (20_000_000, 4_097, ScriptFault::TooLong { line: 1 }),
+    (65_536, 2, ScriptFault::NoEnd { line: 1 }),
+    (150_000, 4, ScriptFault::NoEnd { line: 1 }),
+    (16_777_216, 257, ScriptFault::NoEnd { line: 1 }),
+    (16_777_217, 257, ScriptFault::TooLong { line: 1 }),
+    (20_000_000, 257, ScriptFault::TooLong { line: 1 }),
 ];
 
 #[test]

@@ -1,6 +1,7 @@
 -- A server on its disk behind a checkpoint.
 use Rattle.std.proofs.Common.{◌≡◌, ℕ, inl, inr, List, [], ◌∷◌, Bool, false, Option, Some, None, Result, Ok, Err, refl, sym, ap, subst, ◌∙◌}
 use Rattle.std.specs.Prelude.{IsSome}
+use Rattle.ufs_base.specs.declared.lack.Lack.{Lack}
 use Rattle.ufs_disk.specs.Moments.{LeavesOnly}
 use Rattle.ufs_layout.specs.declared.geometry.Geometry.{Geometry}
 use Rattle.ufs_ledger.specs.Ledger.{Ledger}
@@ -25,7 +26,7 @@ some_stop (Some f) n = refl
 -- It failed.
 pub checkpoint_err : {T : Type 0} (g : Geometry) → CheckpointsFail g → (old new : StoreState) (start : PosixTree) (history : List Entry) (p : Parts) (fault : StoreFault) → IsBeside g old new
     → ((n : ℕ) → ◌≡◌ {A = Result T StoreFault} (Err fault) (Err (refusal.Device n)) → (l : Ledger) → HasLedger old l → HasAny new (l ∷ beginning_next old l ∷ []))
-    → (◌≡◌ {A = Result T StoreFault} (Err fault) (Err refusal.Memory) → new ≡ old)
+    → ((w : Lack) → ◌≡◌ {A = Result T StoreFault} (Err fault) (Err (refusal.Lack w)) → new ≡ old)
     → ((n : ℕ) → ◌≡◌ {A = Result T StoreFault} (Err fault) (Err (refusal.Stopped n)) → old.stop ≡ Some n)
     → ((n : ℕ) → old.stop ≡ Some n → new ≡ old) → new.stop ≡ stop_after old.stop (fault_of fault) → is_no_space fault ≡ false → IsOnDisk old start history p → IsOnDisk new start history p
 checkpoint_err g fails old new start history p (refusal.Device n) beside device memory stopped still stop refused (inl go) =
@@ -33,7 +34,7 @@ checkpoint_err g fails old new start history p (refusal.Device n) beside device 
 checkpoint_err g fails old new start history p (refusal.Device n) beside device memory stopped still stop refused (inr st) =
     let at = from_some old.stop st.stopped in subst (λ (s : StoreState). IsOnDisk s start history p) (sym (still at.0 at.1)) (inr st)
 checkpoint_err g fails old new start history p (refusal.Stopped n) beside device memory stopped still stop refused on = subst (λ (s : StoreState). IsOnDisk s start history p) (sym (still n (stopped n refl))) on
-checkpoint_err g fails old new start history p refusal.Memory beside device memory stopped still stop refused on = subst (λ (s : StoreState). IsOnDisk s start history p) (sym (memory refl)) on
+checkpoint_err g fails old new start history p (refusal.Lack w) beside device memory stopped still stop refused on = subst (λ (s : StoreState). IsOnDisk s start history p) (sym (memory w refl)) on
 checkpoint_err g fails old new start history p (refusal.NoSpace need had) beside device memory stopped still stop refused on = (let no = refused in absurd cc)
 
 -- a store that has stopped tells no fault of its own

@@ -8,7 +8,7 @@ ghost use Rattle.ufs_model.specs.PosixTree.{PosixTree};
 ghost use Rattle.ufs_model.specs.declared.data.Entry.{Entry};
 ghost use Rattle.ufs_model.specs.declared.data.Excuse.{Excuse};
 ghost use Rattle.ufs_model.specs.declared.data.Excuse.TheVariants as excuse;
-ghost use Rattle.ufs_store.specs.Refusals.{IsTold, fault_in, fault_of};
+ghost use Rattle.ufs_store.specs.Refusals.{IsTold, fault_in, fault_of, is_own};
 ghost use Rattle.ufs_store.specs.State.{geometry_of_store};
 ghost use Rattle.ufs_stored.specs.OnDisk.{IsExplainedBetween, IsOnDisk};
 ghost use Rattle.ufs_stored.specs.Sound.{IsSoundServer};
@@ -18,6 +18,7 @@ ghost use Rattle.ufs_server.specs.Fetched.{HasReadFurther, IsReady, LacksBlocks,
 ghost use Rattle.ufs_server.specs.Served.{StaysOnDisk};
 
 use crate::disk_server::DiskServer;
+use ufs_base::Lack;
 use ufs_durable::fetch;
 use ufs_model::{Ask, Desc, Excuse, Op, a_file_goes_on_by_itself};
 use ufs_on_disk::{fetch_law, file_sync_law};
@@ -82,15 +83,14 @@ impl DiskServer {
         ensures sound { IsSoundServer (geometry_of_store (D.store door.new)) (D.store door.new).unassigned.free self.new }
         ensures store { D.store door.new ≡ record (D.store door.old) { moments = (D.store door.new).moments; faults = (D.store door.new).faults } }
         ensures cause { IsTold (D.store door.old).faults (D.store door.new).faults (fault_in result) }
+        ensures refused { IfErr result (λ fault. IsTrue (is_own fault)) }
     {
         let geometry = door.geometry();
         always_law(&geometry);
         fetch_law(&geometry);
         file_sync_law();
         self.files.are_numbered();
-        let Ok(mut hand) = self.take_out(file) else {
-            return Err(StoreFault::Memory);
-        };
+        let mut hand = self.take_out(file)?;
         // For the prover alone.
         let Some(known) = self.commits.get(file) else {
             unreachable!()
@@ -143,12 +143,15 @@ pub(crate) fn is_file_request(op: &Op) -> bool
 
 // The excuse for a read that failed. The last number of the disk's count may be told twice, so it is no fault's.
 fn excuse_of_read(fault: StoreFault) -> Excuse
+    requires { IsTrue (is_own fault) }
     ensures kind { is_of_read result ≡ true }
     ensures told { (number : ℕ) → result ≡ excuse.Device number → (fault_of fault ≡ Some number) × (number < 2 ^ 64 - 1) }
     ensures untold { device_of result ≡ None → (fault_of fault ≡ None) ⊎ (fault_of fault ≡ Some (2 ^ 64 - 1)) }
 {
     match fault {
         StoreFault::Device { fault } if fault < u64::MAX => Excuse::Device { fault },
-        _ => Excuse::Memory,
+        StoreFault::Device { .. } => Excuse::from(Lack::AtEnd),
+        StoreFault::Lack(lack) => Excuse::from(lack),
+        StoreFault::Stopped { .. } | StoreFault::NoSpace { .. } => unreachable!(),
     }
 }

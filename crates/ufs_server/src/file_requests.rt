@@ -13,6 +13,7 @@ ghost use Rattle.ufs_stored.specs.Sound.{IsSoundServer};
 ghost use Rattle.ufs_server.specs.Served.{IsServedOn, KeepsPromise, StaysOnDisk};
 
 use crate::disk_server::DiskServer;
+use ufs_base::Lack;
 use ufs_durable::apply;
 use ufs_file::{Applied, out_of_memory};
 use ufs_model::{Actor, Ask};
@@ -50,12 +51,13 @@ impl DiskServer {
         always_law(&geometry);
         on_disk_law(&geometry);
         if !self.is_ready(&ask) {
-            return out_of_memory(ask, by, ticket);
+            return out_of_memory(ask, by, ticket, Lack::Unsound);
         }
         self.files.are_numbered();
         self.gather(door);
-        let Ok(mut hand) = self.take_out(file) else {
-            return out_of_memory(ask, by, ticket);
+        let mut hand = match self.take_out(file) {
+            Ok(hand) => hand,
+            Err(memory) => return out_of_memory(ask, by, ticket, Lack::Memory(memory)),
         };
         let Some(known) = self.commits.get_mut(file) else {
             unreachable!()

@@ -60,9 +60,7 @@ impl DiskServer {
         file_moments_law(&geometry);
         told_law();
         self.files.are_numbered();
-        let Ok(mut hand) = self.take_out(file) else {
-            return Err(Excuse::Memory);
-        };
+        let mut hand = self.take_out(file)?;
         let Some(known) = self.commits.get_mut(file) else {
             unreachable!()
         };

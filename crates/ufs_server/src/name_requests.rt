@@ -24,6 +24,7 @@ ghost use Rattle.ufs_server.specs.Touching.{AreReadied, IsFileTouched, IsServedB
 
 use crate::disk_server::DiskServer;
 use crate::touched::Touched;
+use ufs_base::Lack;
 use ufs_file::{Applied, out_of_memory};
 use ufs_model::{Actor, Ask, Entry, Excuse, Reply};
 use ufs_names_stored::{names_request_law, served_names_law};
@@ -54,16 +55,18 @@ impl DiskServer {
     {
         let geometry = door.geometry();
         on_disk_law(&geometry);
-        let Ok(touched) = self.make_room(door, &ask, touched) else {
-            return out_of_memory(ask, by, ticket);
+        let touched = match self.make_room(door, &ask, touched) {
+            Ok(touched) => touched,
+            Err(memory) => return out_of_memory(ask, by, ticket, Lack::Memory(memory)),
         };
         file_request_law();
         told_law();
         served_names_law();
         names_request_law(&geometry);
         self.gather(door);
-        let Ok(touched) = self.touch(touched) else {
-            return out_of_memory(ask, by, ticket);
+        let touched = match self.touch(touched) {
+            Ok(touched) => touched,
+            Err(memory) => return out_of_memory(ask, by, ticket, Lack::Memory(memory)),
         };
         let (fd, last) = (ask.fd, ask.last);
         let first = self.apply_names(ask, by, ticket, &touched, false);
@@ -100,8 +103,8 @@ impl DiskServer {
     {
         served_names_law();
         self.names.is_table();
-        if self.fresh.reserve(1).is_err() {
-            return out_of_memory(ask, by, ticket);
+        if let Err(refused) = self.fresh.reserve(1) {
+            return out_of_memory(ask, by, ticket, Lack::from(refused));
         }
         let block = lend(&mut self.pool, &mut self.lent, lends);
         let applied = self

@@ -15,7 +15,7 @@ ghost use Rattle.ufs_server.specs.Touching.{IsFileTouched};
 use crate::disk_server::DiskServer;
 use crate::name_requests::{again, lacks_block};
 use crate::needed::file_asked;
-use ufs_base::Memory;
+use ufs_base::{Lack, Memory};
 use ufs_file::{Applied, out_of_memory};
 use ufs_model::{Actor, Ask};
 use ufs_pouring::pour;
@@ -70,7 +70,7 @@ impl DiskServer {
         always_law(&geometry);
         match self.file_named(&ask) {
             Ok(touched) => self.serve_once(door, ask, touched, by, ticket),
-            Err(Memory) => out_of_memory(ask, by, ticket),
+            Err(memory) => out_of_memory(ask, by, ticket, Lack::Memory(memory)),
         }
     }
 

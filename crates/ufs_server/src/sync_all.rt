@@ -49,9 +49,7 @@ impl DiskServer {
         if let Some(fault) = door.stopped() {
             return Err(Excuse::Stopped { fault });
         }
-        let Ok(live) = self.names.live() else {
-            return Err(Excuse::Memory);
-        };
+        let live = self.names.live()?;
         self.sync_names(door)?;
         self.commit_files(door, live.as_slice())
     }

@@ -82,6 +82,6 @@ pub(crate) fn excuse_of(fault: StoreFault) -> Excuse
         StoreFault::Device { fault } => Excuse::Device { fault },
         StoreFault::Stopped { fault } => Excuse::Stopped { fault },
         StoreFault::NoSpace { need, had } => Excuse::Blocks { need, had },
-        StoreFault::Memory => Excuse::Memory,
+        StoreFault::Lack(lack) => Excuse::from(lack),
     }
 }

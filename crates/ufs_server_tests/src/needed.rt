@@ -4,7 +4,6 @@ ghost use Rattle.ufs_model.specs.declared.data.Op.TheVariants as op;
 
 use crate::asserts::{holds, same};
 use std::alloc::Global;
-use ufs_base::Memory;
 use ufs_bitmap::Pool;
 use ufs_client::answer_own;
 use ufs_extent::Run;
@@ -106,7 +105,7 @@ fn touched(server: &DiskServer, request: Op, desc: Option<Desc>) -> u32
     match server.touched(&ask) {
         Ok(Some(file)) => file,
         Ok(None) => NONE,
-        Err(Memory) => NO_MEMORY,
+        Err(_) => NO_MEMORY,
     }
 }
 

@@ -3,7 +3,7 @@ use Rattle.std.specs.Prelude.{ℕ, ◌≡◌, ◌≢◌, ⊤, List, [], Option, 
 use Rattle.std.specs.FinMap as fin
 use Rattle.ufs_alike.specs.Alike.{AreAlike}
 use Rattle.ufs_apart.specs.Apart.{ApartState, AreApart, given_all, kept_all, part_names}
-use Rattle.ufs_base.specs.declared.Memory.{Memory}
+use Rattle.ufs_base.specs.declared.memory.Memory.{Memory}
 use Rattle.ufs_model.specs.History.{tree_after}
 use Rattle.ufs_model.specs.PosixTree.{PosixTree}
 use Rattle.ufs_model.specs.Touched.{IsPartOf, touched_parts}
@@ -27,7 +27,7 @@ IsGathered files.Nothing f = ⊥
 IsGathered files.Made f = ⊥
 IsGathered (files.One file) f = f ≡ file
 IsGathered files.Every f = ⊤
-IsGathered files.Unknown f = ⊤
+IsGathered (files.Unknown _) f = ⊤
 
 -- So does that of each file that the request touches, of those that are there.
 abbrev pub HasGathered : PosixTree → (client : ℕ) → Op → Gathered → Type 0
@@ -39,7 +39,7 @@ file_told files.Nothing = Ok None
 file_told files.Made = Ok None
 file_told (files.One file) = Ok (Some file)
 file_told files.Every = Ok None
-file_told files.Unknown = Err record {}
+file_told (files.Unknown memory) = Err memory
 
 -- It is so told. A `sync` touches all files.
 abbrev pub IsFileTold : Parts → Ask → Result (Option ℕ) Memory → Type 0

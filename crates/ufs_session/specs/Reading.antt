@@ -1,6 +1,6 @@
 -- How far the reading has come while clients are served.
 use Rattle.std.specs.Prelude.{ℕ, Bool, IsTrue, List, ◌++◌, OnOk, Result}
-use Rattle.ufs_base.specs.declared.Memory.{Memory}
+use Rattle.ufs_base.specs.declared.memory.Memory.{Memory}
 use Rattle.ufs_model.specs.PosixTree.{PosixTree}
 use Rattle.ufs_model.specs.declared.data.Entry.{Entry}
 use Rattle.ufs_model.specs.declared.data.Op.{Op}

@@ -27,7 +27,7 @@ pub(crate) enum Gathered {
     // A `sync` touches all.
     Every,
     // Memory was wanting to tell, so each may be one.
-    Unknown,
+    Unknown(Memory),
 }
 
 impl Gathered {
@@ -38,7 +38,7 @@ impl Gathered {
         match self {
             Gathered::One(file) => Ok(Some(file)),
             Gathered::Nothing | Gathered::Made | Gathered::Every => Ok(None),
-            Gathered::Unknown => Err(Memory),
+            Gathered::Unknown(memory) => Err(memory),
         }
     }
 }
@@ -58,7 +58,7 @@ pub(crate) fn files_of(server: &DiskServer, asked: &Ask, own: bool) -> Gathered
         _ => match server.touched(asked) {
             Ok(Some(file)) => Gathered::One(file),
             Ok(None) => Gathered::Made,
-            Err(Memory) => Gathered::Unknown,
+            Err(memory) => Gathered::Unknown(memory),
         },
     }
 }
@@ -84,7 +84,7 @@ pub(crate) fn gather<N: Naming>(hand: &mut OneHand<N>, apart: &mut Apart<N>, gat
     match gathered {
         Gathered::Nothing | Gathered::Made => {}
         Gathered::One(file) => apart.join_file(hand, file),
-        Gathered::Every | Gathered::Unknown => apart.join_files(hand),
+        Gathered::Every | Gathered::Unknown(_) => apart.join_files(hand),
     }
 }
 
@@ -134,7 +134,7 @@ fn put_gathered_away<N: Naming>(
         Gathered::Nothing => {}
         Gathered::Made => put_named_away(hand, apart, server, desc),
         Gathered::One(file) => put_away(hand, apart, server, file),
-        Gathered::Every | Gathered::Unknown => put_all_away(hand, apart, server),
+        Gathered::Every | Gathered::Unknown(_) => put_all_away(hand, apart, server),
     }
 }
 

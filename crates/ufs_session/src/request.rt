@@ -246,8 +246,9 @@ fn serve_one<D: Door>(
     let geometry = door.geometry();
     on_disk_law(&geometry);
     always_law(&geometry);
-    let Ok(touched) = touched else {
-        return unread(ask, ticket, Excuse::Memory);
+    let touched = match touched {
+        Ok(touched) => touched,
+        Err(memory) => return unread(ask, ticket, Excuse::from(memory)),
     };
     match server.fetch(door, &ask) {
         Ok(()) => server.apply(door, ask, touched, Actor::Primary, ticket),

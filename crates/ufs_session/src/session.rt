@@ -105,9 +105,10 @@ pub fn serve<D: Door>(
         }
         Err(failed) => {
             abandon(opened);
+            let (memory, door) = Memory::beside(failed);
             Served {
-                session: unbegun(alloc),
-                door: failed.value,
+                session: unbegun(alloc, memory),
+                door,
             }
         }
     }
@@ -122,13 +123,13 @@ fn count_of(clients: &OpLists) -> u8
 }
 
 // A session that ends at once for want of memory.
-fn unbegun(alloc: Global) -> Session
+fn unbegun(alloc: Global, memory: Memory) -> Session
     ensures told { result.told ≡ [] }
-    ensures ended { result.ended ≡ Err fault.Memory }
+    ensures ended { result.ended ≡ Err (fault.Memory memory) }
 {
     Session {
         told: ToldLists::from_vec(Vec::new(alloc)),
-        ended: Err(EndFault::Memory),
+        ended: Err(EndFault::Memory(memory)),
     }
 }
 
@@ -158,9 +159,9 @@ fn serve_in<N: Naming, D: Door, F: Since>(
     stamp_disk::<N, D, Brand>(&mut hand, &door);
     match Apart::new(alloc) {
         Ok(apart) => serve_apart::<N, D, F>(alloc, Running { hand, apart, door }, server, clients),
-        Err(Memory) => {
+        Err(memory) => {
             let drawn = hand.close();
-            let session = unbegun(alloc);
+            let session = unbegun(alloc, memory);
             (Served { session, door }, drawn)
         }
     }
@@ -242,8 +243,8 @@ fn serve_clients<N: Naming, D: Door, F: Since>(
     let mut first = 0u64;
     for requests in clients.into_vec() {
         // Room for the transcript comes first.
-        if told.reserve(1).is_err() {
-            return (running, Err(EndFault::Memory));
+        if let Err(refused) = told.reserve(1) {
+            return (running, Err(EndFault::Memory(Memory::from(refused))));
         }
         let mut mine = Vec::new(alloc);
         regroup(&mut running.hand, &mut running.apart, client, 1);
@@ -256,7 +257,7 @@ fn serve_clients<N: Naming, D: Door, F: Since>(
         told.push(EntryList::from_vec(mine)).unwrap();
         match ended {
             Ok(()) => client += 1,
-            Err(Memory) => return (running, Err(EndFault::Memory)),
+            Err(memory) => return (running, Err(EndFault::Memory(memory))),
         }
     }
     (running, Ok(()))
@@ -299,8 +300,8 @@ fn serve_client<N: Naming, D: Door, F: Since>(
     let mut seq = 0u32;
     for op in requests.into_vec() {
         // Room for the entry comes first, so that nothing is served that isn't told.
-        if told.reserve(1).is_err() {
-            return (running, Err(Memory));
+        if let Err(refused) = told.reserve(1) {
+            return (running, Err(Memory::from(refused)));
         }
         let asked = ask(&fds, client, seq, op);
         let ticket = first + u64::from(seq);

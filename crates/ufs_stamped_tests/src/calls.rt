@@ -7,7 +7,7 @@ ghost use Rattle.ufs_stamped_tests.specs.Small.{small};
 ghost use Rattle.ufs_store.specs.State.{geometry_of_store};
 
 use std::alloc::Global;
-use ufs_base::{BLOCK, Memory};
+use ufs_base::{BLOCK, Lack, Memory};
 use ufs_bitmap::Pool;
 use ufs_extent::{Extents, Runs};
 use ufs_ilog::{Change, InodeLog, NamesLog};
@@ -46,7 +46,7 @@ pub fn write_and_read<B: Door>(door: &mut B) -> Answers
 }
 
 // A log with the birth of inode 2.
-fn log_of_birth(alloc: Global) -> Result<NamesLog, Memory>
+fn log_of_birth(alloc: Global) -> Result<NamesLog, Lack>
     ensures { IfOk result (λ log. IsTrue (list_all (is_in_range small) log)) }
 {
     let mut log = NamesLog::new(alloc);

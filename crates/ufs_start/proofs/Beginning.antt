@@ -5,7 +5,7 @@ use Rattle.std.proofs.lemmas.Bool.{and_parts, ltb-true}
 use Rattle.ufs_base.specs.Images as images
 use Rattle.ufs_catalog.specs.Faults.{HasFaultCause, IsOutside}
 use Rattle.ufs_catalog.specs.declared.fault.RecoverFault.{RecoverFault}
-use Rattle.ufs_catalog.specs.declared.fault.RecoverFault.TheVariants.{NoSuperblock, BadVersion, BadGeometry, BadRecord, BadTree, Device, Memory}
+use Rattle.ufs_catalog.specs.declared.fault.RecoverFault.TheVariants.{NoSuperblock, BadVersion, BadGeometry, BadRecord, BadTree, Device, Lack}
 use Rattle.ufs_damage.specs.Findings.{AreFindingsOf, CatalogRead}
 use Rattle.ufs_image.specs.Catalog.{IsCatalogOf, IsInode, catalog_at}
 use Rattle.ufs_image.specs.Images.{form_at}
@@ -26,7 +26,7 @@ use Rattle.ufs_volume.specs.Volumes.{committed_in, volume_in}
 use Rattle.ufs_volume.specs.declared.volume.FoldedVolume.{FoldedVolume}
 use Rattle.ufs_volume.proofs.Folds.{can_fold}
 use Rattle.ufs_start.specs.Begun.{catalog_under, image_under}
-use Rattle.ufs_start.specs.Refused.{HasStartCause, IsNamesFault, IsRefusedFile, NamesFile, TellsNoStart}
+use Rattle.ufs_start.specs.Refused.{HasStartCause, IsLack, IsNamesFault, IsRefusedFile, NamesFile, TellsNoStart}
 use Rattle.ufs_start.specs.Starts.{AreNumbersOf, AreStartNames, IsLoaded, IsUndamaged}
 use Rattle.ufs_start.specs.declared.fault.StartFault.{StartFault}
 use Rattle.ufs_start.specs.declared.fault.StartFault.TheVariants.{Image, Unreached, Unnamed, ExtraBlocks}
@@ -63,7 +63,25 @@ outside_why sectors disk (BadGeometry number) is = absurd is
 outside_why sectors disk (BadRecord sector) is = absurd is
 outside_why sectors disk (BadTree inode) is = absurd is
 outside_why sectors disk (Device fault) is = tt
-outside_why sectors disk Memory is = tt
+outside_why sectors disk (Lack _) is = tt
+
+lack_outside : (fault : RecoverFault) → IsLack fault → IsOutside fault
+lack_outside NoSuperblock is = absurd is
+lack_outside (BadVersion found) is = absurd is
+lack_outside (BadGeometry number) is = absurd is
+lack_outside (BadRecord sector) is = absurd is
+lack_outside (BadTree inode) is = absurd is
+lack_outside (Device fault) is = absurd is
+lack_outside (Lack _) is = tt
+
+lack_calm : (fault : RecoverFault) → IsLack fault → (count : ℕ) → HasFaultCause count count fault
+lack_calm NoSuperblock is count = absurd is
+lack_calm (BadVersion found) is count = absurd is
+lack_calm (BadGeometry number) is count = absurd is
+lack_calm (BadRecord sector) is count = absurd is
+lack_calm (BadTree inode) is count = absurd is
+lack_calm (Device fault) is count = absurd is
+lack_calm (Lack _) is count = refl
 
 pub refused_file : (v : FoldedVolume) (sectors : ℕ) (disk : images.Image) → IsVolumeOf sectors disk (volume_in v disk) (catalog_under v.superblock disk) → (fault : StartFault) → IsRefusedFile (form_at v.superblock.geometry (image_under v.superblock disk)) fault
     → NamesFile (IsInode v.superblock.geometry) fault → TellsNoStart sectors disk fault
@@ -74,13 +92,13 @@ refused_file v sectors disk standing (ExtraBlocks inode) is named = (volume_in v
 
 pub refused_names : (v : FoldedVolume) (f : CatalogRead) (sectors : ℕ) (disk : images.Image) → IsVolumeOf sectors disk (volume_in v disk) (catalog_under v.superblock disk) → IsUndamaged v.superblock.geometry (image_under v.superblock disk) f → (fault : StartFault) → IsNamesFault v.superblock.geometry f fault
     → TellsNoStart sectors disk fault
-refused_names v f sectors disk standing undamaged (Image fault) is = subst (TellsWhy sectors disk) (sym is) tt
+refused_names v f sectors disk standing undamaged (Image fault) is = outside_why sectors disk fault (lack_outside fault is)
 refused_names v f sectors disk standing undamaged (Unreached inode) is = (volume_in v disk, standing, is (image_under v.superblock disk) undamaged)
 refused_names v f sectors disk standing undamaged (Unnamed inode) is = (volume_in v disk, standing, is (image_under v.superblock disk) undamaged)
 refused_names v f sectors disk standing undamaged (ExtraBlocks inode) is = absurd is
 
 pub calm_names : (g : Geometry) (f : CatalogRead) (fault : StartFault) → IsNamesFault g f fault → (count : ℕ) → HasStartCause count count fault
-calm_names g f (Image fault) is count = subst (HasFaultCause count count) (sym is) refl
+calm_names g f (Image fault) is count = lack_calm fault is count
 calm_names g f (Unreached inode) is count = refl
 calm_names g f (Unnamed inode) is count = refl
 calm_names g f (ExtraBlocks inode) is count = refl

@@ -41,7 +41,7 @@ use Rattle.ufs_start.specs.declared.fault.StartFault.TheVariants.{Image, Unreach
 use Rattle.ufs_start.specs.declared.parts.Start.{Start}
 use Rattle.ufs_start.proofs.Alike.{IsUsedHere, form_same, metadata_here}
 use Rattle.ufs_start.proofs.Beginning.{few_files}
-use Rattle.ufs_start.proofs.Counterparts.{cut_off_there, free_there, laid_there, named_there, names_there, read_there, unnamed_there, unread_there}
+use Rattle.ufs_start.proofs.Counterparts.{cut_off_there, free_there, laid_there, named_there, names_there, none_cut_there, read_there, unnamed_there, unread_there}
 use Rattle.ufs_start.proofs.Lengths.{folded_alike}
 use Rattle.ufs_start.proofs.Named.{files_are}
 use Rattle.ufs_start.proofs.Trees.{next_alike, paths_alike, why_alike}
@@ -164,7 +164,7 @@ module _ (copied sectors : ℕ) (copy image : images.Image) (is : IsCopyOf copie
   no_start_there (Unnamed inode) told =
       let v = told.0 in
       let there = standing_there copied sectors copy image is v told.1 in
-      (record v { image = there.0 }, there.2, unnamed_there v.geometry there.1.geometry v.image there.0 there.1.agree told.1.sound inode told.2)
+      (record v { image = there.0 }, there.2, (unnamed_there v.geometry there.1.geometry v.image there.0 there.1.agree told.1.sound inode told.2.0, none_cut_there v.geometry there.1.geometry v.image there.0 there.1.agree told.1.sound told.2.1))
   no_start_there (ExtraBlocks inode) told =
       let v = told.0 in
       let there = standing_there copied sectors copy image is v told.1 in

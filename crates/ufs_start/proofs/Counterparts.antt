@@ -32,7 +32,7 @@ use Rattle.ufs_names_image.specs.Numbered.{IsNumberedAs}
 use Rattle.ufs_names_image.specs.Parts.{IsNamesOf}
 use Rattle.ufs_start.specs.Extents.{run_of}
 use Rattle.ufs_start.specs.Files.{AreLaid, AreUnread}
-use Rattle.ufs_start.specs.Refused.{IsCutOff, IsUnnamedFile}
+use Rattle.ufs_start.specs.Refused.{HasNoneCutOff, IsCutOff, IsUnnamedFile}
 use Rattle.ufs_start.proofs.Alike.{IsUsedHere, form_same, met_same, nodes_same, number_is, slots_in_same}
 use Rattle.ufs_start.proofs.FileLemmas.{may_be}
 
@@ -87,6 +87,22 @@ module _ (g : Geometry) (geometry : IsGeometry g) (one other : Image) (agree : A
       };
       unreached = unreached_there inode is.unreached;
     }
+
+    -- and back
+    cut_off_back : (inode : ℕ) → IsCutOff g (catalog_at g other) inode → IsCutOff g (catalog_at g one) inode
+    cut_off_back inode is = record {
+      place = is.place;
+      dentry = is.dentry;
+      stands = record {
+        in_range = is.stands.in_range;
+        there = ap (λ slots. slice_get slots is.place) (sym (slots_in_same g geometry one other agree sound inode is.stands.in_range)) ∙ is.stands.there;
+        named = is.stands.named;
+      };
+      unreached = λ names met. is.unreached names (met_same g geometry one other agree sound names ∙ met);
+    }
+
+    pub none_cut_there : HasNoneCutOff g (catalog_at g one) → HasNoneCutOff g (catalog_at g other)
+    none_cut_there none inode is = none inode (cut_off_back inode is)
 
     pub unnamed_there : (inode : ℕ) → IsUnnamedFile g (catalog_at g one) inode → IsUnnamedFile g (catalog_at g other) inode
     unnamed_there inode is = record {

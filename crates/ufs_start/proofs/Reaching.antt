@@ -26,7 +26,7 @@ use Rattle.ufs_dir_image.specs.Tables.{IsTableOf}
 use Rattle.ufs_dir_image.proofs.Tables.{inside_or_none, root_inside}
 use Rattle.ufs_dir_image.proofs.Walked.{meets}
 use Rattle.ufs_walk.specs.Reached.{AreReachedMarks}
-use Rattle.ufs_start.specs.Refused.{IsCutOff}
+use Rattle.ufs_start.specs.Refused.{HasNoneCutOff, IsCutOff}
 
 -- ---- a directory that isn't empty has a name
 
@@ -103,6 +103,17 @@ module _ (g : Geometry) (image : Image) (c : Catalog) (t : DirTable) (some : 1 �
               ∙ ap (option_map (found_in c)) (walk.met ∙ ap (λ (k : ℕ). Some k) here)
               ∙ ap (λ (b : Bool). Some (if b then Dir i else File i)) kind,
         )
+
+    -- a name of a directory that is met isn't cut off
+    pub none_cut : ((place : ℕ) (name : List ℕ) → IsSome (entry_of (slots_at t (place + 1)) name) → slice_get marks place ≡ Some true) → HasNoneCutOff g c
+    none_cut marked i cut =
+        let d = cut.dentry in
+        let first = cut.stands.in_range.from_one in
+        let here : i - 1 + 1 ≡ i = omega (arith, first) in
+        let named : IsSome (entry_of (slots_in c i) d.name) = stands_at (slots_in c i) d.name cut.place d cut.stands.there (and_from _ _ cut.stands.named (bytes_same d.name d.name refl)) in
+        let has : IsSome (entry_of (slots_at t i) d.name) = subst (λ (slots : List DentryForm). IsSome (entry_of slots d.name)) (sym (of.slots i cut.stands.in_range)) named in
+        let walk = are.reached (i - 1) (marked (i - 1) d.name (subst (λ (k : ℕ). IsSome (entry_of (slots_at t k) d.name)) (sym here) has)) in
+        cut.unreached walk.names (walk.met ∙ ap (λ (k : ℕ). Some k) here)
 
     pub cut_off : (i : ℕ) (name : List ℕ) → IsSome (entry_of (slots_at t i) name) → slice_get marks (i - 1) ≡ Some false → IsCutOff g c i
     cut_off i name has unmarked =

@@ -9,7 +9,7 @@ use Rattle.std.specs.FinMap.Entries.{below_all}
 use Rattle.ufs_base.specs.Images.{Image}
 use Rattle.ufs_catalog.specs.Faults.{IsWhyNot}
 use Rattle.ufs_catalog.specs.declared.fault.RecoverFault.{RecoverFault}
-use Rattle.ufs_catalog.specs.declared.fault.RecoverFault.TheVariants.{NoSuperblock, BadVersion, BadGeometry, BadRecord, BadTree, Device, Memory}
+use Rattle.ufs_catalog.specs.declared.fault.RecoverFault.TheVariants.{NoSuperblock, BadVersion, BadGeometry, BadRecord, BadTree, Device, Lack}
 use Rattle.ufs_image.specs.Catalog.{Catalog}
 use Rattle.ufs_image.specs.Opens.{ImageTree, NodeBytes, path_cmp, walked}
 use Rattle.ufs_image.specs.Standing.{IsVolumeOf}
@@ -131,4 +131,4 @@ why_alike (Ok t) (Ok u) (BadGeometry number) alike told = let no = told in cc
 why_alike (Ok t) (Ok u) (BadRecord sector) alike told = let no = told in cc
 why_alike (Ok t) (Ok u) (BadTree inode) alike told = let no = told in cc
 why_alike (Ok t) (Ok u) (Device fault) alike told = tt
-why_alike (Ok t) (Ok u) Memory alike told = tt
+why_alike (Ok t) (Ok u) (Lack _) alike told = tt

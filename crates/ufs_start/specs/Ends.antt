@@ -25,5 +25,5 @@ end_of_forms forms = fold (λ end (form : Option InodeForm). max end (end_of_for
 -- The fault names a cause that the image has.
 abbrev pub IsOfImage : RecoverFault → Type 0
 IsOfImage (fault.Device number) = ⊥
-IsOfImage fault.Memory = ⊥
+IsOfImage (fault.Lack _) = ⊥
 IsOfImage _ = Unit {0}

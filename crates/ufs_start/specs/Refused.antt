@@ -2,7 +2,8 @@
 use Rattle.std.specs.Prelude.{ℕ, ◌≡◌, ◌<◌, length}
 use Rattle.ufs_base.specs.Images as images
 use Rattle.ufs_catalog.specs.Faults.{HasFaultCause, IsOutside}
-use Rattle.ufs_catalog.specs.declared.fault.RecoverFault.TheVariants.{Memory}
+use Rattle.ufs_catalog.specs.declared.fault.RecoverFault.{RecoverFault}
+use Rattle.ufs_catalog.specs.declared.fault.RecoverFault.TheVariants.{Lack}
 use Rattle.ufs_damage.specs.Findings.{CatalogRead}
 use Rattle.ufs_file.specs.Content.{block_count}
 use Rattle.ufs_image.specs.Catalog.{Catalog, IsInode, catalog_at}
@@ -40,12 +41,25 @@ pub record IsUnnamedFile (g : Geometry) (c : Catalog) (inode : ℕ) : Type 0 whe
   pub file : (c.forms inode).kind ≡ 1
   pub unreached : IsUnreached c inode
 
--- Why there are no names: a directory of each image of which this was read is cut off, a file of each has no name, or
--- memory is wanted.
+-- No directory in which a name stands is cut off.
+abbrev pub HasNoneCutOff : Geometry → Catalog → Type 0
+HasNoneCutOff g c = (inode : ℕ) → IsCutOff g c inode → ⊥
+
+-- The inode is such a file's, and no directory is cut off: that is told first.
+abbrev pub HasUnnamedAlone : Geometry → Catalog → ℕ → Type 0
+HasUnnamedAlone g c inode = IsUnnamedFile g c inode × HasNoneCutOff g c
+
+-- It is for want of memory, or of a number.
+abbrev pub IsLack : RecoverFault → Type 0
+IsLack (Lack _) = Unit {0}
+IsLack _ = ⊥
+
+-- Why there are no names: a directory of each image of which this was read is cut off, a file of each has no name where
+-- no directory is cut off, or memory is wanted.
 abbrev pub IsNamesFault : Geometry → CatalogRead → StartFault → Type 0
-IsNamesFault g f (Image fault) = fault ≡ Memory
+IsNamesFault g f (Image fault) = IsLack fault
 IsNamesFault g f (Unreached inode) = (image : images.Image) → IsUndamaged g image f → IsCutOff g (catalog_at g image) inode
-IsNamesFault g f (Unnamed inode) = (image : images.Image) → IsUndamaged g image f → IsUnnamedFile g (catalog_at g image) inode
+IsNamesFault g f (Unnamed inode) = (image : images.Image) → IsUndamaged g image f → HasUnnamedAlone g (catalog_at g image) inode
 IsNamesFault g f (ExtraBlocks inode) = ⊥
 
 -- Why a file is refused: it has more blocks than its size wants. Other faults come from outside.
@@ -66,10 +80,10 @@ NamesFile these (ExtraBlocks inode) = these inode
 abbrev pub HasTreeWith : ℕ → images.Image → (Volume → Type 0) → Type 0
 HasTreeWith sectors disk with_it = (v : Volume) × IsVolumeOf sectors disk v (catalog_at v.geometry v.image) × with_it v
 
--- Why a server can't begin with this disk: it opens to no tree, a directory of it is cut off, a file of it has no name,
--- or one is refused.
+-- Why a server can't begin with this disk: it opens to no tree, a directory of it is cut off, a file of it has no name
+-- where none is, or one is refused.
 abbrev pub TellsNoStart : ℕ → images.Image → StartFault → Type 0
 TellsNoStart sectors disk (Image fault) = TellsWhy sectors disk fault
 TellsNoStart sectors disk (Unreached inode) = HasTreeWith sectors disk (λ v. IsCutOff v.geometry (catalog_at v.geometry v.image) inode)
-TellsNoStart sectors disk (Unnamed inode) = HasTreeWith sectors disk (λ v. IsUnnamedFile v.geometry (catalog_at v.geometry v.image) inode)
+TellsNoStart sectors disk (Unnamed inode) = HasTreeWith sectors disk (λ v. HasUnnamedAlone v.geometry (catalog_at v.geometry v.image) inode)
 TellsNoStart sectors disk (ExtraBlocks inode) = HasTreeWith sectors disk (λ v. IsInode v.geometry inode × IsRefusedFile (form_at v.geometry v.image) (ExtraBlocks inode))

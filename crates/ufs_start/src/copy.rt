@@ -183,9 +183,7 @@ fn copy_in<D: Disk>(
     ensures outside { IfErr result IsOutside }
 {
     let mut copy = metadata_of(alloc, disk, geometry, first)?;
-    let Ok(end) = end_of_used(alloc, geometry, &mut copy) else {
-        return Err(RecoverFault::Memory);
-    };
+    let end = end_of_used(alloc, geometry, &mut copy)?;
     copy_blocks(&mut copy, disk, geometry.first_of_data(), end)?;
     Ok(copy)
 }

@@ -7,27 +7,27 @@ ghost use Rattle.ufs_layout.specs.DentryForm.{DentryForm, free_slot, is_dentry, 
 
 use crate::extents::extents_in;
 use std::alloc::Global;
-use ufs_base::{MAX_BLOCKS, Memory};
+use ufs_base::{Lack, MAX_BLOCKS};
 use ufs_dirs::{DirBlocks, Slot};
 use ufs_extent::Extents;
 use ufs_layout::{Dentry, Inode};
 
-fn add_bare(dir: &mut DirBlocks, block: u32) -> Result<(), Memory>
+fn add_bare(dir: &mut DirBlocks, block: u32) -> Result<(), Lack>
     ensures blocks { OnOk result (dir.new.blocks ≡ dir.old.blocks ++ block ∷ []) }
     ensures slots { OnOk result (dir.new.slots ≡ dir.old.slots ++ replicate 64 free_slot) }
 {
     if block >= MAX_BLOCKS {
-        return Err(Memory);
+        return Err(Lack::Unsound);
     }
     if dir.has_block(block) {
-        return Err(Memory);
+        return Err(Lack::Unsound);
     }
     dir.add_block(block)?;
     Ok(())
 }
 
 // A directory with these blocks and no name.
-fn bare_dir(alloc: Global, extents: &Extents) -> Result<DirBlocks, Memory>
+fn bare_dir(alloc: Global, extents: &Extents) -> Result<DirBlocks, Lack>
     ensures blocks { IfOk result (λ d. d.blocks ≡ runs.blocks_of extents.now) }
     ensures slots { IfOk result (λ d. d.slots ≡ replicate (64 * length (runs.blocks_of extents.now)) free_slot) }
 {
@@ -54,7 +54,7 @@ fn slot_at(block: u32, place: usize) -> Slot
 }
 
 // Puts a dentry into the free slot at this place, where it has a name.
-fn put_at(dir: &mut DirBlocks, block: u32, place: usize, dentry: &Dentry) -> Result<(), Memory>
+fn put_at(dir: &mut DirBlocks, block: u32, place: usize, dentry: &Dentry) -> Result<(), Lack>
     requires block { slice_get dir.old.blocks (place / 64) ≡ Some block }
     requires form { is_dentry dentry.now ≡ true }
     ensures blocks { OnOk result (dir.new.blocks ≡ dir.old.blocks) }
@@ -64,23 +64,23 @@ fn put_at(dir: &mut DirBlocks, block: u32, place: usize, dentry: &Dentry) -> Res
         return Ok(());
     }
     if block >= MAX_BLOCKS {
-        return Err(Memory);
+        return Err(Lack::Unsound);
     }
     let slot = slot_at(block, place);
     // For the prover alone.
     let _blocks = dir.blocks();
     if !dir.is_free(slot) {
-        return Err(Memory);
+        return Err(Lack::Unsound);
     }
     if dir.find(dentry.name_bytes()).is_some() {
-        return Err(Memory);
+        return Err(Lack::Unsound);
     }
     dir.place(slot, *dentry);
     Ok(())
 }
 
 // Puts the slots that were read into a directory without names.
-fn fill(dir: &mut DirBlocks, extents: &Extents, slots: &[Option<Dentry>]) -> Result<(), Memory>
+fn fill(dir: &mut DirBlocks, extents: &Extents, slots: &[Option<Dentry>]) -> Result<(), Lack>
     requires few { length slots.now ≤ 64 * 4294967295 }
     requires blocks { dir.old.blocks ≡ runs.blocks_of extents.now }
     requires bare { dir.old.slots ≡ replicate (length slots.now) free_slot }
@@ -90,10 +90,10 @@ fn fill(dir: &mut DirBlocks, extents: &Extents, slots: &[Option<Dentry>]) -> Res
 {
     for place in 0..slots.len() {
         let Some(dentry) = &slots[place] else {
-            return Err(Memory);
+            return Err(Lack::Unsound);
         };
         let Some(block) = extents.block_of((place / 64) as u32) else {
-            return Err(Memory);
+            return Err(Lack::Unsound);
         };
         put_at(dir, block, place, dentry)?;
     }
@@ -107,14 +107,14 @@ pub(crate) fn dir_of(
     alloc: Global,
     form: &Inode,
     slots: &[Option<Dentry>],
-) -> Result<DirBlocks, Memory>
+) -> Result<DirBlocks, Lack>
     requires forms { (k : ℕ) (d : DentryForm) → slice_index_or slots.now k None ≡ Some d → is_dentry d ≡ true }
     ensures blocks { IfOk result (λ d. d.blocks ≡ nodes.blocks_of form.now) }
     ensures slots { IfOk result (λ d. slots.now ≡ map Some d.slots) }
 {
     let extents = extents_in(alloc, form)?;
     if slots.len() != 64 * extents.block_count() as usize {
-        return Err(Memory);
+        return Err(Lack::Unsound);
     }
     let mut dir = bare_dir(alloc, &extents)?;
     fill(&mut dir, &extents, slots)?;

@@ -5,13 +5,13 @@ ghost use Rattle.ufs_image.specs.Nodes as nodes;
 ghost use Rattle.ufs_start.specs.Extents.{run_of};
 
 use std::alloc::Global;
-use ufs_base::{MAX_EXTENTS, Memory};
+use ufs_base::{Lack, MAX_EXTENTS};
 use ufs_extent::{Extents, Run, Runs};
 use ufs_layout::{Extent, Inode};
 
 /// The blocks of an inode, in the order of its bytes. An extent that leaves every image counts as want of memory: no
 /// sound image has one.
-pub(crate) fn extents_in(alloc: Global, form: &Inode) -> Result<Extents, Memory>
+pub(crate) fn extents_in(alloc: Global, form: &Inode) -> Result<Extents, Lack>
     ensures runs { IfOk result (λ e. e ≡ map run_of form.now.extents) }
     ensures blocks { IfOk result (λ e. runs.blocks_of e ≡ nodes.blocks_of form.now) }
 {
@@ -20,12 +20,12 @@ pub(crate) fn extents_in(alloc: Global, form: &Inode) -> Result<Extents, Memory>
         push_run(&mut runs, extent)?;
     }
     if runs.as_slice().len() > MAX_EXTENTS {
-        return Err(Memory);
+        return Err(Lack::Unsound);
     }
-    Extents::from_runs(alloc, runs.as_slice())
+    Ok(Extents::from_runs(alloc, runs.as_slice())?)
 }
 
-fn push_run(runs: &mut Runs, extent: &Extent) -> Result<(), Memory>
+fn push_run(runs: &mut Runs, extent: &Extent) -> Result<(), Lack>
     ensures { OnOk result (runs.new ≡ runs.old ++ run_of extent.now ∷ []) }
 {
     let run = Run {
@@ -33,7 +33,7 @@ fn push_run(runs: &mut Runs, extent: &Extent) -> Result<(), Memory>
         length: extent.length,
     };
     if !run.is_valid() {
-        return Err(Memory);
+        return Err(Lack::Unsound);
     }
-    runs.push(run)
+    Ok(runs.push(run)?)
 }

@@ -1,4 +1,4 @@
-use ufs_base::Memory;
+use ufs_base::{Lack, Memory};
 use ufs_catalog::RecoverFault;
 
 /// Why a server can't begin with an image.
@@ -27,12 +27,25 @@ impl From<RecoverFault> for StartFault {
 
 impl From<Memory> for StartFault {
     ghost use Rattle.std.specs.Prelude.{◌≡◌};
-    ghost use Rattle.ufs_catalog.specs.declared.fault.RecoverFault.TheVariants.{Memory};
+    ghost use Rattle.ufs_base.specs.declared.lack.Lack.TheVariants as lack;
+    ghost use Rattle.ufs_catalog.specs.declared.fault.RecoverFault.TheVariants as image;
     ghost use Rattle.ufs_start.specs.declared.fault.StartFault.TheVariants as fault;
 
-    ghost from_gives = { λ _ e. e ≡ fault.Image Memory };
+    ghost from_gives = { λ m e. e ≡ fault.Image (image.Lack (lack.Memory m)) };
 
-    fn from(_: Memory) -> StartFault {
-        StartFault::Image(RecoverFault::Memory)
+    fn from(memory: Memory) -> StartFault {
+        StartFault::Image(RecoverFault::Lack(Lack::Memory(memory)))
+    }
+}
+
+impl From<Lack> for StartFault {
+    ghost use Rattle.std.specs.Prelude.{◌≡◌};
+    ghost use Rattle.ufs_catalog.specs.declared.fault.RecoverFault.TheVariants as image;
+    ghost use Rattle.ufs_start.specs.declared.fault.StartFault.TheVariants as fault;
+
+    ghost from_gives = { λ l e. e ≡ fault.Image (image.Lack l) };
+
+    fn from(lack: Lack) -> StartFault {
+        StartFault::Image(RecoverFault::Lack(lack))
     }
 }

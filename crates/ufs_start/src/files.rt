@@ -20,7 +20,7 @@ ghost use Rattle.ufs_start.specs.Refused.{HasStartCause, IsRefusedFile, NamesFil
 use crate::extents::extents_in;
 use crate::fault::StartFault;
 use std::alloc::Global;
-use ufs_base::BLOCK;
+use ufs_base::{BLOCK, Lack};
 use ufs_catalog::RecoverFault;
 use ufs_damage::Findings;
 use ufs_extent::Extents;
@@ -28,7 +28,7 @@ use ufs_file::{FileHand, MAX_HELD};
 use ufs_files::FileHands;
 use ufs_layout::Inode;
 
-const MEMORY: StartFault = StartFault::Image(RecoverFault::Memory);
+const UNSOUND: StartFault = StartFault::Image(RecoverFault::Lack(Lack::Unsound));
 
 // the kind of a file's inode
 const FILE: u8 = 1;
@@ -46,7 +46,7 @@ fn file_extents(alloc: Global, form: &Inode, inode: u32) -> Result<Extents, Star
     ensures named { IfErr result (NamesFile (λ i. i ≡ inode)) }
 {
     if form.kind != FILE || form.size > MAX_HELD {
-        return Err(MEMORY);
+        return Err(UNSOUND);
     }
     let extents = extents_in(alloc, form)?;
     let wanted = form.size.div_ceil(BLOCK as u64);
@@ -54,7 +54,7 @@ fn file_extents(alloc: Global, form: &Inode, inode: u32) -> Result<Extents, Star
         return Err(StartFault::ExtraBlocks { inode });
     }
     if u64::from(extents.block_count()) < wanted {
-        return Err(MEMORY);
+        return Err(UNSOUND);
     }
     Ok(extents)
 }
@@ -102,10 +102,10 @@ fn add_file(
         return Ok(());
     };
     let Some(form) = &forms[inode as usize - 1] else {
-        return Err(MEMORY);
+        return Err(UNSOUND);
     };
     if files.get(file).is_some() {
-        return Err(MEMORY);
+        return Err(UNSOUND);
     }
     let hand = file_in(alloc, form, inode, file)?;
     files.insert(hand)?;
@@ -130,7 +130,7 @@ pub fn files_of(
 {
     let forms = findings.forms();
     if forms.len() >= u32::MAX as usize {
-        return Err(MEMORY);
+        return Err(StartFault::from(Lack::AtEnd));
     }
     let mut files = FileHands::new(alloc);
     for place in 0..forms.len() {

@@ -4,7 +4,8 @@ ghost use Rattle.ufs_layout.specs.Areas.{IsGeometry};
 ghost use Rattle.ufs_layout.specs.declared.superblock.Super.{Super};
 ghost use Rattle.ufs_dir_tree.specs.DirTable.{IsReached};
 ghost use Rattle.ufs_names_image.specs.Starts.{image_start};
-ghost use Rattle.ufs_start.specs.Refused.{IsNamesFault};
+ghost use Rattle.ufs_start.specs.Refused.{HasNoneCutOff, IsNamesFault};
+ghost use Rattle.ufs_image.specs.Catalog.{catalog_at};
 ghost use Rattle.ufs_start.specs.Starts.{AreDirsOf, AreFilesNamed, AreNumbersOf, AreStartNames, HaveNumbers, IsLoaded, IsOfSome, IsUndamaged, tree_in};
 
 use crate::fault::StartFault;
@@ -20,7 +21,7 @@ use ufs_layout::Geometry;
 use ufs_name_tree::NameTree;
 use ufs_names::Names;
 
-// The numbers of an image's files, unless one has no name.
+// The numbers of an image's files, none of whose directories is cut off, unless one has no name.
 fn all_numbers(
     alloc: Global,
     geometry: &Geometry,
@@ -28,6 +29,7 @@ fn all_numbers(
 ) -> Result<Numbers, StartFault>
     requires geometry { IsGeometry geometry.now }
     requires sound { (image : Image) × IsUndamaged geometry.now image findings.now }
+    requires whole { (image : Image) → IsUndamaged geometry.now image findings.now → HasNoneCutOff geometry.now (catalog_at geometry.now image) }
     ensures counted { IfOk result (λ n. length n.files.items ≡ geometry.now.inodes + 1) }
     ensures numbers { IfOk result (λ n. (image : Image) → IsUndamaged geometry.now image findings.now → AreNumbersOf geometry.now image n.files.items) }
     ensures next { IfOk result (λ n. (image : Image) → IsUndamaged geometry.now image findings.now → n.next ≡ (image_start (tree_in geometry.now image)).next) }
@@ -73,7 +75,7 @@ fn names_of(
 /// The namespace of an image that stands for a tree: its files are numbered from 0 by rising path, and nothing is open.
 /// The time goes by inodes, slots and paths, and at each name by the blocks and names of its directory. What no sound
 /// image has counts as want of memory, as do more names than there are numbers. An image is refused of which a directory
-/// has a name and isn't reached from the root, or of which a file has no name.
+/// has a name and isn't reached from the root, and then one of which a file has no name.
 pub fn names_in(
     alloc: Global,
     geometry: &Geometry,

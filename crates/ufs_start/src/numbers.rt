@@ -8,7 +8,7 @@ ghost use Rattle.ufs_start.specs.Starts.{AreNumbersOf, IsUndamaged, tree_in};
 ghost use Rattle.ufs_start.specs.Numbers.{after, is_dir_in, next_number, noted, numbers_from};
 
 use std::alloc::Global;
-use ufs_base::Memory;
+use ufs_base::Lack;
 use ufs_damage::Findings;
 use ufs_image::damage_law;
 use ufs_layout::{Geometry, Inode};
@@ -58,7 +58,7 @@ fn number_places(
     geometry: &Geometry,
     forms: &[Option<Inode>],
     places: &[PathAt],
-) -> Result<Numbers, Memory>
+) -> Result<Numbers, Lack>
     requires geometry { IsGeometry geometry.now }
     requires counted { length forms.now ≡ geometry.now.inodes }
     requires inside { AreInodes geometry.now (pairs_of places.now) }
@@ -67,7 +67,7 @@ fn number_places(
     ensures few { IfOk result (λ n. n.next ≤ 2 ^ 30) }
 {
     if places.len() > MOST {
-        return Err(Memory);
+        return Err(Lack::AtEnd);
     }
     let mut files = vec![in alloc; None; geometry.inodes as usize + 1]?;
     let mut next = 0;
@@ -80,11 +80,7 @@ fn number_places(
 
 /// Gives the files of an undamaged image numbers from 0 on, by rising path. Takes time that is linear in the names,
 /// with a logarithm. More names than numbers count as want of memory.
-pub fn numbers_of(
-    alloc: Global,
-    geometry: &Geometry,
-    findings: &Findings,
-) -> Result<Numbers, Memory>
+pub fn numbers_of(alloc: Global, geometry: &Geometry, findings: &Findings) -> Result<Numbers, Lack>
     requires geometry { IsGeometry geometry.now }
     requires sound { (image : Image) × IsUndamaged geometry.now image findings.now }
     ensures counted { IfOk result (λ n. length n.files.items ≡ geometry.now.inodes + 1) }

@@ -1,10 +1,12 @@
 // The table of an image's directories. What no sound image has counts as want of memory here.
 ghost use Rattle.std.specs.Prelude.{ℕ, ◌≡◌, ◌<◌, ◌≤◌, ◌+◌, Some, length, slice_get, IfOk, IfErr, OnOk};
+ghost use Rattle.ufs_base.specs.Images.{Image};
+ghost use Rattle.ufs_image.specs.Catalog.{catalog_at};
 ghost use Rattle.ufs_image.specs.Nodes.{Dir};
 ghost use Rattle.ufs_layout.specs.Areas.{IsGeometry};
 ghost use Rattle.ufs_dir_tree.specs.DirTable.{IsReached};
-ghost use Rattle.ufs_start.specs.Refused.{IsNamesFault};
-ghost use Rattle.ufs_start.specs.Starts.{AreDirsOf, IsOfSome};
+ghost use Rattle.ufs_start.specs.Refused.{HasNoneCutOff, IsNamesFault};
+ghost use Rattle.ufs_start.specs.Starts.{AreDirsOf, IsOfSome, IsUndamaged};
 ghost use Rattle.ufs_start.specs.Tables.{AreReadIn, AreSlotForms, IsAsRead, form_in};
 
 use crate::dirs::dir_of;
@@ -12,7 +14,7 @@ use crate::fault::StartFault;
 use crate::free::free_inodes;
 use crate::reached::unreached;
 use std::alloc::Global;
-use ufs_base::Memory;
+use ufs_base::Lack;
 use ufs_damage::{Findings, ReadDir};
 use ufs_dir_image::dir_table_law;
 use ufs_dir_tree::DirTree;
@@ -22,12 +24,12 @@ use ufs_layout::{Geometry, Inode};
 use ufs_walk::reached_inodes;
 
 // The directory that was read of an inode with this form.
-fn read_of(alloc: Global, form: &Option<Inode>, read: &ReadDir) -> Result<DirBlocks, Memory>
+fn read_of(alloc: Global, form: &Option<Inode>, read: &ReadDir) -> Result<DirBlocks, Lack>
     requires forms { AreSlotForms read.now.slots }
     ensures { IfOk result (IsAsRead form.now read.now.slots) }
 {
     let Some(form) = form else {
-        return Err(Memory);
+        return Err(Lack::Unsound);
     };
     dir_of(alloc, form, read.slots())
 }
@@ -40,7 +42,7 @@ fn put_next(
     findings: &Findings,
     inode: u32,
     next: usize,
-) -> Result<usize, Memory>
+) -> Result<usize, Lack>
     requires from_one { 1 ≤ inode }
     requires within { inode ≤ length findings.now.forms }
     requires behind { inode ≡ length table.old.items }
@@ -61,11 +63,7 @@ fn put_next(
 }
 
 // The directories that were read, by inode from 0.
-fn all_dirs(
-    alloc: Global,
-    geometry: &Geometry,
-    findings: &Findings,
-) -> Result<Vec<DirBlocks>, Memory>
+fn all_dirs(alloc: Global, geometry: &Geometry, findings: &Findings) -> Result<Vec<DirBlocks>, Lack>
     requires geometry { IsGeometry geometry.now }
     requires counted { length findings.now.forms ≡ geometry.now.inodes }
     requires forms { (p : ℕ) (d : Dir) → slice_get findings.now.dirs p ≡ Some d → AreSlotForms d.slots }
@@ -79,7 +77,7 @@ fn all_dirs(
         next = put_next(alloc, &mut table, findings, inode, next)?;
     }
     if next != findings.dirs().len() {
-        return Err(Memory);
+        return Err(Lack::Unsound);
     }
     Ok(table)
 }
@@ -96,6 +94,7 @@ pub(crate) fn dirs_of(
     ensures counted { IfOk result (λ t. length t.dirs ≡ geometry.now.inodes + 1) }
     ensures dirs { IfOk result (AreDirsOf geometry.now findings.now) }
     ensures reached { IfOk result IsReached }
+    ensures whole { OnOk result ((image : Image) → IsUndamaged geometry.now image findings.now → HasNoneCutOff geometry.now (catalog_at geometry.now image)) }
     ensures fault { IfErr result (IsNamesFault geometry.now findings.now) }
 {
     damage_law(geometry);

@@ -10,7 +10,7 @@ ghost use Rattle.ufs_start.specs.Ends.{IsOfImage, end_of_extents, end_of_form, e
 ghost use Rattle.ufs_front.specs.Fronts.{bytes_of};
 
 use std::alloc::Global;
-use ufs_base::Memory;
+use ufs_base::Lack;
 use ufs_catalog::{RecoverFault, read_findings};
 use ufs_front::FrontDisk;
 use ufs_layout::{Extent, Geometry, Inode};
@@ -54,15 +54,23 @@ fn end_of_forms(forms: &[Option<Inode>]) -> u32
 }
 
 // Where the data ends that is read of an image without a volume, by why there is none: no data is read.
-fn end_without(geometry: &Geometry, fault: RecoverFault) -> Result<u32, Memory>
+fn end_without(geometry: &Geometry, fault: RecoverFault) -> Result<u32, Lack>
     requires { IsGeometry geometry.now }
     ensures end { IfOk result (λ end. end ≡ first_of_data geometry.now) }
     ensures refused { OnOk result (IsOfImage fault) }
 {
     match fault {
-        RecoverFault::Memory => Err(Memory),
-        RecoverFault::Device { .. } => Err(Memory),
+        RecoverFault::Lack(lack) => Err(lack),
+        RecoverFault::Device { .. } => Err(Lack::Unsound),
         _ => Ok(geometry.first_of_data()),
+    }
+}
+
+// For want of what a copy in memory isn't read.
+fn lack_of(fault: RecoverFault) -> Lack {
+    match fault {
+        RecoverFault::Lack(lack) => lack,
+        _ => Lack::Unsound,
     }
 }
 
@@ -72,7 +80,7 @@ pub(crate) fn end_of_used(
     alloc: Global,
     geometry: &Geometry,
     copy: &mut FrontDisk,
-) -> Result<u32, Memory>
+) -> Result<u32, Lack>
     requires limits { IsGeometry geometry.now }
     requires large { sector_count geometry.now ≤ copy.old.sectors }
     requires fields { geometry.now ≡ geometry_of (superblock_of (image_of (bytes_of copy.old))) }
@@ -86,8 +94,9 @@ pub(crate) fn end_of_used(
         Ok(volume) => volume,
         Err(fault) => return end_without(geometry, fault),
     };
-    let Ok(findings) = read_findings(alloc, copy, geometry, &volume.overlay) else {
-        return Err(Memory);
+    let findings = match read_findings(alloc, copy, geometry, &volume.overlay) {
+        Ok(findings) => findings,
+        Err(fault) => return Err(lack_of(fault)),
     };
     let end = end_of_forms(findings.forms()).min(geometry.blocks);
     Ok(end.max(geometry.first_of_data()))

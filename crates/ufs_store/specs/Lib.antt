@@ -1,8 +1,9 @@
-pub mod Refusals
 pub mod Blocks
-pub mod State
+pub mod Ends
+pub mod Laws
 pub mod Ledgers
 pub mod Mounting
-pub mod Tables
-pub mod Laws
+pub mod Refusals
 pub mod Stamping
+pub mod State
+pub mod Tables

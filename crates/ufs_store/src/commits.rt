@@ -1,5 +1,7 @@
 ghost use Rattle.std.specs.Prelude.{ℕ, Bool, List, ◌≡◌, ◌≢◌, ◌≤◌, ◌<◌, ◌+◌, ◌-◌, ◌^◌, ◌∷◌, ◌⊎◌, [], IsTrue, true, false, None, Some, Ok, Err, OnOk, OnErr, IfErr, IfOk};
 ghost use Rattle.std.specs.List.{list_all};
+ghost use Rattle.ufs_base.specs.declared.lack.Lack.{Lack};
+ghost use Rattle.ufs_base.specs.declared.lack.Lack.TheVariants.{AtEnd};
 ghost use Rattle.ufs_disk.specs.Moments.{LeavesOnly};
 ghost use Rattle.ufs_image.specs.Fold.{is_in_range};
 ghost use Rattle.ufs_layout.specs.Areas.{sector_count};
@@ -7,15 +9,17 @@ ghost use Rattle.ufs_layout.specs.Filled.{sector_count_of};
 ghost use Rattle.ufs_layout.specs.Records.{is_record};
 ghost use Rattle.ufs_ledger.specs.Ledger.{Ledger, IsLedgerOf, IsLeftBy};
 ghost use Rattle.ufs_ledger.specs.Changes.{committed_one, settled};
+ghost use Rattle.ufs_store.specs.Ends.{IsLackOf};
 ghost use Rattle.ufs_store.specs.Ledgers.{HasAny, HasLedger, IsLeftByAny, MayCommitNext, after_commit, checkpointed, commit_stages, room_stages, stages, with_room};
 ghost use Rattle.ufs_store.specs.Refusals.{IsTold, fault_in, is_own};
-ghost use Rattle.ufs_store.specs.State.{next_commit};
+ghost use Rattle.ufs_store.specs.State.{StoreState, next_commit};
 ghost use Rattle.ufs_store.specs.Tables.{state_of};
 ghost use Rattle.ufs_store.specs.declared.fault.StoreFault.TheVariants as refusal;
 
 use crate::StoreFault;
 use crate::homes::begin_next;
 use crate::tables::{Tables, stop_at};
+use ufs_base::Lack;
 use ufs_disk::Disk;
 use ufs_journal::sectors_needed;
 use ufs_layout::Records;
@@ -36,7 +40,9 @@ pub(crate) fn commit<D: Disk>(
         → LeavesOnly D.keeps (IsLeftByAny (D.size disk.old) (stages (state_of (D.size disk.old) (D.moments disk.old) (D.faults disk.old) tables.old) records.now l)) (D.moments disk.old) (D.moments disk.new) }
     ensures ok { IsTrue D.visible → OnOk result ((l : Ledger) → HasLedger (state_of (D.size disk.old) (D.moments disk.old) (D.faults disk.old) tables.old) l → MayCommitNext (state_of (D.size disk.old) (D.moments disk.old) (D.faults disk.old) tables.old) records.now l → HasLedger (state_of (D.size disk.new) (D.moments disk.new) (D.faults disk.new) tables.new) (after_commit (state_of (D.size disk.old) (D.moments disk.old) (D.faults disk.old) tables.old) records.now l)) }
     ensures device { IsTrue D.visible → (fault : ℕ) → result ≡ Err (refusal.Device fault) → (l : Ledger) → HasLedger (state_of (D.size disk.old) (D.moments disk.old) (D.faults disk.old) tables.old) l → MayCommitNext (state_of (D.size disk.old) (D.moments disk.old) (D.faults disk.old) tables.old) records.now l → HasAny (state_of (D.size disk.new) (D.moments disk.new) (D.faults disk.new) tables.new) (stages (state_of (D.size disk.old) (D.moments disk.old) (D.faults disk.old) tables.old) records.now l) }
-    ensures memory { IsTrue D.visible → result ≡ Err refusal.Memory → (l : Ledger) → HasLedger (state_of (D.size disk.old) (D.moments disk.old) (D.faults disk.old) tables.old) l → HasLedger (state_of (D.size disk.new) (D.moments disk.new) (D.faults disk.new) tables.new) l ⊎ HasLedger (state_of (D.size disk.new) (D.moments disk.new) (D.faults disk.new) tables.new) (checkpointed (state_of (D.size disk.old) (D.moments disk.old) (D.faults disk.old) tables.old) l) }
+    ensures memory { IsTrue D.visible → (w : Lack) → result ≡ Err (refusal.Lack w) → (l : Ledger) → HasLedger (state_of (D.size disk.old) (D.moments disk.old) (D.faults disk.old) tables.old) l → HasLedger (state_of (D.size disk.new) (D.moments disk.new) (D.faults disk.new) tables.new) l ⊎ HasLedger (state_of (D.size disk.new) (D.moments disk.new) (D.faults disk.new) tables.new) (checkpointed (state_of (D.size disk.old) (D.moments disk.old) (D.faults disk.old) tables.old) l) }
+    ensures lack { (w : Lack) → result ≡ Err (refusal.Lack w) → IsLackOf (state_of (D.size disk.old) (D.moments disk.old) (D.faults disk.old) tables.old) w }
+    ensures at_end { tables.old.journal.number ≡ 2 ^ 64 - 1 → result ≡ Err (refusal.Lack AtEnd) }
     ensures number { IfOk result (λ number. number ≡ tables.old.journal.number) }
     ensures rises { OnOk result (tables.new.journal.number ≡ tables.old.journal.number + 1) }
     ensures geometry { tables.new.journal.geometry ≡ tables.old.journal.geometry }
@@ -44,10 +50,12 @@ pub(crate) fn commit<D: Disk>(
     ensures size { D.size disk.new ≡ D.size disk.old }
     ensures cause { IsTold (D.faults disk.old) (D.faults disk.new) (fault_in result) }
     ensures stop { tables.new.stop ≡ fault_in result }
+    ensures settled { OnOk result (tables.new.unsettled ≡ false) }
+    ensures unset { tables.old.unsettled ≡ false → tables.new.unsettled ≡ false }
     ensures refused { IfErr result (λ fault. IsTrue (is_own fault)) }
 {
     if tables.journal.number == u64::MAX {
-        return Err(StoreFault::Memory);
+        return Err(StoreFault::Lack(Lack::AtEnd));
     }
     make_room(tables, disk, records)?;
     commit_in_room(tables, disk, records)
@@ -66,7 +74,8 @@ fn make_room<D: Disk>(
         → LeavesOnly D.keeps (IsLeftByAny (D.size disk.old) (room_stages (state_of (D.size disk.old) (D.moments disk.old) (D.faults disk.old) tables.old) records.now l)) (D.moments disk.old) (D.moments disk.new) }
     ensures ok { IsTrue D.visible → OnOk result ((l : Ledger) → HasLedger (state_of (D.size disk.old) (D.moments disk.old) (D.faults disk.old) tables.old) l → HasLedger (state_of (D.size disk.new) (D.moments disk.new) (D.faults disk.new) tables.new) (with_room (state_of (D.size disk.old) (D.moments disk.old) (D.faults disk.old) tables.old) records.now l)) }
     ensures device { IsTrue D.visible → (fault : ℕ) → result ≡ Err (refusal.Device fault) → (l : Ledger) → HasLedger (state_of (D.size disk.old) (D.moments disk.old) (D.faults disk.old) tables.old) l → HasAny (state_of (D.size disk.new) (D.moments disk.new) (D.faults disk.new) tables.new) (room_stages (state_of (D.size disk.old) (D.moments disk.old) (D.faults disk.old) tables.old) records.now l) }
-    ensures memory { result ≡ Err refusal.Memory → (state_of (D.size disk.new) (D.moments disk.new) (D.faults disk.new) tables.new) ≡ (state_of (D.size disk.old) (D.moments disk.old) (D.faults disk.old) tables.old) }
+    ensures memory { (w : Lack) → result ≡ Err (refusal.Lack w) → (state_of (D.size disk.new) (D.moments disk.new) (D.faults disk.new) tables.new) ≡ (state_of (D.size disk.old) (D.moments disk.old) (D.faults disk.old) tables.old) }
+    ensures lack { (w : Lack) → result ≡ Err (refusal.Lack w) → IsLackOf (state_of (D.size disk.old) (D.moments disk.old) (D.faults disk.old) tables.old) w }
     ensures room { OnOk result (tables.new.journal.used + sector_count_of records.now < tables.new.journal.geometry.journal) }
     ensures number { tables.new.journal.number ≡ tables.old.journal.number }
     ensures geometry { tables.new.journal.geometry ≡ tables.old.journal.geometry }
@@ -74,6 +83,7 @@ fn make_room<D: Disk>(
     ensures size { D.size disk.new ≡ D.size disk.old }
     ensures cause { IsTold (D.faults disk.old) (D.faults disk.new) (fault_in result) }
     ensures stop { tables.new.stop ≡ fault_in result }
+    ensures unset { tables.old.unsettled ≡ false → tables.new.unsettled ≡ false }
     ensures refused { IfErr result (λ fault. IsTrue (is_own fault)) }
 {
     if sectors_needed(records) < tables.journal.room() as usize {
@@ -98,7 +108,8 @@ fn commit_in_room<D: Disk>(
         → LeavesOnly D.keeps (IsLeftByAny (D.size disk.old) (commit_stages (next_commit (state_of (D.size disk.old) (D.moments disk.old) (D.faults disk.old) tables.old) records.now) l)) (D.moments disk.old) (D.moments disk.new) }
     ensures ok { IsTrue D.visible → OnOk result ((l : Ledger) → HasLedger (state_of (D.size disk.old) (D.moments disk.old) (D.faults disk.old) tables.old) l → MayCommitNext (state_of (D.size disk.old) (D.moments disk.old) (D.faults disk.old) tables.old) records.now l → HasLedger (state_of (D.size disk.new) (D.moments disk.new) (D.faults disk.new) tables.new) (committed_one (next_commit (state_of (D.size disk.old) (D.moments disk.old) (D.faults disk.old) tables.old) records.now) l)) }
     ensures device { IsTrue D.visible → (fault : ℕ) → result ≡ Err (refusal.Device fault) → (l : Ledger) → HasLedger (state_of (D.size disk.old) (D.moments disk.old) (D.faults disk.old) tables.old) l → MayCommitNext (state_of (D.size disk.old) (D.moments disk.old) (D.faults disk.old) tables.old) records.now l → HasAny (state_of (D.size disk.new) (D.moments disk.new) (D.faults disk.new) tables.new) (commit_stages (next_commit (state_of (D.size disk.old) (D.moments disk.old) (D.faults disk.old) tables.old) records.now) l) }
-    ensures memory { IsTrue D.visible → result ≡ Err refusal.Memory → (l : Ledger) → HasLedger (state_of (D.size disk.old) (D.moments disk.old) (D.faults disk.old) tables.old) l → HasLedger (state_of (D.size disk.new) (D.moments disk.new) (D.faults disk.new) tables.new) l }
+    ensures memory { IsTrue D.visible → (w : Lack) → result ≡ Err (refusal.Lack w) → (l : Ledger) → HasLedger (state_of (D.size disk.old) (D.moments disk.old) (D.faults disk.old) tables.old) l → HasLedger (state_of (D.size disk.new) (D.moments disk.new) (D.faults disk.new) tables.new) l }
+    ensures lack { (s : StoreState) (w : Lack) → result ≡ Err (refusal.Lack w) → IsLackOf s w }
     ensures number { IfOk result (λ number. number ≡ tables.old.journal.number) }
     ensures rises { OnOk result (tables.new.journal.number ≡ tables.old.journal.number + 1) }
     ensures geometry { tables.new.journal.geometry ≡ tables.old.journal.geometry }
@@ -106,6 +117,8 @@ fn commit_in_room<D: Disk>(
     ensures size { D.size disk.new ≡ D.size disk.old }
     ensures cause { IsTold (D.faults disk.old) (D.faults disk.new) (fault_in result) }
     ensures stop { tables.new.stop ≡ fault_in result }
+    ensures settled { OnOk result (tables.new.unsettled ≡ false) }
+    ensures unset { tables.old.unsettled ≡ false → tables.new.unsettled ≡ false }
     ensures refused { IfErr result (λ fault. IsTrue (is_own fault)) }
 {
     tables

@@ -1,10 +1,12 @@
-ghost use Rattle.std.specs.Prelude.{ℕ, Bool, ◌≡◌, ◌≢◌, ◌↔◌, ◌≤◌, ◌<◌, ◌+◌, ◌-◌, ◌⊎◌, ◌∷◌, [], List, length, IsTrue, true, false, None, Some, Ok, Err, OnOk, OnErr, IfOk, IfErr};
+ghost use Rattle.std.specs.Prelude.{ℕ, Bool, ◌≡◌, ◌≢◌, ◌↔◌, ◌≤◌, ◌<◌, ◌+◌, ◌-◌, ◌⊎◌, ◌∷◌, [], List, length, IsTrue, true, false, None, Some, Ok, Err, OnOk, OnErr, IfOk, IfErr, ◌^◌};
 ghost use Rattle.std.specs.List.{list_all};
 ghost use Rattle.std.specs.FinSet as set;
 ghost use Rattle.ufs_base.specs.Faults.{HasCause};
 ghost use Rattle.ufs_base.specs.Images.{Image};
 ghost use Rattle.ufs_base.specs.declared.sizes.TheConstants.{BLOCK};
 ghost use Rattle.ufs_bitmap.specs.Taking.{set_of};
+ghost use Rattle.ufs_base.specs.declared.lack.Lack.{Lack};
+ghost use Rattle.ufs_base.specs.declared.lack.Lack.TheVariants.{AtEnd};
 ghost use Rattle.ufs_disk.specs.Disk.{IsImage, IsWhole};
 ghost use Rattle.ufs_disk.specs.Moments.{LeavesOnly, reads};
 ghost use Rattle.ufs_ilog.specs.Deltas.{IsDelta};
@@ -17,6 +19,7 @@ ghost use Rattle.ufs_layout.specs.declared.records.LogRecord.{LogRecord};
 ghost use Rattle.ufs_ledger.specs.Changes.{settled, tried, written};
 ghost use Rattle.ufs_ledger.specs.Laws.{MayWrite};
 ghost use Rattle.ufs_ledger.specs.Ledger.{IsDataBlock, IsLedgerOf, IsLeftBy, Ledger, is_held};
+ghost use Rattle.ufs_store.specs.Ends.{IsLackOf};
 ghost use Rattle.ufs_store.specs.Blocks.{AreApart, AreInside, MayReturn, MovesLowest};
 ghost use Rattle.ufs_store.specs.Ledgers.{AnyOf, HasAny, HasLedger, IsLeftByAny, MayCommitNext, after_commit, beginning_next, checkpointed, stages};
 ghost use Rattle.ufs_store.specs.Refusals.{IsTold, answer_of, fault_in, is_no_space, is_of_disk, stop_after};
@@ -95,6 +98,8 @@ pub trait Door {
         ensures still { (fault : ℕ) → (store self.old).stop ≡ Some fault → store self.new ≡ store self.old }
         ensures cause { IsTold (store self.old).faults (store self.new).faults (fault_in result) }
         ensures stop { (store self.new).stop ≡ stop_after (store self.old).stop (fault_in result) }
+        ensures marked { OnOk result ((store self.new).unsettled ≡ true) }
+        ensures unmarked { OnErr result ((store self.new).unsettled ≡ (store self.old).unsettled) }
         ensures refused { IfErr result (λ fault. IsTrue (is_of_disk fault)) };
 
     /// Waits until all that was written is on the disk for good. Where no block was written since the last
@@ -111,6 +116,8 @@ pub trait Door {
         ensures still { (fault : ℕ) → (store self.old).stop ≡ Some fault → store self.new ≡ store self.old }
         ensures cause { IsTold (store self.old).faults (store self.new).faults (fault_in result) }
         ensures stop { (store self.new).stop ≡ stop_after (store self.old).stop (fault_in result) }
+        ensures settled { OnOk result ((store self.new).unsettled ≡ false) }
+        ensures unsettled { OnErr result ((store self.new).unsettled ≡ (store self.old).unsettled) }
         ensures refused { IfErr result (λ fault. IsTrue (is_of_disk fault)) };
 
     /// Commits what the log has, as one transaction, once all that was written before is on the disk for
@@ -124,7 +131,9 @@ pub trait Door {
             → LeavesOnly keeps (IsLeftByAny (store self.old).sectors (stages (store self.old) log.old l)) (store self.old).moments (store self.new).moments }
         ensures ok { IsTrue visible → log.old ≢ [] → OnOk result ((l : Ledger) → HasLedger (store self.old) l → MayCommitNext (store self.old) log.old l → HasLedger (store self.new) (after_commit (store self.old) log.old l)) }
         ensures device { IsTrue visible → (fault : ℕ) → result ≡ Err (refusal.Device fault) → (l : Ledger) → HasLedger (store self.old) l → MayCommitNext (store self.old) log.old l → HasAny (store self.new) (stages (store self.old) log.old l) }
-        ensures memory { IsTrue visible → result ≡ Err refusal.Memory → (l : Ledger) → HasLedger (store self.old) l → HasLedger (store self.new) l ⊎ HasLedger (store self.new) (checkpointed (store self.old) l) }
+        ensures memory { IsTrue visible → (w : Lack) → result ≡ Err (refusal.Lack w) → (l : Ledger) → HasLedger (store self.old) l → HasLedger (store self.new) l ⊎ HasLedger (store self.new) (checkpointed (store self.old) l) }
+        ensures lack { (w : Lack) → result ≡ Err (refusal.Lack w) → IsLackOf (store self.old) w }
+        ensures at_end { log.old ≢ [] → (store self.old).stop ≡ None → (store self.old).journal.number ≡ 2 ^ 64 - 1 → result ≡ Err (refusal.Lack AtEnd) }
         ensures nothing { log.old ≡ [] → store self.new ≡ store self.old }
         ensures done { log.old ≡ [] → (store self.old).stop ≡ None → result ≡ Ok (last_commit (store self.old)) }
         ensures number { IfOk result (λ number. number ≡ last_commit (store self.new)) }
@@ -138,6 +147,8 @@ pub trait Door {
         ensures still { (fault : ℕ) → (store self.old).stop ≡ Some fault → store self.new ≡ store self.old }
         ensures cause { IsTold (store self.old).faults (store self.new).faults (fault_in result) }
         ensures stop { (store self.new).stop ≡ stop_after (store self.old).stop (fault_in result) }
+        ensures settled { log.old ≢ [] → OnOk result ((store self.new).unsettled ≡ false) }
+        ensures unset { (store self.old).unsettled ≡ false → (store self.new).unsettled ≡ false }
         ensures refused { IfErr result (λ fault. is_no_space fault ≡ false) };
 
     /// Commits what changed of a file, whose written blocks are then on the disk for good, and takes the
@@ -154,7 +165,8 @@ pub trait Door {
             → OnOk result ((l : Ledger) → HasLedger (store self.old) l → MayCommitNext (store self.old) records l → HasLedger (store self.new) (after_commit (store self.old) records l)) }
         ensures device { IsTrue visible → (records : List LogRecord) → IsDelta log.old.inode log.old.committed log.old.noted records → log.old.noted ≢ log.old.committed
             → (fault : ℕ) → answer_of result ≡ Err (refusal.Device fault) → (l : Ledger) → HasLedger (store self.old) l → MayCommitNext (store self.old) records l → HasAny (store self.new) (stages (store self.old) records l) }
-        ensures memory { IsTrue visible → answer_of result ≡ Err refusal.Memory → (l : Ledger) → HasLedger (store self.old) l → HasLedger (store self.new) l ⊎ HasLedger (store self.new) (checkpointed (store self.old) l) }
+        ensures memory { IsTrue visible → (w : Lack) → answer_of result ≡ Err (refusal.Lack w) → (l : Ledger) → HasLedger (store self.old) l → HasLedger (store self.new) l ⊎ HasLedger (store self.new) (checkpointed (store self.old) l) }
+        ensures lack { (w : Lack) → answer_of result ≡ Err (refusal.Lack w) → IsLackOf (store self.old) w }
 
         // With nothing to commit.
         ensures empty_crash { IsTrue visible → log.old.noted ≡ log.old.committed → (l : Ledger) → HasLedger (store self.old) l
@@ -177,6 +189,10 @@ pub trait Door {
         ensures still { (fault : ℕ) → (store self.old).stop ≡ Some fault → store self.new ≡ store self.old }
         ensures cause { IsTold (store self.old).faults (store self.new).faults (fault_in (answer_of result)) }
         ensures stop { (store self.new).stop ≡ stop_after (store self.old).stop (fault_in (answer_of result)) }
+        ensures settled { OnOk result ((store self.new).unsettled ≡ false) }
+        ensures unset { (store self.old).unsettled ≡ false → (store self.new).unsettled ≡ false }
+        ensures idle { log.old.noted ≡ log.old.committed → (store self.old).unsettled ≡ false
+            → store self.new ≡ record (store self.old) { unassigned = (store self.new).unassigned } }
         ensures refused { IfErr result (λ refused. is_no_space refused.fault ≡ false) };
 
     /// The pool gets the lowest unassigned blocks: those that are missing and 64 more, or all that there
@@ -187,6 +203,7 @@ pub trait Door {
         ensures rest { store self.new ≡ record (store self.old) { unassigned = record ((store self.old).unassigned) { free = (store self.new).unassigned.free } } }
         ensures no_space { (set.len (store self.old).unassigned.free < missing) ↔ (result ≡ Err (refusal.NoSpace missing (set.len (store self.old).unassigned.free))) }
         ensures refused { IfErr result (λ fault. IsTrue (is_no_space fault)) }
+        ensures told { IfErr result (λ fault. fault ≡ refusal.NoSpace missing (set.len (store self.old).unassigned.free)) }
         ensures kept { OnErr result ((store self.new ≡ store self.old) × (pool.new ≡ pool.old)) };
 
     /// Every block of the pool is unassigned again. Makes no call of the disk and takes no memory.
@@ -204,7 +221,9 @@ pub trait Door {
         ensures ok { IsTrue visible → OnOk result ((l : Ledger) → HasLedger (store self.old) l → HasLedger (store self.new) (checkpointed (store self.old) l)) }
         ensures device { IsTrue visible → (fault : ℕ) → result ≡ Err (refusal.Device fault) → (l : Ledger) → HasLedger (store self.old) l → HasAny (store self.new) (l ∷ beginning_next (store self.old) l ∷ []) }
         ensures room { OnOk result ((store self.new).journal.used ≡ 0) }
-        ensures memory { result ≡ Err refusal.Memory → store self.new ≡ store self.old }
+        ensures memory { (w : Lack) → result ≡ Err (refusal.Lack w) → store self.new ≡ store self.old }
+        ensures lack { (w : Lack) → result ≡ Err (refusal.Lack w) → IsLackOf (store self.old) w }
+        ensures at_end { (store self.old).stop ≡ None → (store self.old).superblock.epoch ≡ 2 ^ 64 - 1 → result ≡ Err (refusal.Lack AtEnd) }
         ensures number { last_commit (store self.new) ≡ last_commit (store self.old) }
         ensures blocks { (store self.new).unassigned ≡ (store self.old).unassigned }
         ensures geometry { geometry_of_store (store self.new) ≡ geometry_of_store (store self.old) }
@@ -213,6 +232,8 @@ pub trait Door {
         ensures still { (fault : ℕ) → (store self.old).stop ≡ Some fault → store self.new ≡ store self.old }
         ensures cause { IsTold (store self.old).faults (store self.new).faults (fault_in result) }
         ensures stop { (store self.new).stop ≡ stop_after (store self.old).stop (fault_in result) }
+        ensures settled { OnOk result ((store self.new).unsettled ≡ false) }
+        ensures unsettled { OnErr result ((store self.new).unsettled ≡ (store self.old).unsettled) }
         ensures refused { IfErr result (λ fault. is_no_space fault ≡ false) };
 
     /// Whatever a crash leaves in a sector is 512 bytes.

@@ -1,5 +1,5 @@
 // Why a store refuses, and what it gives back.
-use ufs_base::Memory;
+use ufs_base::{Lack, Memory};
 use ufs_disk::Disk;
 use ufs_extent::Runs;
 
@@ -12,18 +12,30 @@ pub enum StoreFault {
     Stopped { fault: u64 },
     /// So many blocks are missing, and fewer are unassigned.
     NoSpace { need: u32, had: u32 },
-    /// Memory ran out.
-    Memory,
+    /// No memory, or no next number.
+    Lack(Lack),
+}
+
+impl From<Lack> for StoreFault {
+    ghost use Rattle.std.specs.Prelude.{◌≡◌};
+    ghost use Rattle.ufs_store.specs.declared.fault.StoreFault.TheVariants as refusal;
+
+    ghost from_gives = { λ l e. e ≡ refusal.Lack l };
+
+    fn from(lack: Lack) -> Self {
+        StoreFault::Lack(lack)
+    }
 }
 
 impl From<Memory> for StoreFault {
     ghost use Rattle.std.specs.Prelude.{◌≡◌};
+    ghost use Rattle.ufs_base.specs.declared.lack.Lack.TheVariants as lack;
     ghost use Rattle.ufs_store.specs.declared.fault.StoreFault.TheVariants as refusal;
 
-    ghost from_gives = { λ _ e. e ≡ refusal.Memory };
+    ghost from_gives = { λ m e. e ≡ refusal.Lack (lack.Memory m) };
 
-    fn from(_: Memory) -> Self {
-        StoreFault::Memory
+    fn from(memory: Memory) -> Self {
+        StoreFault::Lack(Lack::Memory(memory))
     }
 }
 

@@ -1,4 +1,5 @@
-ghost use Rattle.std.specs.Prelude.{ℕ, List, ◌≡◌, ◌≢◌, ◌≤◌, ◌<◌, ◌+◌, ◌-◌, ◌⊎◌, ◌↔◌, IsTrue, true, false, None, Some, Ok, Err, OnOk, OnErr, IfErr, IfOk};
+ghost use Rattle.std.specs.Prelude.{ℕ, List, ◌≡◌, ◌≢◌, ◌≤◌, ◌<◌, ◌+◌, ◌-◌, ◌⊎◌, ◌↔◌, IsTrue, true, false, None, Some, Ok, Err, OnOk, OnErr, IfErr, IfOk, ◌^◌};
+ghost use Rattle.ufs_base.specs.declared.lack.Lack.{Lack};
 ghost use Rattle.ufs_disk.specs.Disk.{IsImage};
 ghost use Rattle.ufs_disk.specs.Moments.{LeavesOnly, reads};
 ghost use Rattle.ufs_ilog.specs.Deltas.{IsDelta};
@@ -7,6 +8,7 @@ ghost use Rattle.ufs_layout.specs.Superblock.{geometry_of, is_super};
 ghost use Rattle.ufs_layout.specs.declared.records.LogRecord.{LogRecord};
 ghost use Rattle.ufs_ledger.specs.Changes.{opening_ledger, settled};
 ghost use Rattle.ufs_ledger.specs.Ledger.{IsLedgerOf, IsLeftBy, Ledger};
+ghost use Rattle.ufs_store.specs.Ends.{IsLackOf};
 ghost use Rattle.ufs_store.specs.Ledgers.{HasAny, HasLedger, IsLeftByAny, MayCommitNext, after_commit, checkpointed, stages};
 ghost use Rattle.ufs_store.specs.Mounting.{IsMountable, in_use, marking};
 ghost use Rattle.ufs_store.specs.Refusals.{IsTold, fault_in, fault_of, is_no_space, is_own, stop_after};
@@ -21,6 +23,7 @@ use crate::superblocks::mark_in_use;
 use crate::tables::{Tables, stop_at};
 use crate::{Door, StoreFault, Uncommitted, Unmounted};
 use std::alloc::Global;
+use ufs_base::Lack;
 use ufs_bitmap::{Bitmap, Pool};
 use ufs_disk::Disk;
 use ufs_extent::Runs;
@@ -56,10 +59,11 @@ impl<D: Disk> Store<D> {
         ensures crash { IsTrue D.visible → IsMountable (D.size disk) (D.moments disk).state superblock
             → IfOk result (λ s. LeavesOnly D.keeps (IsLeftBy (D.size disk) (marking superblock (reads (D.moments disk)))) (D.moments disk) (⟦<Store<D> as Door>⟧.store s).moments) }
         ensures err_crash { IsTrue D.visible → IsMountable (D.size disk) (D.moments disk).state superblock
-            → IfErr result (λ u. u.fault ≢ refusal.Memory → LeavesOnly D.keeps (IsLeftBy (D.size disk) (marking superblock (reads (D.moments disk)))) (D.moments disk) (D.moments u.disk)) }
+            → IfErr result (λ u. ((w : Lack) → u.fault ≢ refusal.Lack w) → LeavesOnly D.keeps (IsLeftBy (D.size disk) (marking superblock (reads (D.moments disk)))) (D.moments disk) (D.moments u.disk)) }
         ensures ok { IsTrue D.visible → IsMountable (D.size disk) (D.moments disk).state superblock
             → IfOk result (λ s. HasLedger (⟦<Store<D> as Door>⟧.store s) (opening_ledger (in_use superblock) (reads (D.moments disk)))) }
         ensures going { IfOk result (λ s. (⟦<Store<D> as Door>⟧.store s).stop ≡ None) }
+        ensures settled { IfOk result (λ s. (⟦<Store<D> as Door>⟧.store s).unsettled ≡ false) }
         ensures unassigned { IfOk result (λ s. (⟦<Store<D> as Door>⟧.store s).unassigned ≡ free) }
         ensures geometry { IfOk result (λ s. geometry_of_store (⟦<Store<D> as Door>⟧.store s) ≡ geometry_of superblock) }
         ensures number { IfOk result (λ s. (⟦<Store<D> as Door>⟧.store s).journal.number ≡ superblock.next) }
@@ -69,17 +73,20 @@ impl<D: Disk> Store<D> {
         ensures passed { IfOk result (λ s. (⟦<Store<D> as Door>⟧.store s).faults ≡ D.faults disk) }
         ensures cause { IfErr result (λ u. IsTold (D.faults disk) (D.faults u.disk) (fault_of u.fault)) }
         ensures refused { IfErr result (λ u. IsTrue (is_own u.fault)) }
-        ensures memory { IfErr result (λ u. u.fault ≡ refusal.Memory → u.disk ≡ disk) }
+        ensures memory { IfErr result (λ u. (w : Lack) → u.fault ≡ refusal.Lack w → u.disk ≡ disk) }
     {
         let superblock = Super {
             clean: false,
             ..superblock
         };
-        let Ok(tables) = Tables::make(alloc, &superblock, free) else {
-            return Err(Unmounted {
-                disk,
-                fault: StoreFault::Memory,
-            });
+        let tables = match Tables::make(alloc, &superblock, free) {
+            Ok(tables) => tables,
+            Err(memory) => {
+                return Err(Unmounted {
+                    disk,
+                    fault: StoreFault::Lack(Lack::Memory(memory)),
+                });
+            }
         };
         match mark_in_use(&mut disk, &tables.journal.geometry, &superblock) {
             Ok(()) => Ok(Store { disk, tables }),
@@ -128,6 +135,8 @@ fn pass_barrier<D: Disk>(tables: &mut Tables, disk: &mut D) -> Result<(), StoreF
     ensures size { D.size disk.new ≡ D.size disk.old }
     ensures cause { IsTold (D.faults disk.old) (D.faults disk.new) (fault_in result) }
     ensures stop { tables.new.stop ≡ fault_in result }
+    ensures settled { OnOk result (tables.new.unsettled ≡ false) }
+    ensures unsettled { OnErr result (tables.new.unsettled ≡ tables.old.unsettled) }
     ensures refused { IfErr result (λ fault. fault ≡ refusal.Device (D.faults disk.new)) }
 {
     if !tables.unsettled {
@@ -156,7 +165,9 @@ fn commit_delta<D: Disk>(
         → OnOk result ((l : Ledger) → HasLedger (state_of (D.size disk.old) (D.moments disk.old) (D.faults disk.old) tables.old) l → MayCommitNext (state_of (D.size disk.old) (D.moments disk.old) (D.faults disk.old) tables.old) records l → HasLedger (state_of (D.size disk.new) (D.moments disk.new) (D.faults disk.new) tables.new) (after_commit (state_of (D.size disk.old) (D.moments disk.old) (D.faults disk.old) tables.old) records l)) }
     ensures device { IsTrue D.visible → (records : List LogRecord) → IsDelta log.old.inode log.old.committed log.old.noted records → log.old.noted ≢ log.old.committed
         → (fault : ℕ) → result ≡ Err (refusal.Device fault) → (l : Ledger) → HasLedger (state_of (D.size disk.old) (D.moments disk.old) (D.faults disk.old) tables.old) l → MayCommitNext (state_of (D.size disk.old) (D.moments disk.old) (D.faults disk.old) tables.old) records l → HasAny (state_of (D.size disk.new) (D.moments disk.new) (D.faults disk.new) tables.new) (stages (state_of (D.size disk.old) (D.moments disk.old) (D.faults disk.old) tables.old) records l) }
-    ensures memory { IsTrue D.visible → result ≡ Err refusal.Memory → (l : Ledger) → HasLedger (state_of (D.size disk.old) (D.moments disk.old) (D.faults disk.old) tables.old) l → HasLedger (state_of (D.size disk.new) (D.moments disk.new) (D.faults disk.new) tables.new) l ⊎ HasLedger (state_of (D.size disk.new) (D.moments disk.new) (D.faults disk.new) tables.new) (checkpointed (state_of (D.size disk.old) (D.moments disk.old) (D.faults disk.old) tables.old) l) }
+    ensures memory { IsTrue D.visible → (w : Lack) → result ≡ Err (refusal.Lack w) → (l : Ledger) → HasLedger (state_of (D.size disk.old) (D.moments disk.old) (D.faults disk.old) tables.old) l → HasLedger (state_of (D.size disk.new) (D.moments disk.new) (D.faults disk.new) tables.new) l ⊎ HasLedger (state_of (D.size disk.new) (D.moments disk.new) (D.faults disk.new) tables.new) (checkpointed (state_of (D.size disk.old) (D.moments disk.old) (D.faults disk.old) tables.old) l) }
+    ensures lack { (w : Lack) → result ≡ Err (refusal.Lack w) → IsLackOf (state_of (D.size disk.old) (D.moments disk.old) (D.faults disk.old) tables.old) w }
+    ensures at_end { log.old.noted ≢ log.old.committed → tables.old.stop ≡ None → tables.old.journal.number ≡ 2 ^ 64 - 1 → IfErr result (λ fault. (w : Lack) × (fault ≡ refusal.Lack w)) }
     ensures empty_crash { IsTrue D.visible → log.old.noted ≡ log.old.committed → (l : Ledger) → HasLedger (state_of (D.size disk.old) (D.moments disk.old) (D.faults disk.old) tables.old) l → LeavesOnly D.keeps (IsLeftBy (D.size disk.old) l) (D.moments disk.old) (D.moments disk.new) }
     ensures empty_images { IsTrue D.visible → log.old.noted ≡ log.old.committed → LeavesOnly D.keeps (IsImage (D.moments disk.old).state) (D.moments disk.old) (D.moments disk.new) }
     ensures empty_ok { IsTrue D.visible → log.old.noted ≡ log.old.committed → OnOk result ((l : Ledger) → HasLedger (state_of (D.size disk.old) (D.moments disk.old) (D.faults disk.old) tables.old) l → HasLedger (state_of (D.size disk.new) (D.moments disk.new) (D.faults disk.new) tables.new) (settled l)) }
@@ -174,6 +185,9 @@ fn commit_delta<D: Disk>(
     ensures still { (fault : ℕ) → tables.old.stop ≡ Some fault → (state_of (D.size disk.new) (D.moments disk.new) (D.faults disk.new) tables.new) ≡ (state_of (D.size disk.old) (D.moments disk.old) (D.faults disk.old) tables.old) }
     ensures cause { IsTold (D.faults disk.old) (D.faults disk.new) (fault_in result) }
     ensures stop { tables.new.stop ≡ stop_after tables.old.stop (fault_in result) }
+    ensures settled { OnOk result (tables.new.unsettled ≡ false) }
+    ensures unset { tables.old.unsettled ≡ false → tables.new.unsettled ≡ false }
+    ensures idle { log.old.noted ≡ log.old.committed → tables.old.unsettled ≡ false → state_of (D.size disk.new) (D.moments disk.new) (D.faults disk.new) tables.new ≡ state_of (D.size disk.old) (D.moments disk.old) (D.faults disk.old) tables.old }
     ensures refused { IfErr result (λ fault. is_no_space fault ≡ false) }
 {
     check_stop(tables)?;

@@ -1,5 +1,5 @@
 // What a store keeps in memory beside its disk.
-ghost use Rattle.std.specs.Prelude.{◌≡◌, ◌+◌, ◌≤◌, ◌^◌, ℕ, [], IfSome, IfOk, IsTrue, IsNone, false, true, None, Some};
+ghost use Rattle.std.specs.Prelude.{◌≡◌, ◌+◌, ◌-◌, ◌≤◌, ◌<◌, ◌^◌, ℕ, [], IfSome, IfNone, OnSome, IfOk, IsTrue, IsNone, false, true, None, Some};
 ghost use Rattle.ufs_layout.specs.Areas.{IsGeometry, first_of_data};
 ghost use Rattle.ufs_layout.specs.Superblock.{geometry_of, is_super};
 ghost use Rattle.ufs_overlay.specs.Seen as overlaid;
@@ -79,7 +79,9 @@ impl Tables {
 
     /// The superblock of the next epoch; `None` where epochs are used up.
     pub fn next_superblock(&self) -> Option<Super>
-        ensures { IfSome result (λ superblock. superblock ≡ record (self.now.superblock) { epoch = self.now.superblock.epoch + 1; next = self.now.journal.number; clean = false }) }
+        ensures none { IfNone result (self.now.superblock.epoch ≡ 2 ^ 64 - 1) }
+        ensures some { OnSome result (self.now.superblock.epoch < 2 ^ 64 - 1) }
+        ensures superblock { IfSome result (λ superblock. superblock ≡ record (self.now.superblock) { epoch = self.now.superblock.epoch + 1; next = self.now.journal.number; clean = false }) }
     {
         let epoch = self.superblock.epoch.checked_add(1)?;
         Some(Super {

@@ -9,7 +9,7 @@ ghost use Rattle.ufs_store.specs.State.{geometry_of_store};
 ghost use Rattle.ufs_store_tests.specs.Small.{small};
 
 use std::alloc::Global;
-use ufs_base::Memory;
+use ufs_base::{Lack, Memory};
 use ufs_bitmap::{Bitmap, Pool};
 use ufs_disk::{Disk, MemoryDisk};
 use ufs_extent::{Extents, Runs};
@@ -83,7 +83,7 @@ fn birth(alloc: Global) -> Result<Records, Memory>
 }
 
 /// A log with that birth.
-pub fn log_of_birth(alloc: Global) -> Result<NamesLog, Memory>
+pub fn log_of_birth(alloc: Global) -> Result<NamesLog, Lack>
     ensures { IfOk result (λ log. IsTrue (list_all (is_in_range small) log)) }
 {
     let mut log = NamesLog::new(alloc);

@@ -1,6 +1,7 @@
 -- A call that writes stops a store that went on just where the disk failed.
 use Rattle.std.proofs.Common.{◌≡◌, ℕ, ◌↔◌, false, None, Some, Option, sym, refl, ◌∙◌, ap, subst}
 use Rattle.std.specs.Prelude.{Result, Ok, Err, IfErr, OnErr, OnOk, IsSome, IsTrue}
+use Rattle.ufs_base.specs.declared.lack.Lack.{Lack}
 use Rattle.ufs_store.specs.Refusals.{IsTold, fault_in, is_no_space, is_of_disk, is_own, stop_after}
 use Rattle.ufs_store.specs.State.{StoreState}
 use Rattle.ufs_store.specs.declared.fault.StoreFault.{StoreFault}
@@ -17,7 +18,7 @@ module _ {T : Type 0} (before after : Option ℕ) (none : before ≡ None) where
   device_alone (Err (refusal.Device n)) of stopped = (n, refl)
   device_alone (Err (refusal.Stopped n)) of stopped = (let clash = sym none ∙ (stopped n).0 refl in absurd cc)
   device_alone (Err (refusal.NoSpace need had)) of stopped = (let no = of in absurd cc)
-  device_alone (Err refusal.Memory) of stopped = (let no = of in absurd cc)
+  device_alone (Err (refusal.Lack _)) of stopped = (let no = of in absurd cc)
 
   -- and the store has stopped then
   pub has_stopped : (r : Result T StoreFault) → after ≡ fault_in r → IfErr r (λ fault. (number : ℕ) × (fault ≡ refusal.Device number)) → OnErr r (IsSome after)
@@ -25,7 +26,7 @@ module _ {T : Type 0} (before after : Option ℕ) (none : before ≡ None) where
   has_stopped (Err (refusal.Device n)) is device = subst IsSome (sym is) refl
   has_stopped (Err (refusal.Stopped n)) is device = (let clash = device.1 in absurd cc)
   has_stopped (Err (refusal.NoSpace need had)) is device = (let clash = device.1 in absurd cc)
-  has_stopped (Err refusal.Memory) is device = (let clash = device.1 in absurd cc)
+  has_stopped (Err (refusal.Lack _)) is device = (let clash = device.1 in absurd cc)
 
 -- what each clause at an error gives
 pub on_err_cases : {T E : Type 0} (r : Result T E) (P : Type 0) → (((S : Type 0) → OnErr r S → S) → P) → OnErr r P
@@ -41,16 +42,16 @@ passed_ok (Ok x) old new none rest told stop =
 passed_ok (Err e) old new none rest told stop = tt
 
 -- a commit is refused for want of memory, or the disk failed
-pub commit_fails : {A : Type 0} (x : StoreFault) → is_no_space x ≡ false → ((fault : ℕ) → x ≡ refusal.Stopped fault → ⊥) → ((fault : ℕ) → x ≡ refusal.Device fault → A) → (x ≡ refusal.Memory → A) → A
+pub commit_fails : {A : Type 0} (x : StoreFault) → is_no_space x ≡ false → ((fault : ℕ) → x ≡ refusal.Stopped fault → ⊥) → ((fault : ℕ) → x ≡ refusal.Device fault → A) → ((w : Lack) → x ≡ refusal.Lack w → A) → A
 commit_fails (refusal.Device n) space stopped device memory = device n refl
 commit_fails (refusal.Stopped n) space stopped device memory = absurd (stopped n refl)
 commit_fails (refusal.NoSpace need had) space stopped device memory = absurd cc
-commit_fails refusal.Memory space stopped device memory = memory refl
+commit_fails (refusal.Lack w) space stopped device memory = memory w refl
 
 -- so with a commit's answer
-pub commit_err : {T A : Type 0} (r : Result T StoreFault) → IfErr r (λ fault. is_no_space fault ≡ false) → ((fault : ℕ) → r ≡ Err (refusal.Stopped fault) → ⊥) → ((fault : ℕ) → r ≡ Err (refusal.Device fault) → A) → (r ≡ Err refusal.Memory → A) → OnErr r A
+pub commit_err : {T A : Type 0} (r : Result T StoreFault) → IfErr r (λ fault. is_no_space fault ≡ false) → ((fault : ℕ) → r ≡ Err (refusal.Stopped fault) → ⊥) → ((fault : ℕ) → r ≡ Err (refusal.Device fault) → A) → ((w : Lack) → r ≡ Err (refusal.Lack w) → A) → OnErr r A
 commit_err (Ok x) space stopped device memory = tt
-commit_err (Err x) space stopped device memory = commit_fails x space (λ fault e. stopped fault (ap Err e)) (λ fault e. device fault (ap Err e)) (λ e. memory (ap Err e))
+commit_err (Err x) space stopped device memory = commit_fails x space (λ fault e. stopped fault (ap Err e)) (λ fault e. device fault (ap Err e)) (λ w e. memory w (ap Err e))
 
 pub from_err : {T E A : Type 0} (r : Result T E) (e : E) → r ≡ Err e → OnErr r A → A
 from_err r e is on = of r is on
@@ -63,4 +64,4 @@ pub own_alone : (x : StoreFault) → is_no_space x ≡ false → ((fault : ℕ) 
 own_alone (refusal.Device n) space stopped = refl
 own_alone (refusal.Stopped n) space stopped = absurd (stopped n refl)
 own_alone (refusal.NoSpace need had) space stopped = absurd cc
-own_alone refusal.Memory space stopped = refl
+own_alone (refusal.Lack _) space stopped = refl

@@ -16,6 +16,7 @@ ghost use Rattle.ufs_stored.specs.Stamping.{ExplainsAllowed};
 use crate::fitting::fits;
 use crate::laws::names_law;
 use crate::zeros::make_ready;
+use ufs_base::Lack;
 use ufs_ilog::{NameNotes, NamesLog};
 use ufs_store::{Door, StoreFault};
 use ufs_stored::always_law;
@@ -47,7 +48,7 @@ fn commit_log<D: Door>(door: &mut D, log: &mut NamesLog, fresh: &[u32]) -> Resul
         return Ok(());
     }
     if !fits(&geometry, log) {
-        return Err(StoreFault::Memory);
+        return Err(StoreFault::Lack(Lack::AtEnd));
     }
     make_ready(door, fresh)?;
     door.commit_names(log)?;
@@ -74,7 +75,7 @@ pub fn commit_notes<D: Door>(
         → IsGoing (D.store door.old) start history p → IsExplainedBetween D.keeps (D.store door.old).sectors start history (D.store door.old).moments (D.store door.new).moments }
     ensures emptied { OnOk result (notes.new ≡ Some []) }
     ensures kept { OnErr result (notes.new ≡ notes.old) }
-    ensures off { notes.old ≡ None → result ≡ Err refusal.Memory }
+    ensures off { notes.old ≡ None → (w : Lack) × (result ≡ Err (refusal.Lack w)) }
     ensures unassigned { (D.store door.new).unassigned ≡ (D.store door.old).unassigned }
     ensures geometry { geometry_of_store (D.store door.new) ≡ geometry_of_store (D.store door.old) }
     ensures sectors { (D.store door.new).sectors ≡ (D.store door.old).sectors }
@@ -86,6 +87,6 @@ pub fn commit_notes<D: Door>(
     always_law(&geometry);
     match notes.log() {
         Some(log) => commit_log(door, log, fresh),
-        None => Err(StoreFault::Memory),
+        None => Err(StoreFault::Lack(notes.lack())),
     }
 }

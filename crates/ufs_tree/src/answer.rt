@@ -1,7 +1,8 @@
 // The reply to a request that isn't refused.
+use crate::texts::text;
 use crate::tree::Parts;
-use ufs_base::Memory;
-use ufs_calls::{part, seek_to, text};
+use ufs_base::Lack;
+use ufs_calls::{part, seek_to};
 use ufs_model::{Bytes, Node, Op, Reply, Whence};
 
 impl Parts {
@@ -18,7 +19,7 @@ impl Parts {
     ghost use Rattle.ufs_model.specs.Directories.{entry_names};
     ghost use Rattle.ufs_tree.specs.Parts.{tree_of};
 
-    fn read(&self, client: u8, fd: u64, n: u32) -> Result<Reply, Memory>
+    fn read(&self, client: u8, fd: u64, n: u32) -> Result<Reply, Lack>
         ensures { IfOk result (λ reply. reply ≡ Got (posix.bytes_read (tree_of self.now) client fd n)) }
     {
         let desc = self.opened(client, fd);
@@ -26,7 +27,7 @@ impl Parts {
         Ok(Reply::Got(Bytes::from_vec(got)))
     }
 
-    fn read_at(&self, client: u8, fd: u64, n: u32, at: u64) -> Result<Reply, Memory>
+    fn read_at(&self, client: u8, fd: u64, n: u32, at: u64) -> Result<Reply, Lack>
         ensures { IfOk result (λ reply. reply ≡ Got (file_bytes.part (posix.file_bytes (tree_of self.now) client fd) at n)) }
     {
         let desc = self.opened(client, fd);
@@ -47,7 +48,7 @@ impl Parts {
     }
 
     // A file's size, or the number of a directory's entries. A number of 2^32 or more can't be told.
-    fn stat(&self, path: &Bytes) -> Result<Reply, Memory>
+    fn stat(&self, path: &Bytes) -> Result<Reply, Lack>
         ensures { IfOk result (λ reply. reply ≡ posix.stat_reply (tree_of self.now) (whole_of path.now) (node_at self.now.paths path.now)) }
     {
         let text = text(self.alloc, path)?;
@@ -58,12 +59,12 @@ impl Parts {
             }),
             Some(Node::Dir) => match u32::try_from(self.paths.entry_count(text.whole())) {
                 Ok(entries) => Ok(Reply::IsDir { entries }),
-                Err(_) => Err(Memory),
+                Err(_) => Err(Lack::AtEnd),
             },
         }
     }
 
-    fn list(&self, path: &Bytes) -> Result<Reply, Memory>
+    fn list(&self, path: &Bytes) -> Result<Reply, Lack>
         requires tree { IsTree (tree_of self.now) }
         requires allowed { text_refusal path.now ≡ None }
         ensures { IfOk result (λ reply. reply ≡ Names (entry_names self.now.paths (whole_of path.now))) }
@@ -73,7 +74,7 @@ impl Parts {
     }
 
     /// The reply to a request that isn't refused.
-    pub(crate) fn answer(&self, client: u8, op: &Op) -> Result<Reply, Memory>
+    pub(crate) fn answer(&self, client: u8, op: &Op) -> Result<Reply, Lack>
         requires bounded { IsBounded op.now }
         requires tree { IsTree (tree_of self.now) }
         requires allowed { refusal (tree_of self.now) client op.now ≡ None }

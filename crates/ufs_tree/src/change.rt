@@ -1,7 +1,8 @@
 // What a request that isn't refused changes. Each step that may fail comes before the first that can't be undone.
+use crate::texts::text;
 use crate::tree::Parts;
-use ufs_base::Memory;
-use ufs_calls::{Mode, count_from, file_named, file_of, place_of, text};
+use ufs_base::Lack;
+use ufs_calls::{Mode, count_from, file_named, file_of, place_of};
 use ufs_model::{Bytes, Node, Op, two_names_lie_apart};
 
 impl Parts {
@@ -33,7 +34,7 @@ impl Parts {
     }
 
     // A new file with no bytes.
-    fn add_file(&mut self, path: Vec<u8>) -> Result<(), Memory>
+    fn add_file(&mut self, path: Vec<u8>) -> Result<(), Lack>
         requires whole { IsWhole path.items }
         requires absent { map.get self.old.paths path.items ≡ None }
         requires numbers { self.old.next < 2 ^ 31 }
@@ -43,20 +44,17 @@ impl Parts {
         let copy = path.as_slice().to_vec(self.alloc)?;
         let file = self.next;
         self.paths.add(self.alloc, path, Node::File(file))?;
-        if self
-            .bytes
-            .insert(file, Bytes::from_vec(Vec::new(self.alloc)))
-            .is_err()
-        {
+        let empty = Bytes::from_vec(Vec::new(self.alloc));
+        if let Err(refused) = self.bytes.insert(file, empty) {
             self.paths.remove(copy.as_slice());
-            return Err(Memory);
+            return Err(Lack::from(refused));
         }
         self.next = file + 1;
         Ok(())
     }
 
     // Makes the file that is missing, or empties the one that is there where `trunc` asks for it.
-    fn make_or_empty(&mut self, whole: &[u8], node: Option<Node>, trunc: bool) -> Result<(), Memory>
+    fn make_or_empty(&mut self, whole: &[u8], node: Option<Node>, trunc: bool) -> Result<(), Lack>
         requires whole { IsWhole whole.now }
         requires there { node ≡ map.get self.old.paths whole.now }
         requires numbers { self.old.next < 2 ^ 31 }
@@ -75,7 +73,7 @@ impl Parts {
     }
 
     // The descriptor is opened first, since that can be undone.
-    fn open(&mut self, client: u8, whole: &[u8], mode: Mode) -> Result<(), Memory>
+    fn open(&mut self, client: u8, whole: &[u8], mode: Mode) -> Result<(), Lack>
         requires whole { IsWhole whole.now }
         requires free { is_none (descriptors.lowest_free self.old.fds client) ≡ false }
         requires numbers { self.old.next < 2 ^ 31 }
@@ -89,9 +87,9 @@ impl Parts {
         let key = u64::from(fd);
         self.fds
             .open(client, key, mode.desc(file_named(node, self.next)))?;
-        if self.make_or_empty(whole, node, mode.trunc).is_err() {
+        if let Err(lack) = self.make_or_empty(whole, node, mode.trunc) {
             self.fds.close(client, key);
-            return Err(Memory);
+            return Err(lack);
         }
         Ok(())
     }
@@ -114,7 +112,7 @@ impl Parts {
     }
 
     // Writes bytes into a file from a place on; no byte changes nothing.
-    fn put(&mut self, file: Option<u32>, at: u64, fresh: &[u8]) -> Result<(), Memory>
+    fn put(&mut self, file: Option<u32>, at: u64, fresh: &[u8]) -> Result<(), Lack>
         requires size { length fresh.now ≤ 2 ^ 32 }
         requires place { is_past at fresh.now ≡ false }
         ensures ok { OnOk result (tree_of self.new ≡ posix.written (tree_of self.old) file at fresh.now) }
@@ -130,7 +128,7 @@ impl Parts {
         Ok(())
     }
 
-    fn write(&mut self, client: u8, fd: u64, fresh: &[u8]) -> Result<(), Memory>
+    fn write(&mut self, client: u8, fd: u64, fresh: &[u8]) -> Result<(), Lack>
         requires size { length fresh.now ≤ 2 ^ 32 }
         requires open { is_none (desc_at (tree_of self.old) client fd) ≡ false }
         requires place { is_past (place_of (descriptors.opened (tree_of self.old) client fd) (posix.file_bytes (tree_of self.old) client fd)) fresh.now ≡ false }
@@ -147,7 +145,7 @@ impl Parts {
         Ok(())
     }
 
-    fn resize(&mut self, file: Option<u32>, size: u64) -> Result<(), Memory>
+    fn resize(&mut self, file: Option<u32>, size: u64) -> Result<(), Lack>
         requires { size ≤ max_size }
         ensures ok { OnOk result (tree_of self.new ≡ posix.with_bytes (tree_of self.old) file (resized (content self.old.bytes file) size)) }
         ensures err { OnErr result (tree_of self.new ≡ tree_of self.old) }
@@ -158,7 +156,7 @@ impl Parts {
         Ok(())
     }
 
-    fn mkdir(&mut self, whole: &[u8]) -> Result<(), Memory>
+    fn mkdir(&mut self, whole: &[u8]) -> Result<(), Lack>
         requires whole { IsWhole whole.now }
         requires absent { map.get self.old.paths whole.now ≡ None }
         ensures ok { OnOk result (tree_of self.new ≡ with_dir (tree_of self.old) whole.now) }
@@ -178,7 +176,7 @@ impl Parts {
         self.forget(file);
     }
 
-    fn rename(&mut self, from: &[u8], to: &[u8]) -> Result<(), Memory>
+    fn rename(&mut self, from: &[u8], to: &[u8]) -> Result<(), Lack>
         requires tree { IsTree (tree_of self.old) }
         requires whole { IsWhole to.now }
         requires stands { stands self.old.paths from.now ≡ true }
@@ -199,7 +197,7 @@ impl Parts {
     }
 
     // What a request on a descriptor changes.
-    fn change_open(&mut self, client: u8, op: &Op) -> Result<(), Memory>
+    fn change_open(&mut self, client: u8, op: &Op) -> Result<(), Lack>
         requires bounded { IsBounded op.now }
         requires allowed { refusal (tree_of self.old) client op.now ≡ None }
         ensures ok { OnOk result (tree_of self.new ≡ change_open (tree_of self.old) client op.now) }
@@ -227,7 +225,7 @@ impl Parts {
     }
 
     /// What a request that isn't refused changes.
-    pub(crate) fn change(&mut self, client: u8, op: &Op) -> Result<(), Memory>
+    pub(crate) fn change(&mut self, client: u8, op: &Op) -> Result<(), Lack>
         requires bounded { IsBounded op.now }
         requires tree { IsTree (tree_of self.old) }
         requires numbers { self.old.next < 2 ^ 31 }

@@ -3,9 +3,10 @@ ghost use Rattle.std.specs.Prelude.{◌≡◌, ◌+◌, ◌-◌, ℕ, OnOk, OnEr
 ghost use Rattle.ufs_model.specs.PosixTree.{is_number};
 ghost use Rattle.ufs_tree.specs.Counted.{file_count};
 
-use std::alloc::{AllocError, Global};
+use std::alloc::Global;
 use std::collections::BTreeMap;
 use std::collections::btree_map::Comparable;
+use ufs_base::Lack;
 
 /// A count for each key that has one above 0.
 #[derive(Drop)]
@@ -47,14 +48,14 @@ impl<K: Ord + Drop> Counts<K> {
     }
 
     /// One more of the key.
-    pub fn raise(&mut self, key: K) -> Result<(), AllocError>
+    pub fn raise(&mut self, key: K) -> Result<(), Lack>
         ensures more { OnOk result (count_at (is_at (K.cmp key)) self.new ≡ count_at (is_at (K.cmp key)) self.old + 1) }
         ensures others { OnOk result (KeepsCounts (eq_by_cmp K.cmp) (is_at (K.cmp key)) self.old self.new) }
         ensures err { OnErr result ((test : K → Bool) → count_at test self.new ≡ count_at test self.old) }
     {
         let count = self.get(&key);
         let Some(more) = count.checked_add(1) else {
-            return Err(AllocError);
+            return Err(Lack::AtEnd);
         };
         self.entries.insert(key, more)?;
         Ok(())
@@ -75,7 +76,7 @@ impl<K: Ord + Drop> Counts<K> {
 }
 
 /// One more of the file, if there is one.
-pub fn raise_file(counts: &mut Counts<u32>, file: Option<u32>) -> Result<(), AllocError>
+pub fn raise_file(counts: &mut Counts<u32>, file: Option<u32>) -> Result<(), Lack>
     ensures ok { OnOk result ((f : ℕ) → file_count counts.new f ≡ file_count counts.old f + (if is_number f file then 1 else 0)) }
     ensures err { OnErr result ((f : ℕ) → file_count counts.new f ≡ file_count counts.old f) }
 {

@@ -5,8 +5,9 @@ ghost use Rattle.ufs_model.specs.Descriptors.{with_offset};
 
 use crate::counts::{Counts, lower_file, raise_file};
 use crate::desc_map::DescMap;
-use std::alloc::{AllocError, Global};
+use std::alloc::Global;
 use std::marker::Model;
+use ufs_base::Lack;
 use ufs_model::Desc;
 
 /// What each client's descriptors stand for.
@@ -58,7 +59,7 @@ impl FdMap {
     }
 
     /// Opens a descriptor that isn't open.
-    pub fn open(&mut self, client: u8, fd: u64, desc: Desc) -> Result<(), AllocError>
+    pub fn open(&mut self, client: u8, fd: u64, desc: Desc) -> Result<(), Lack>
         requires { map.get self.old (client, fd) ≡ None }
         ensures ok { OnOk result (self.new ≡ map.insert self.old (client, fd) desc) }
         ensures err { OnErr result (self.new ≡ self.old) }
@@ -66,9 +67,9 @@ impl FdMap {
         raise_file(&mut self.opens, desc.file)?;
         match self.entries.insert(client, fd, desc) {
             Ok(()) => Ok(()),
-            Err(e) => {
+            Err(refused) => {
                 lower_file(&mut self.opens, desc.file);
-                Err(e)
+                Err(Lack::from(refused))
             }
         }
     }

@@ -4,9 +4,10 @@ ghost use Rattle.ufs_model.specs.Excuses.{blocks_of};
 ghost use Rattle.ufs_model.specs.FileBytes as file_bytes;
 ghost use Rattle.ufs_tree.specs.Told.{excuse_of};
 
+use crate::texts::text;
 use crate::tree::{Parts, Tree};
-use ufs_base::Memory;
-use ufs_calls::{place_of, text};
+use ufs_base::Lack;
+use ufs_calls::place_of;
 use ufs_model::{
     Bytes, Entry, Excuse, NameList, Node, Op, Reply, a_request_keeps_the_tree,
     a_request_makes_one_file_at_most,
@@ -103,14 +104,14 @@ impl Parts {
     ghost use Rattle.ufs_tree.specs.Told.{excuse_of};
 
     // What stands at the end of a path.
-    fn node_at(&self, path: &Bytes) -> Result<Option<Node>, Memory>
+    fn node_at(&self, path: &Bytes) -> Result<Option<Node>, Lack>
         ensures { IfOk result (λ node. node ≡ node_at self.now.paths path.now) }
     {
         let text = text(self.alloc, path)?;
         Ok(self.paths.get(text.whole()))
     }
 
-    fn makes_node(&self, op: &Op) -> Result<bool, Memory>
+    fn makes_node(&self, op: &Op) -> Result<bool, Lack>
         ensures { IfOk result (λ makes. makes ≡ excuses.makes_node (tree_of self.now) op.now) }
     {
         match op {
@@ -123,7 +124,7 @@ impl Parts {
         }
     }
 
-    fn adds_name(&self, op: &Op) -> Result<bool, Memory>
+    fn adds_name(&self, op: &Op) -> Result<bool, Lack>
         ensures { IfOk result (λ adds. adds ≡ excuses.adds_name (tree_of self.now) op.now) }
     {
         match op {
@@ -136,7 +137,7 @@ impl Parts {
     }
 
     // Whether the directory to which a request adds a name may have every slot used.
-    fn may_be_full(&self, op: &Op) -> Result<bool, Memory>
+    fn may_be_full(&self, op: &Op) -> Result<bool, Lack>
         requires adds { excuses.adds_name (tree_of self.now) op.now ≡ true }
         ensures { IfOk result (λ full. full ≡ excuses.may_be_full (tree_of self.now) (excuses.grown_dir op.now)) }
     {
@@ -177,7 +178,7 @@ impl Parts {
     }
 
     // The blocks that a request may need.
-    fn needed(&self, client: u8, op: &Op) -> Result<u64, Memory>
+    fn needed(&self, client: u8, op: &Op) -> Result<u64, Lack>
         requires allowed { refusal (tree_of self.now) client op.now ≡ None }
         ensures { IfOk result (λ blocks. blocks ≡ excuses.needed (tree_of self.now) client op.now) }
     {
@@ -191,7 +192,7 @@ impl Parts {
     }
 
     // Whether the excuse says of a request that isn't refused what is so.
-    fn is_excuse_of(&self, client: u8, op: &Op, excuse: Excuse) -> Result<bool, Memory>
+    fn is_excuse_of(&self, client: u8, op: &Op, excuse: Excuse) -> Result<bool, Lack>
         requires allowed { refusal (tree_of self.now) client op.now ≡ None }
         ensures { IfOk result (λ told. IsTrue told ↔ excuses.IsExcuseOf (tree_of self.now) client op.now excuse) }
     {
@@ -209,7 +210,7 @@ impl Parts {
         }
     }
 
-    fn excuse_fits(&self, client: u8, op: &Op, excuse: Excuse) -> Result<bool, Memory>
+    fn excuse_fits(&self, client: u8, op: &Op, excuse: Excuse) -> Result<bool, Lack>
         ensures { IfOk result (λ fits. IsTrue fits ↔ excuses.ExcuseFits (tree_of self.now) client op.now excuse) }
     {
         if matches!(excuse, Excuse::Memory) {
@@ -222,7 +223,7 @@ impl Parts {
     }
 
     // Whether the reply, which isn't an excuse, is the tree's; where it is the tree goes on.
-    fn reply_step(&mut self, client: u8, op: &Op, reply: &Reply) -> Result<bool, Memory>
+    fn reply_step(&mut self, client: u8, op: &Op, reply: &Reply) -> Result<bool, Lack>
         requires bounded { IsBounded op.now }
         requires tree { IsTree (tree_of self.old) }
         requires numbers { self.old.next < 2 ^ 31 }
@@ -242,7 +243,7 @@ impl Parts {
         Ok(true)
     }
 
-    fn legal_step(&mut self, entry: &Entry) -> Result<bool, Memory>
+    fn legal_step(&mut self, entry: &Entry) -> Result<bool, Lack>
         requires bounded { IsBounded entry.now.op }
         requires tree { IsTree (tree_of self.old) }
         requires numbers { self.old.next < 2 ^ 31 }
@@ -265,9 +266,9 @@ impl Tree {
     ghost use Rattle.ufs_model.specs.History.{IsReplyTo, goes_on};
 
     /// Whether an entry has the reply that the tree gives, or an excuse that fits. Where it has, the tree goes on by it;
-    /// else, and after `Memory`, the tree is as before. That tickets rise, and that no two entries tell one device
+    /// else, and after a `Lack`, the tree is as before. That tickets rise, and that no two entries tell one device
     /// fault, is asked of a whole history and not here.
-    pub fn legal_step(&mut self, entry: &Entry) -> Result<bool, Memory>
+    pub fn legal_step(&mut self, entry: &Entry) -> Result<bool, Lack>
         requires bounded { IsBounded entry.now.op }
         requires numbers { self.old.next < 2 ^ 31 }
         ensures legal { IfOk result (λ told. IsTrue told ↔ IsReplyTo self.old entry.now) }

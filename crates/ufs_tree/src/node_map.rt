@@ -4,6 +4,7 @@ ghost use Rattle.std.specs.FinMap as map;
 use std::alloc::{AllocError, Global};
 use std::collections::BTreeMap;
 use std::marker::Model;
+use ufs_base::Memory;
 use ufs_model::{Bytes, Node};
 
 /// What stands at each path.
@@ -48,14 +49,15 @@ impl NodeMap {
     }
 
     /// At want of memory the path comes back.
-    pub fn insert(&mut self, path: Vec<u8>, node: Node) -> Result<(), Vec<u8>>
+    pub fn insert(&mut self, path: Vec<u8>, node: Node) -> Result<(), (Memory, Vec<u8>)>
         ensures ok { OnOk result (self.new ≡ map.insert self.old path.items node) }
         ensures absent { OnErr result (map.get self.old path.items ≡ None) }
         ensures err { OnErr result (self.new ≡ self.old) }
-        ensures back { IfErr result (λ back. back.items ≡ path.items) }
+        ensures back { IfErr result (λ back. back.1.items ≡ path.items) }
     {
         if let Err(failed) = self.entries.insert(path, node) {
-            return Err(failed.value.0);
+            let (memory, (path, _node)) = Memory::beside(failed);
+            return Err((memory, path));
         }
         Ok(())
     }

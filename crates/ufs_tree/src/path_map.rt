@@ -11,8 +11,9 @@ ghost use Rattle.ufs_tree.specs.Moved.{with_other_front};
 use crate::counts::{Counts, lower_file, raise_file};
 use crate::node_map::NodeMap;
 use crate::path;
-use std::alloc::{AllocError, Global};
+use std::alloc::Global;
 use std::marker::Model;
+use ufs_base::Lack;
 use ufs_model::{Bytes, NameList, Node};
 
 /// What stands at each whole path.
@@ -71,7 +72,7 @@ impl PathMap {
     }
 
     /// Puts what stands at a path at which nothing stands.
-    pub fn add(&mut self, alloc: Global, path: Vec<u8>, node: Node) -> Result<(), AllocError>
+    pub fn add(&mut self, alloc: Global, path: Vec<u8>, node: Node) -> Result<(), Lack>
         requires absent { map.get self.old path.items ≡ None }
         requires whole { IsWhole path.items }
         ensures ok { OnOk result (self.new ≡ map.insert self.old path.items node) }
@@ -120,7 +121,7 @@ impl PathMap {
     }
 
     /// The names of a directory's entries, in rising byte order.
-    pub fn entry_names(&self, alloc: Global, dir: &[u8]) -> Result<NameList, AllocError>
+    pub fn entry_names(&self, alloc: Global, dir: &[u8]) -> Result<NameList, Lack>
         requires whole { IsWhole dir.now }
         requires namespace { IsNamespace (stands self.now) (has_dir self.now) }
         ensures { IfOk result (λ names. names ≡ entry_names self.now dir.now) }
@@ -131,7 +132,7 @@ impl PathMap {
     }
 
     /// Gives what stands at `from`, with all below it, the name `to`, at which there may stand something else.
-    pub fn rename(&mut self, alloc: Global, from: &[u8], to: &[u8]) -> Result<(), AllocError>
+    pub fn rename(&mut self, alloc: Global, from: &[u8], to: &[u8]) -> Result<(), Lack>
         requires whole { IsWhole to.now }
         requires namespace { IsNamespace (stands self.old) (has_dir self.old) }
         requires stands { stands self.old from.now ≡ true }
@@ -160,7 +161,7 @@ impl PathMap {
     }
 
     // Puts a node in the place of another.
-    fn replace(&mut self, path: Vec<u8>, old: Node, node: Node) -> Result<(), AllocError>
+    fn replace(&mut self, path: Vec<u8>, old: Node, node: Node) -> Result<(), Lack>
         requires { map.get self.old path.items ≡ Some old }
         ensures ok { OnOk result (self.new ≡ map.insert self.old path.items node) }
         ensures err { OnErr result (self.new ≡ self.old) }
@@ -175,7 +176,7 @@ impl PathMap {
     }
 
     // Puts a node at a path at which there may stand another.
-    fn put(&mut self, alloc: Global, path: Vec<u8>, node: Node) -> Result<(), AllocError>
+    fn put(&mut self, alloc: Global, path: Vec<u8>, node: Node) -> Result<(), Lack>
         requires { IsWhole path.items }
         ensures ok { OnOk result (self.new ≡ map.insert self.old path.items node) }
         ensures err { OnErr result (self.new ≡ self.old) }
@@ -186,7 +187,7 @@ impl PathMap {
         }
     }
 
-    fn add_copy(&mut self, alloc: Global, path: &[u8], node: Node) -> Result<(), AllocError>
+    fn add_copy(&mut self, alloc: Global, path: &[u8], node: Node) -> Result<(), Lack>
         requires absent { map.get self.old path.now ≡ None }
         requires whole { IsWhole path.now }
         ensures ok { OnOk result (self.new ≡ map.insert self.old path.now node) }
@@ -197,7 +198,7 @@ impl PathMap {
     }
 
     // Puts nodes at paths at which nothing stands, all of them or none.
-    fn add_all(&mut self, alloc: Global, nodes: &[(Bytes, Node)]) -> Result<(), AllocError>
+    fn add_all(&mut self, alloc: Global, nodes: &[(Bytes, Node)]) -> Result<(), Lack>
         requires absent { All (λ e. map.get self.old e.0 ≡ None) nodes.now }
         requires whole { All (λ e. IsWhole e.0) nodes.now }
         requires rising { is_sorted path_cmp nodes.now ≡ true }
@@ -235,7 +236,7 @@ fn number_of(node: Node) -> Option<u32>
 }
 
 // One entry more in the directory above.
-fn raise_parent(entries: &mut Counts<Vec<u8>>, alloc: Global, path: &[u8]) -> Result<(), AllocError>
+fn raise_parent(entries: &mut Counts<Vec<u8>>, alloc: Global, path: &[u8]) -> Result<(), Lack>
     requires { IsWhole path.now }
     ensures ok { OnOk result ((d : List ℕ) → dir_count entries.new d ≡ dir_count entries.old d + (if is_entry_of d path.now then 1 else 0)) }
     ensures err { OnErr result ((d : List ℕ) → dir_count entries.new d ≡ dir_count entries.old d) }
@@ -266,7 +267,7 @@ fn place(
     alloc: Global,
     path: Vec<u8>,
     node: Node,
-) -> Result<(), AllocError>
+) -> Result<(), Lack>
     requires { IsWhole path.items }
     ensures ok { OnOk result (nodes.new ≡ map.insert nodes.old path.items node) }
     ensures counted { OnOk result ((d : List ℕ) → dir_count entries.new d ≡ dir_count entries.old d + (if is_entry_of d path.items then 1 else 0)) }
@@ -276,15 +277,15 @@ fn place(
     raise_parent(entries, alloc, path.as_slice())?;
     match nodes.insert(path, node) {
         Ok(()) => Ok(()),
-        Err(back) => {
+        Err((memory, back)) => {
             lower_parent(entries, back.as_slice());
-            Err(AllocError)
+            Err(Lack::Memory(memory))
         }
     }
 }
 
 // The last names of those paths that are entries of the directory.
-fn names_of(alloc: Global, nodes: &[(Bytes, Node)], dir: &[u8]) -> Result<Vec<Bytes>, AllocError>
+fn names_of(alloc: Global, nodes: &[(Bytes, Node)], dir: &[u8]) -> Result<Vec<Bytes>, Lack>
     requires { All (λ e. IsWhole e.0) nodes.now }
     ensures { IfOk result (λ names. names.items ≡ names_among nodes.now dir.now) }
 {
@@ -296,12 +297,7 @@ fn names_of(alloc: Global, nodes: &[(Bytes, Node)], dir: &[u8]) -> Result<Vec<By
 }
 
 // Adds the last name of a path that is an entry of the directory.
-fn add_name(
-    alloc: Global,
-    names: &mut Vec<Bytes>,
-    path: &[u8],
-    dir: &[u8],
-) -> Result<(), AllocError>
+fn add_name(alloc: Global, names: &mut Vec<Bytes>, path: &[u8], dir: &[u8]) -> Result<(), Lack>
     requires { IsWhole path.now }
     ensures { OnOk result (names.new.items ≡ names.old.items ++ (if is_entry_of dir.now path.now then last_name (components path.now) ∷ [] else [])) }
 {
@@ -318,7 +314,7 @@ fn moved(
     nodes: &[(Bytes, Node)],
     from: &[u8],
     to: &[u8],
-) -> Result<Vec<(Bytes, Node)>, AllocError>
+) -> Result<Vec<(Bytes, Node)>, Lack>
     requires { All (λ e. length from.now ≤ length e.0) nodes.now }
     ensures { IfOk result (λ news. news.items ≡ with_other_front from.now to.now nodes.now) }
 {
@@ -330,7 +326,7 @@ fn moved(
     Ok(news)
 }
 
-fn moved_path(alloc: Global, path: &[u8], count: usize, to: &[u8]) -> Result<Vec<u8>, AllocError>
+fn moved_path(alloc: Global, path: &[u8], count: usize, to: &[u8]) -> Result<Vec<u8>, Lack>
     requires { count ≤ length path.now }
     ensures { IfOk result (λ new. new.items ≡ to.now ++ drop count path.now) }
 {

@@ -6,7 +6,7 @@ ghost use Rattle.ufs_model.specs.declared.data.Op.{Op};
 
 use crate::tree::Tree;
 use std::alloc::Global;
-use ufs_base::Memory;
+use ufs_base::Lack;
 use ufs_model::{Actor, Entry, EntryList, Op, PathTree, Reply};
 use ufs_script::{OpList, OpLists};
 
@@ -16,7 +16,7 @@ fn serve_client(
     history: &mut EntryList,
     client: u8,
     requests: OpList,
-) -> Result<(), Memory>
+) -> Result<(), Lack>
     requires few { length history.old ≤ 15 * 65536 }
     requires next { tree.old.next ≤ length history.old }
     requires legal { IsLegal root_alone history.old }
@@ -51,7 +51,7 @@ fn serve_client(
 
 /// The clients' requests, client after client, each answered by a tree that begins with the root alone: the
 /// history.
-pub fn serve(alloc: Global, clients: OpLists) -> Result<EntryList, Memory>
+pub fn serve(alloc: Global, clients: OpLists) -> Result<EntryList, Lack>
     ensures legal { IfOk result (λ history. IsLegal root_alone history) }
     ensures ordered { IfOk result (λ history. IsInOrder clients history) }
     ensures complete { IfOk result (λ history. IsComplete clients history) }

@@ -12,12 +12,12 @@ use crate::fd_map::FdMap;
 use crate::path_map::PathMap;
 use crate::tree::{Parts, Tree};
 use std::alloc::Global;
-use ufs_base::Memory;
+use ufs_base::Lack;
 use ufs_calls::FileMap;
 use ufs_model::{Bytes, Node, PathEntry, PathNode, PathTree};
 
 // Adds a path. A file gets the next number.
-fn place(parts: &mut Parts, entry: &PathEntry) -> Result<(), Memory>
+fn place(parts: &mut Parts, entry: &PathEntry) -> Result<(), Lack>
     requires absent { map.get parts.old.paths entry.now.path ≡ None }
     requires whole { IsWhole entry.now.path }
     requires files { next_after parts.old.next entry.now.node ≤ 2 ^ 31 }
@@ -39,7 +39,7 @@ fn place(parts: &mut Parts, entry: &PathEntry) -> Result<(), Memory>
 }
 
 // The maps of the tree of these entries.
-fn numbered(alloc: Global, entries: &[PathEntry]) -> Result<Parts, Memory>
+fn numbered(alloc: Global, entries: &[PathEntry]) -> Result<Parts, Lack>
     requires rising { IsTrue (are_rising entries.now) }
     requires paths { IsPathTree (nodes_of entries.now) }
     requires files { (start_from (pairs_of entries.now)).next ≤ 2 ^ 31 }
@@ -60,7 +60,7 @@ fn numbered(alloc: Global, entries: &[PathEntry]) -> Result<Parts, Memory>
 
 impl Tree {
     /// The tree of these paths, its files numbered from 0 by rising path, with nothing open.
-    pub fn start(alloc: Global, paths: &PathTree) -> Result<Tree, Memory>
+    pub fn start(alloc: Global, paths: &PathTree) -> Result<Tree, Lack>
         requires paths { IsPathTree paths.now }
         requires files { (start_of paths.now).next ≤ 2 ^ 31 }
         ensures start { IfOk result (λ tree. tree ≡ start_of paths.now) }

@@ -8,7 +8,7 @@ use crate::fd_map::FdMap;
 use crate::path_map::PathMap;
 use std::alloc::Global;
 use std::marker::Model;
-use ufs_base::Memory;
+use ufs_base::Lack;
 use ufs_calls::FileMap;
 use ufs_model::{Op, Reply, a_request_keeps_the_tree, a_request_makes_one_file_at_most};
 
@@ -42,9 +42,9 @@ impl Model for Tree {
 }
 
 impl Tree {
-    /// The reply to a client's request, and the tree goes on. After `Memory` it is as before.
+    /// The reply to a client's request, and the tree goes on. After a `Lack` it is as before.
     /// A request makes at most one file; file numbers stay below 2^31.
-    pub fn step(&mut self, client: u8, op: &Op) -> Result<Reply, Memory>
+    pub fn step(&mut self, client: u8, op: &Op) -> Result<Reply, Lack>
         requires bounded { IsBounded op.now }
         requires numbers { self.old.next < 2 ^ 31 }
         ensures ok { IfOk result (λ reply. posix self.old client op.now ≡ (self.new, reply)) }
@@ -65,7 +65,7 @@ impl Parts {
     ghost use Rattle.ufs_model.specs.Posix.{posix};
     ghost use Rattle.ufs_tree.specs.Parts.{tree_of};
 
-    fn step(&mut self, client: u8, op: &Op) -> Result<Reply, Memory>
+    fn step(&mut self, client: u8, op: &Op) -> Result<Reply, Lack>
         requires bounded { IsBounded op.now }
         requires tree { IsTree (tree_of self.old) }
         requires numbers { self.old.next < 2 ^ 31 }

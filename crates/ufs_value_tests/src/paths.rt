@@ -2,6 +2,7 @@
 use crate::asserts::{holds, same};
 use std::alloc::{AllocError, AllocGlobal, Global};
 use std::process::Abort;
+use ufs_base::Memory;
 use ufs_model::Errno;
 use ufs_path::{PathFault, path_fault, read_path};
 
@@ -60,7 +61,12 @@ fn the_first_fault_is_told(rt: HostRuntime) {
     is_refused(&rt, b"/./", PathFault::BadComponent, Errno::Einval);
     is_refused(&rt, b"/a/..", PathFault::BadComponent, Errno::Einval);
     is_refused(&rt, b"/a b", PathFault::BadComponent, Errno::Einval);
-    holds(&rt, PathFault::Memory.errno().is_none());
+    holds(
+        &rt,
+        PathFault::Memory(Memory::from(AllocError))
+            .errno()
+            .is_none(),
+    );
 }
 
 #[test]

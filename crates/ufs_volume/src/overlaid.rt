@@ -13,7 +13,6 @@ ghost use Rattle.ufs_volume.specs.Journals.{AreFoldable, IsFoldable, IsJournalRe
 
 use crate::form::can_fold;
 use std::alloc::Global;
-use ufs_base::Memory;
 use ufs_catalog::{ImageSuperblock, RecoverFault};
 use ufs_disk::Disk;
 use ufs_layout::{Committed, CommittedList, Geometry};
@@ -27,7 +26,7 @@ fn of_scan(fault: ScanFault) -> RecoverFault
     match fault {
         ScanFault::BadRecord { sector } => RecoverFault::BadRecord { sector },
         ScanFault::Device { fault } => RecoverFault::Device { fault },
-        ScanFault::Memory => RecoverFault::Memory,
+        ScanFault::Memory(memory) => RecoverFault::from(memory),
     }
 }
 
@@ -71,7 +70,7 @@ fn add_one(overlay: &mut Overlay, geometry: &Geometry, one: &Committed) -> Resul
     }
     match overlay.add(one) {
         Ok(()) => Ok(()),
-        Err(Memory) => Err(RecoverFault::Memory),
+        Err(memory) => Err(RecoverFault::from(memory)),
     }
 }
 

@@ -13,6 +13,7 @@ ghost use Rattle.ufs_volume.specs.Volumes.{committed_in, highest_number, volume_
 use crate::overlaid::{overlay_of, read_journal};
 use crate::volume::FoldedVolume;
 use std::alloc::Global;
+use ufs_base::Lack;
 use ufs_catalog::{ImageSuperblock, RecoverFault, read_superblock};
 use ufs_disk::Disk;
 use ufs_layout::{Committed, CommittedList};
@@ -40,7 +41,7 @@ fn with_list(
     let transactions = list.as_slice();
     let overlay = overlay_of(alloc, &superblock.geometry, transactions)?;
     let Ok(committed) = u32::try_from(transactions.len()) else {
-        return Err(RecoverFault::Memory);
+        return Err(RecoverFault::Lack(Lack::AtEnd));
     };
     Ok(FoldedVolume {
         superblock,

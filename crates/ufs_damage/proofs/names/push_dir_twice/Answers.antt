@@ -6,6 +6,6 @@ use Rattle.ufs_damage.proofs.names.push_dir_twice.Goals as goal
 
 pub returns : goal.returns
 returns c =
-    let slots = c.in_ok-slots.slots.now in
+    let slots = c.counted_slots-slots.result.now in
     c.in_ok-push_twice_of.ensures
-    ∙ ap (λ l. c.args.list.now ++ l) (ap (λ n. filter_map (earlier_damage slots n) (enumerate_from 0 slots)) c.inode.ensures ∙ twice_are c.args.dir.now slots c.in_ok-slots.ensures.places)
+    ∙ ap (λ l. c.args.list.now ++ l) (ap (λ n. filter_map (earlier_damage slots n) (enumerate_from 0 slots)) c.inode.ensures ∙ twice_are c.args.dir.now slots c.counted_slots-slots.ensures.places)

@@ -9,6 +9,7 @@ use Rattle.ufs_store.specs.Refusals.{answer_of}
 use Rattle.ufs_store.specs.State.{StoreState}
 use Rattle.ufs_durable.specs.State.{CommitState, IsNoted, state_of}
 use Rattle.ufs_durable.specs.Writes.{MayWriteAll, at_moments, with_writes, writes_of}
+use Rattle.ufs_durable.proofs.Lacks.{lack_stays}
 use Rattle.ufs_durable.proofs.Stages.{commit_whole, crash_early, crash_whole, device_whole, empty_whole, may_between, memory_whole}
 use Rattle.ufs_durable.proofs.Stamping.{synced_delta, synced_writes}
 use Rattle.ufs_durable.proofs.Standing.{noted_committed}
@@ -120,11 +121,18 @@ returns-in-Err-commit_file-clause-device g c visible records delta some fault e 
     inr (device_whole (first g at) (mid g at) c.in_default.ensures.passed (last g at) records (behind g at l)
     (c.commit_file.ensures.device visible records (change g at records delta) (changed g at some) fault (ap answer_of c.in-Err-commit_file.is ∙ e) (behind g at l) (held g at visible l has may) (goes g at records l next)))
 
+pub returns-in-Err-commit_file-clause-lack : goal.returns-in-Err-commit_file-clause-lack
+returns-in-Err-commit_file-clause-lack g c w e =
+    let at = (goal.at.returns-in-Err-commit_file-clause-lack g c).After-commit_file in
+    let same = c.in_default.ensures.passed in
+    lack_stays (mid g at) (first g at) w (ap (λ (s : StoreState). s.journal.number) same) (ap (λ (s : StoreState). s.superblock.epoch) same)
+    (c.commit_file.ensures.lack w (ap answer_of c.in-Err-commit_file.is ∙ e))
+
 pub returns-in-Err-commit_file-clause-memory : goal.returns-in-Err-commit_file-clause-memory
-returns-in-Err-commit_file-clause-memory g c visible e l has may =
+returns-in-Err-commit_file-clause-memory g c visible w e l has may =
     let at = (goal.at.returns-in-Err-commit_file-clause-memory g c).After-commit_file in
     memory_whole (first g at) (mid g at) c.in_default.ensures.passed (last g at) (behind g at l)
-    (c.commit_file.ensures.memory visible (ap answer_of c.in-Err-commit_file.is ∙ e) (behind g at l) (held g at visible l has may))
+    (c.commit_file.ensures.memory visible w (ap answer_of c.in-Err-commit_file.is ∙ e) (behind g at l) (held g at visible l has may))
 
 -- ---- what the calls want
 

@@ -20,19 +20,19 @@ module _ (c : After-is_whole) where
   allowed : (d : Desc) → c.args.ask.desc ≡ Some d → file_refusal c.args.hand.now.content.bytes d c.args.ask.op ≡ None
   allowed d is = allowed_where_changed c.args.hand.now d c.args.ask.op c.is_whole.ensures.sized (λ e. let fewer = c.requires.fewer in let kept = c.requires.kept d is in omega (arith, fewer, kept, e))
 
-pub returns-in_default : goal.returns-in_default
-returns-in_default c pool =
+pub returns-in-Err : goal.returns-in-Err
+returns-in-Err c pool =
     let made = c.out_of_memory in
     applied_not (state_of c.args.hand.now c.args.commits.now) pool c.args.ask c.args.by c.args.ticket made.result.entry made.result.desc made.ensures.entry made.ensures.reply made.ensures.desc
-    c.requires.noted c.is_whole.ensures.few (allowed (goal.at.returns-in_default c).After-is_whole)
+    c.requires.noted c.is_whole.ensures.few (allowed (goal.at.returns-in-Err c).After-is_whole)
 
-pub returns-in_default-drop_too : goal.returns-in_default-drop_too
-returns-in_default-drop_too c pool =
+pub returns-in-Err-drop_too : goal.returns-in-Err-drop_too
+returns-in-Err-drop_too c pool =
     let f = state_of c.args.hand.now c.args.commits.now in
-    let made = c.out_of_memory-in_default-drop_too in
-    subst (λ (x : CommitState). IsApplied f (state_of c.args.hand.now x) pool pool c.args.ask c.args.by c.args.ticket made.result.entry made.result.desc) (sym c.in_default-drop_too.ensures.err)
+    let made = c.out_of_memory-in-Err-drop_too in
+    subst (λ (x : CommitState). IsApplied f (state_of c.args.hand.now x) pool pool c.args.ask c.args.by c.args.ticket made.result.entry made.result.desc) (sym c.in-Err-drop_too.ensures.err)
     (applied_not f pool c.args.ask c.args.by c.args.ticket made.result.entry made.result.desc made.ensures.entry made.ensures.reply made.ensures.desc
-    c.requires.noted c.is_whole.ensures.few (allowed (goal.at.returns-in_default-drop_too c).After-is_whole))
+    c.requires.noted c.is_whole.ensures.few (allowed (goal.at.returns-in-Err-drop_too c).After-is_whole))
 
 -- ---- where the file is asked
 
@@ -51,7 +51,7 @@ module _ (c : After-apply-applied) where
   IsBehind pool commits = IsApplied was (state_of c.apply-applied.new.self commits) pool pool c.args.ask c.args.by c.args.ticket c.apply-applied.result.entry c.apply-applied.result.desc
 
   too : c.drop_too.new.self ≡ record (c.args.commits.now) { dropped = c.args.commits.now.dropped ++ rest }
-  too = c.in-Ok-drop_too.ensures.ok ∙ ap (λ (rs : List Run). record (c.args.commits.now) { dropped = c.args.commits.now.dropped ++ rs }) (c.as_slice.ensures.items ∙ c.in-Ok.ensures.rest)
+  too = c.in_default.ensures.ok ∙ ap (λ (rs : List Run). record (c.args.commits.now) { dropped = c.args.commits.now.dropped ++ rs }) (c.as_slice.ensures.items ∙ c.in-Ok.ensures.rest)
 
 pub returns-in-Excused : goal.returns-in-Excused
 returns-in-Excused c pool =

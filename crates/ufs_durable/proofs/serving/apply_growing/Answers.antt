@@ -3,8 +3,8 @@ use Rattle.ufs_durable.specs.State.{state_of}
 use Rattle.ufs_durable.proofs.Requests.{allowed_where_changed, applied_not, noted_taking}
 use Rattle.ufs_durable.proofs.serving.apply_growing.Goals as goal
 
-pub returns-in_default : goal.returns-in_default
-returns-in_default c =
+pub returns-in-Err : goal.returns-in-Err
+returns-in-Err c =
     applied_not (state_of c.args.hand.now c.args.commits.now) c.args.pool.now c.args.ask c.args.by c.args.ticket c.out_of_memory.result.entry c.out_of_memory.result.desc c.out_of_memory.ensures.entry
     c.out_of_memory.ensures.reply c.out_of_memory.ensures.desc c.requires.noted c.is_whole.ensures.few
     (λ d is. allowed_where_changed c.args.hand.now d c.args.ask.op c.is_whole.ensures.sized (λ e. let more = c.requires.more d is in omega (arith, more, e)))

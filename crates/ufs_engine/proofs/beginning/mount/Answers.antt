@@ -37,14 +37,14 @@ mount-requires-clause-large g c =
     let size = g.D.Disk.size c.args.disk in
     subst (λ (x : Geometry). sector_count x ≤ size) c.args.parts.superblock.same (has_geometry size b.0 (volume_under c.args.parts.superblock b.0) b.1.standing.taken).1
 
-pub returns-in_default-clause-err_moments : goal.returns-in_default-clause-err_moments
-returns-in_default-clause-err_moments g c visible clean begun start with_it =
+pub returns-in-Err-clause-err_moments : goal.returns-in-Err-clause-err_moments
+returns-in-Err-clause-err_moments g c visible clean begun start with_it =
     let size = g.D.Disk.size c.args.disk in
     let old = g.D.Disk.moments c.args.disk in
     started g.D.Disk.keeps (IsExplainedImage size start []) old (clean_explained c.a_request_keeps_the_tree.ensures size old.state start clean with_it)
 
-pub returns-in_default-open-clause-err_moments : goal.returns-in_default-open-clause-err_moments
-returns-in_default-open-clause-err_moments g c visible clean begun start with_it =
+pub returns-in-Err-open-clause-err_moments : goal.returns-in-Err-open-clause-err_moments
+returns-in-Err-open-clause-err_moments g c visible clean begun start with_it =
     let size = g.D.Disk.size c.args.disk in
     let old = g.D.Disk.moments c.args.disk in
     started g.D.Disk.keeps (IsExplainedImage size start []) old (clean_explained c.a_request_keeps_the_tree.ensures size old.state start clean with_it)
@@ -134,17 +134,17 @@ returns-in-Ok-mount-clause-seen g c read sees =
     let with_it : BeginsWith size (seen state) c.in-Ok-open.opened.start.tree = record { tree = tree_under c.args.parts.superblock (seen state); opened = begun.opened; start_is = ap (λ (z : sound.Start). z.tree) from ∙ ap (λ (z : sound.Start). z.tree) begun.session } in
     (visible, c.mounted_law.ensures.going size state c.args.parts c.in-Ok-open.opened.start.tree _ c.in-Ok.server is with_it same (m.ok visible (c.mounted_law.ensures.mountable size state c.args.parts is)) (m.geometry ∙ sym c.args.parts.superblock.same) m.unassigned)
 
-pub returns-in-Err-clause-cause : goal.returns-in-Err-clause-cause
-returns-in-Err-clause-cause g c = c.fault_of.ensures.cause (g.D.Disk.faults c.args.disk) (g.D.Disk.faults c.in-Err.unmounted.disk) c.in-Err.ensures.cause
+pub returns-in-Err-mount-clause-cause : goal.returns-in-Err-mount-clause-cause
+returns-in-Err-mount-clause-cause g c = c.fault_of.ensures.cause (g.D.Disk.faults c.args.disk) (g.D.Disk.faults c.in-Err-mount.unmounted.disk) c.in-Err-mount.ensures.cause
 
-pub returns-in-Err-clause-err_moments : goal.returns-in-Err-clause-err_moments
-returns-in-Err-clause-err_moments g c visible clean begun start with_it =
-    let m = c.in-Err.ensures in
+pub returns-in-Err-mount-clause-err_moments : goal.returns-in-Err-mount-clause-err_moments
+returns-in-Err-mount-clause-err_moments g c visible clean begun start with_it =
+    let m = c.in-Err-mount.ensures in
     let size = g.D.Disk.size c.args.disk in
     let old = g.D.Disk.moments c.args.disk in
     let is : IsReadClean c.args.parts.superblock.geometry size old.state c.args.parts = record { whole = g.met.D.Disk.whole visible c.args.disk; clean = clean; begun = begun; geometry = refl } in
     let law = c.mounted_law.ensures in
     refused_leaves (IsExplainedImage size start []) (IsLeftBy size (marking c.args.parts.superblock.superblock (reads old))) g.D.Disk.keeps
-    old (g.D.Disk.moments c.in-Err.unmounted.disk) c.in-Err.unmounted.fault (λ memory. ap g.D.Disk.moments (m.memory memory)) (m.err_crash visible (law.mountable size old.state c.args.parts is))
+    old (g.D.Disk.moments c.in-Err-mount.unmounted.disk) c.in-Err-mount.unmounted.fault (λ w lacks. ap g.D.Disk.moments (m.memory w lacks)) (m.err_crash visible (law.mountable size old.state c.args.parts is))
     (λ image left. record { explained = law.explained size old.state c.args.parts start image is with_it left; proper = law.proper size old.state c.args.parts image is left })
     (clean_explained c.a_request_keeps_the_tree.ensures size old.state start clean with_it)

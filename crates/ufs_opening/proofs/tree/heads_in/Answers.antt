@@ -46,15 +46,15 @@ returns-in_err-heads-clause-outside g c visible sectors is =
     let image = folded_image o.volume disk in
     let long : (s : ℕ) → s < sector_count o.volume.superblock.geometry → length (disk s) ≡ 512 = λ s less. ((g.met.D.Disk.whole visible c.args.disk.now).within s (omega (arith, less, c.requires.large)) _ (seen_is_image (g.D.Disk.moments c.args.disk.now).state s)).sized in
     let sound = c.damage_law.ensures.sound image (catalog_at o.volume.superblock.geometry image) (c.damage_law.ensures.catalog image is.whole) is.whole in
-    let all : AreInodes o.volume.superblock.geometry (pairs_of c.deref.result.now) = subst (λ (ps : List PathAt). AreInodes o.volume.superblock.geometry (pairs_of ps)) (sym c.deref.ensures.value) (c.in-Ok.ensures.inodes image is.found is.whole) in
-    let p = err_from_is_err_and c.from_residual.result c.from_residual.ensures.1 in
+    let all : AreInodes o.volume.superblock.geometry (pairs_of c.deref.result.now) = subst (λ (ps : List PathAt). AreInodes o.volume.superblock.geometry (pairs_of ps)) (sym c.deref.ensures.value) (c.in_ok-places.ensures.inodes image is.found is.whole) in
+    let p = err_from_is_err_and c.from_residual-in_err-heads.result c.from_residual-in_err-heads.ensures.1 in
     rw (p.1, p.2) (c.in_err-heads.ensures.outside visible image (is_folded o.volume disk is.added) (readable o sectors disk c.forms-forms.result.now c.forms-forms.ensures is long sound) all)
 
 pub returns-clause-rising : goal.returns-clause-rising
 returns-clause-rising g c =
-    rising_same (heads.pairs_of c.in_ok-heads.heads.items) (pairs_of c.in-Ok.places.items)
-    (head_keys c.in_ok-heads.heads.items ∙ c.in_ok-heads.ensures.paths ∙ ap (map (λ (p : PathAt). p.path.items)) c.deref.ensures.value ∙ sym (place_keys c.in-Ok.places.items))
-    ∙ c.in-Ok.ensures.rising
+    rising_same (heads.pairs_of c.in_ok-heads.heads.items) (pairs_of c.in_ok-places.places.items)
+    (head_keys c.in_ok-heads.heads.items ∙ c.in_ok-heads.ensures.paths ∙ ap (map (λ (p : PathAt). p.path.items)) c.deref.ensures.value ∙ sym (place_keys c.in_ok-places.places.items))
+    ∙ c.in_ok-places.ensures.rising
 
 pub returns-clause-heads : goal.returns-clause-heads
 returns-clause-heads g c sectors opened =
@@ -66,8 +66,8 @@ returns-clause-heads g c sectors opened =
     let v : Volume = volume_in o.volume disk in
     let long : (s : ℕ) → s < sector_count o.volume.superblock.geometry → length (disk s) ≡ 512 = λ s less. ((g.met.D.Disk.whole visible c.args.disk.now).within s (omega (arith, less, c.requires.large)) _ (seen_is_image (g.D.Disk.moments c.args.disk.now).state s)).sized in
     let sound = c.damage_law.ensures.sound image (catalog_at o.volume.superblock.geometry image) (c.damage_law.ensures.catalog image is.whole) is.whole in
-    let all : AreInodes o.volume.superblock.geometry (pairs_of c.deref.result.now) = subst (λ (ps : List PathAt). AreInodes o.volume.superblock.geometry (pairs_of ps)) (sym c.deref.ensures.value) (c.in-Ok.ensures.inodes image is.found is.whole) in
-    has_heads sectors disk v c.in-Ok.places.items is.taken is.whole sound.root (c.in-Ok.ensures.places image is.found is.whole) c.args.most c.in_ok-heads.heads.items c.in-Ok.ensures.rising
+    let all : AreInodes o.volume.superblock.geometry (pairs_of c.deref.result.now) = subst (λ (ps : List PathAt). AreInodes o.volume.superblock.geometry (pairs_of ps)) (sym c.deref.ensures.value) (c.in_ok-places.ensures.inodes image is.found is.whole) in
+    has_heads sectors disk v c.in_ok-places.places.items is.taken is.whole sound.root (c.in_ok-places.ensures.places image is.found is.whole) c.args.most c.in_ok-heads.heads.items c.in_ok-places.ensures.rising
     (c.in_ok-heads.ensures.heads visible image (is_folded o.volume disk is.added) (readable o sectors disk c.forms-forms.result.now c.forms-forms.ensures is long sound) all
     ∙ ap (λ (ps : List PathAt). heads_of c.args.most (map (entry_of o.volume.superblock.geometry image) (pairs_of ps))) c.deref.ensures.value))
     (unseen_heads sectors (reads (g.D.Disk.moments c.args.disk.now)) c.args.most c.in_ok-heads.heads.items (returns-clause-rising g c) c.in_ok-heads.ensures.shape)

@@ -1,4 +1,4 @@
-use Rattle.std.proofs.Common.{List, ◌++◌, subst, refl}
+use Rattle.std.proofs.Common.{List, ◌++◌, subst, refl, ap, Err}
 use Rattle.std.specs.Io.KnownBytes.{Appends}
 use Rattle.ufs_model.specs.History.{joined}
 use Rattle.ufs_model.specs.declared.data.Entry.{Entry}
@@ -24,10 +24,10 @@ pub returns-in-Err-Memory : goal.returns-in-Err-Memory
 returns-in-Err-Memory g c =
     let held = g.K.Sink.held in
     let faults = g.K.Sink.faults in
-    let got = subst (λ (l : List (List Entry)). GotLines (held c.args.sink.now) (held c.print.new.sink) (session_lines c.args.trace (joined l))) c.as_slice.ensures (c.in-Err-Memory.ensures.memory cc) in
-    answer_after OutOfMemory memory_line got.0 (EndsBehind (session_lines c.args.trace (joined c.args.told.now)) c.args.fault) (held c.args.sink.now) (held c.print.new.sink) (held c.finish.new.sink)
-    (faults c.args.sink.now) (faults c.print.new.sink) (faults c.finish.new.sink) c.finish.result
-    got.2 (c.in-Err-Memory.ensures.told (λ e. cc)) (got.0, got.1, refl) c.finish.ensures.answer
+    let got = subst (λ (l : List (List Entry)). GotLines (held c.args.sink.now) (held c.print.new.sink) (session_lines c.args.trace (joined l))) c.as_slice.ensures (c.in-Err-Memory.ensures.memory (ap Err c.in-Err-Memory.field-0-is)) in
+    answer_after OutOfMemory memory_line got.0 (EndsBehind (session_lines c.args.trace (joined c.args.told.now)) c.args.fault) (held c.args.sink.now) (held c.print.new.sink) (held c.out_of_memory.new.sink)
+    (faults c.args.sink.now) (faults c.print.new.sink) (faults c.out_of_memory.new.sink) c.out_of_memory.result
+    got.2 (c.in-Err-Memory.ensures.told (λ e. cc)) (got.0, got.1, refl) c.out_of_memory.ensures.answer
 
 pub returns-in-Err-Sink : goal.returns-in-Err-Sink
 returns-in-Err-Sink g c =

@@ -1,4 +1,4 @@
-use Rattle.std.proofs.Common.{refl}
+use Rattle.std.proofs.Common.{refl, ap, Err}
 use Rattle.ufs_quiet.specs.Texts.{memory_line}
 use Rattle.ufs_quiet.specs.TreeLines.{head_lines}
 use Rattle.ufs_quiet.specs.Endings.{EndsPrinting}
@@ -10,10 +10,10 @@ pub returns-in-Err-Memory : goal.returns-in-Err-Memory
 returns-in-Err-Memory g c =
     let held = g.K.Sink.held in
     let faults = g.K.Sink.faults in
-    let got = c.in-Err-Memory.ensures.memory cc in
-    answer_after OutOfMemory memory_line got.0 (EndsPrinting (head_lines c.args.heads.now)) (held c.args.sink.now) (held c.print_heads.new.sink) (held c.finish.new.sink)
-    (faults c.args.sink.now) (faults c.print_heads.new.sink) (faults c.finish.new.sink) c.finish.result
-    got.2 (c.in-Err-Memory.ensures.told (λ e. cc)) (got.0, got.1, refl) c.finish.ensures.answer
+    let got = c.in-Err-Memory.ensures.memory (ap Err c.in-Err-Memory.field-0-is) in
+    answer_after OutOfMemory memory_line got.0 (EndsPrinting (head_lines c.args.heads.now)) (held c.args.sink.now) (held c.print_heads.new.sink) (held c.out_of_memory.new.sink)
+    (faults c.args.sink.now) (faults c.print_heads.new.sink) (faults c.out_of_memory.new.sink) c.out_of_memory.result
+    got.2 (c.in-Err-Memory.ensures.told (λ e. cc)) (got.0, got.1, refl) c.out_of_memory.ensures.answer
 
 pub returns-in-Ok : goal.returns-in-Ok
 returns-in-Ok g c =

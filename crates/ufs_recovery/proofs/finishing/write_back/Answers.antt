@@ -10,8 +10,8 @@ use Rattle.ufs_recovery.proofs.Finished.{is_written, may_finish, may_follow, ove
 use Rattle.ufs_recovery.proofs.SuperblockPut.{kept_on, still_opens}
 use Rattle.ufs_recovery.proofs.finishing.write_back.Goals as goal
 
-pub returns-in_default-clause-tree : goal.returns-in_default-clause-tree
-returns-in_default-clause-tree g c visible settled may = started _ _ _ (still_opens (g.D.Disk.size c.args.disk.now) (g.D.Disk.moments c.args.disk.now).state settled)
+pub returns-in_err-plan-clause-tree : goal.returns-in_err-plan-clause-tree
+returns-in_err-plan-clause-tree g c visible settled may = started _ _ _ (still_opens (g.D.Disk.size c.args.disk.now) (g.D.Disk.moments c.args.disk.now).state settled)
 
 pub returns-clause-written : goal.returns-clause-written
 returns-clause-written g c visible =
@@ -21,16 +21,17 @@ returns-clause-written g c visible =
     let after = reads (g.D.Disk.moments c.finish.new.disk) in
     let v = c.args.volume.now in
     let f = c.args.findings.now in
-    let plan = c.in-Ok.plan in
+    let plan = c.in_ok-plan.plan in
     on_ok_weaker c.finish.result (λ fin settled may.
     let is = over size image v f may v.same in
-    let follow = may_follow size image v f may plan.superblock c.in-Ok.ensures.geometry c.in-Ok.ensures.epoch c.in-Ok.ensures.in_use in
+    let follow = may_follow size image v f may plan.superblock c.in_ok-plan.ensures.geometry c.in_ok-plan.ensures.epoch c.in_ok-plan.ensures.in_use in
     let begun : HasBegun size (volume_in v image) plan.superblock mid = was_done _ c.in_ok-of_device.ensures.done (c.begin.ensures.begun visible) (volume_in v image) settled is follow in
-    let can = may_finish size image v f may plan.superblock c.in-Ok.ensures.geometry c.in-Ok.ensures.epoch c.in-Ok.ensures.in_use mid begun plan.orphans.numbers.items plan.orphans.dirs.items
-    (c.in-Ok.ensures.orphans (folded_image v image) may.found may.whole) (c.in-Ok.ensures.dirs (folded_image v image) may.found may.whole) (c.in-Ok.ensures.inodes (folded_image v image) may.found) in
-    let finished : HasFinished size plan.superblock after = subst (λ n. HasFinished n plan.superblock after) c.begin.ensures.size
+    let can = may_finish size image v f may plan.superblock c.in_ok-plan.ensures.geometry c.in_ok-plan.ensures.epoch c.in_ok-plan.ensures.in_use mid begun plan.orphans.numbers.items plan.orphans.dirs.items
+    (c.in_ok-plan.ensures.orphans (folded_image v image) may.found may.whole) (c.in_ok-plan.ensures.dirs (folded_image v image) may.found may.whole) (c.in_ok-plan.ensures.inodes (folded_image v image) may.found) in
+    let finished : HasFinished size plan.superblock mid after = subst (λ n. HasFinished n plan.superblock mid after) c.begin.ensures.size
     (fin (was_done _ c.in_ok-of_device.ensures.done (c.begin.ensures.settled visible)) (subst (λ n. MayFinish n plan.superblock mid v.superblock.geometry f plan.orphans.numbers.items plan.orphans.dirs.items) (sym c.begin.ensures.size) can)) in
-    is_written size image v f may plan.superblock c.in-Ok.ensures.geometry c.in-Ok.ensures.epoch c.in-Ok.ensures.in_use after v.highest finished c.in-Ok.ensures.version c.in-Ok.ensures.known c.in-Ok.ensures.above v.superblock.same)
+    is_written size image v f may plan.superblock c.in_ok-plan.ensures.geometry c.in_ok-plan.ensures.epoch c.in_ok-plan.ensures.in_use mid after v.highest begun finished c.in_ok-plan.ensures.version c.in_ok-plan.ensures.known c.in_ok-plan.ensures.above
+    (c.in_ok-plan.ensures.least (folded_image v image) may.found) v.superblock.same)
     (c.finish.ensures.finished visible)
 
 pub returns-clause-tree : goal.returns-clause-tree
@@ -40,12 +41,12 @@ returns-clause-tree g c visible settled may =
     let mid = reads (g.D.Disk.moments c.begin.new.disk) in
     let v = c.args.volume.now in
     let f = c.args.findings.now in
-    let plan = c.in-Ok.plan in
+    let plan = c.in_ok-plan.plan in
     let is = over size image v f may v.same in
-    let follow = may_follow size image v f may plan.superblock c.in-Ok.ensures.geometry c.in-Ok.ensures.epoch c.in-Ok.ensures.in_use in
+    let follow = may_follow size image v f may plan.superblock c.in_ok-plan.ensures.geometry c.in_ok-plan.ensures.epoch c.in_ok-plan.ensures.in_use in
     let begun : HasBegun size (volume_in v image) plan.superblock mid = was_done _ c.in_ok-of_device.ensures.done (c.begin.ensures.begun visible) (volume_in v image) settled is follow in
-    let can = may_finish size image v f may plan.superblock c.in-Ok.ensures.geometry c.in-Ok.ensures.epoch c.in-Ok.ensures.in_use mid begun plan.orphans.numbers.items plan.orphans.dirs.items
-    (c.in-Ok.ensures.orphans (folded_image v image) may.found may.whole) (c.in-Ok.ensures.dirs (folded_image v image) may.found may.whole) (c.in-Ok.ensures.inodes (folded_image v image) may.found) in
+    let can = may_finish size image v f may plan.superblock c.in_ok-plan.ensures.geometry c.in_ok-plan.ensures.epoch c.in_ok-plan.ensures.in_use mid begun plan.orphans.numbers.items plan.orphans.dirs.items
+    (c.in_ok-plan.ensures.orphans (folded_image v image) may.found may.whole) (c.in_ok-plan.ensures.dirs (folded_image v image) may.found may.whole) (c.in_ok-plan.ensures.inodes (folded_image v image) may.found) in
     kept_on _ size _ _ _ (c.begin.ensures.tree visible (volume_in v image) settled is follow)
     (subst (λ n. KeepsTree g.D.Disk.keeps n (g.D.Disk.moments c.begin.new.disk) (g.D.Disk.moments c.finish.new.disk)) c.begin.ensures.size
     (c.finish.ensures.tree visible (was_done _ c.in_ok-of_device.ensures.done (c.begin.ensures.settled visible)) (subst (λ n. MayFinish n plan.superblock mid v.superblock.geometry f plan.orphans.numbers.items plan.orphans.dirs.items) (sym c.begin.ensures.size) can)))
@@ -56,4 +57,4 @@ returns-in_err-of_device-clause-tree g c visible settled may =
     let image = reads (g.D.Disk.moments c.args.disk.now) in
     let v = c.args.volume.now in
     let f = c.args.findings.now in
-    c.begin.ensures.tree visible (volume_in v image) settled (over size image v f may v.same) (may_follow size image v f may c.in-Ok.plan.superblock c.in-Ok.ensures.geometry c.in-Ok.ensures.epoch c.in-Ok.ensures.in_use)
+    c.begin.ensures.tree visible (volume_in v image) settled (over size image v f may v.same) (may_follow size image v f may c.in_ok-plan.plan.superblock c.in_ok-plan.ensures.geometry c.in_ok-plan.ensures.epoch c.in_ok-plan.ensures.in_use)

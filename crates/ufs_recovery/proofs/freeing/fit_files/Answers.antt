@@ -15,10 +15,16 @@ use Rattle.ufs_recovery.proofs.freeing.fit_files.Goals as goal
 pub returns-then-are_fitted-clause-fitted : goal.returns-then-are_fitted-clause-fitted
 returns-then-are_fitted-clause-fitted g c visible = always_ok c.used_blocks.result (λ superblock may.
     is_fitted (g.D.Disk.size c.args.disk.now) superblock c.args.geometry.now c.args.findings.now.forms (reads (g.D.Disk.moments c.args.disk.now)) may
-    (none_extra c.args.findings.now.forms c.forms.result.now _ c.forms.ensures c.requires.read (c.are_fitted.ensures c.if-are_fitted.true)))
+    (none_extra c.args.findings.now.forms c.forms.result.now _ c.forms.ensures c.requires.read (c.are_fitted.ensures.yes c.if-are_fitted.true)))
 
 pub returns-then-are_fitted-clause-tree : goal.returns-then-are_fitted-clause-tree
 returns-then-are_fitted-clause-tree g c visible settled superblock may = started _ _ _ (still_opens (g.D.Disk.size c.args.disk.now) (g.D.Disk.moments c.args.disk.now).state settled)
+
+pub returns-in_err-fit-clause-tree : goal.returns-in_err-fit-clause-tree
+returns-in_err-fit-clause-tree g c visible settled superblock may =
+    let size = g.D.Disk.size c.args.disk.now in
+    let first = reads (g.D.Disk.moments c.args.disk.now) in
+    c.fit.ensures.tree visible settled superblock (subst (λ (fs : List (Option InodeForm)). MayFit size superblock first c.args.geometry.now fs) (sym c.forms-2.ensures) may)
 
 pub returns-clause-settled : goal.returns-clause-settled
 returns-clause-settled g c visible settled =

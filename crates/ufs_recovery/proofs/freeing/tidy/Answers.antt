@@ -15,7 +15,7 @@ returns-then-has_none-clause-tidy g c visible = on_ok_weaker c.fit_files.result 
     let first = reads (g.D.Disk.moments c.args.disk.now) in
     let all = c.args.orphans.now.numbers.items in
     let dirs = c.args.orphans.now.dirs.items in
-    let pruned : IsPruned size superblock first first = none_pruned size superblock first c.args.geometry.now all dirs c.deref.result.now may c.deref.ensures.value (c.has_none.ensures c.if-has_none.true) in
+    let pruned : IsPruned size superblock first first = none_pruned size superblock first c.args.geometry.now all dirs c.deref.result.now may c.deref.ensures.value (c.has_none.ensures.yes c.if-has_none.true) in
     is_tidy size superblock first first (reads (g.D.Disk.moments c.fit_files.new.disk)) pruned
     (fitted superblock (may_fit size superblock c.args.geometry.now first first all dirs c.args.findings.now may pruned read))) (c.fit_files.ensures.fitted visible)
 
@@ -25,8 +25,11 @@ returns-then-has_none-clause-tree g c visible settled superblock may read =
     let first = reads (g.D.Disk.moments c.args.disk.now) in
     let all = c.args.orphans.now.numbers.items in
     let dirs = c.args.orphans.now.dirs.items in
-    let pruned : IsPruned size superblock first first = none_pruned size superblock first c.args.geometry.now all dirs c.deref.result.now may c.deref.ensures.value (c.has_none.ensures c.if-has_none.true) in
+    let pruned : IsPruned size superblock first first = none_pruned size superblock first c.args.geometry.now all dirs c.deref.result.now may c.deref.ensures.value (c.has_none.ensures.yes c.if-has_none.true) in
     c.fit_files.ensures.tree visible settled superblock (may_fit size superblock c.args.geometry.now first first all dirs c.args.findings.now may pruned read)
+
+pub returns-in_err-of_device-clause-tree : goal.returns-in_err-of_device-clause-tree
+returns-in_err-of_device-clause-tree g c visible settled superblock may read = c.prune.ensures.tree visible settled superblock may
 
 pub returns-in_err-found-clause-tree : goal.returns-in_err-found-clause-tree
 returns-in_err-found-clause-tree g c visible settled superblock may read =

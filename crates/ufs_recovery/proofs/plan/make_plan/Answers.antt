@@ -2,7 +2,7 @@ use Rattle.std.proofs.Common.{Option, length, ap, sym, ◌∙◌, subst, arith}
 use Rattle.ufs_layout.specs.InodeForm.{InodeForm}
 use Rattle.ufs_walk.specs.Reached.{AreReachedMarks}
 use Rattle.ufs_image.specs.Catalog.{catalog_at}
-use Rattle.ufs_recovery.proofs.Planned.{are_orphans, are_orphan_dirs, number_below}
+use Rattle.ufs_recovery.proofs.Planned.{are_orphans, are_orphan_dirs, number_below, numbers_below}
 use Rattle.ufs_recovery.proofs.plan.make_plan.Goals as goal
 
 pub returns-in-Some-clause-orphans : goal.returns-in-Some-clause-orphans
@@ -24,4 +24,12 @@ returns-in-Some-clause-inodes c folded found k ranged =
     let g = c.args.image.now.geometry in
     let above = c.in-Some.ensures.above in
     let most = c.max-highest.ensures in
-    number_below g folded c.forms-2.result.now (c.forms-2.ensures ∙ found.forms) c.highest_number.result c.in-Some.superblock.next c.highest_number.ensures (omega (arith, above, most)) k ranged
+    number_below g folded c.forms-2.result.now (c.forms-2.ensures ∙ found.forms) c.highest_number.result c.in-Some.superblock.next c.highest_number.ensures.most (omega (arith, above, most)) k ranged
+
+pub returns-in-Some-clause-least : goal.returns-in-Some-clause-least
+returns-in-Some-clause-least c folded found n from over below =
+    let g = c.args.image.now.geometry in
+    let next = c.in-Some.ensures.next in
+    let most = c.max-highest.ensures in
+    let under = c.highest_number.ensures.least n (omega (arith, over)) (numbers_below g folded c.forms-2.result.now (c.forms-2.ensures ∙ found.forms) n below) in
+    omega (arith, from, over, next, most, under)

@@ -28,8 +28,8 @@ returns-in-Err-clause-err g c told = by c.in-Err.fault refl
     })
     by (refusal.Stopped n) e = (let clash = sym c.requires.going ∙ (c.fsync.ensures.stopped n).0 (c.in-Err.is ∙ ap Err e) in absurd cc)
     by (refusal.NoSpace need had) e = (let clash : true ≡ false = ap is_no_space (sym e) ∙ c.in-Err.ensures.refused in absurd cc)
-    by refusal.Memory e = inl (record {
-      written = λ l has may. c.fsync.ensures.memory told (c.in-Err.is ∙ ap Err e) l has may;
+    by (refusal.Lack w) e = inl (record {
+      written = λ l has may. c.fsync.ensures.memory told w (c.in-Err.is ∙ ap Err e) l has may;
       unfreed = c.in-Err.ensures.unfreed;
       geometry = c.fsync.ensures.geometry;
     })

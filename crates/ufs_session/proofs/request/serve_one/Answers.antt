@@ -2,11 +2,12 @@ use Rattle.std.proofs.Common.{◌≡◌, ◌∷◌, ◌++◌, [], ℕ, List, Opt
 use Rattle.std.specs.Prelude.{IfOk, IsTrue}
 use Rattle.ufs_alike.proofs.StepLemmas.{asks}
 use Rattle.ufs_alike.proofs.TreeLemmas.{either_way}
-use Rattle.ufs_base.specs.declared.Memory.{Memory}
+use Rattle.ufs_base.specs.declared.memory.Memory.{Memory}
 use Rattle.ufs_model.specs.Asks.{file_in}
 use Rattle.ufs_model.specs.Excuses.{ExcuseFits}
 use Rattle.ufs_model.specs.declared.data.Ask.{Ask}
 use Rattle.ufs_model.specs.declared.data.Excuse.TheVariants as excuse
+use Rattle.ufs_model.specs.declared.data.Reply.TheVariants as reply
 use Rattle.ufs_names.specs.Calls.{IsOfNames}
 use Rattle.ufs_server.specs.Fetched.{IsReady}
 use Rattle.ufs_server.specs.Touching.{IsFileTouched}
@@ -100,51 +101,51 @@ returns-in-Ok-fetch-clause-told g c =
 
 -- ---- they couldn't be read
 
-pub returns-in-Err-clause-reading : goal.returns-in-Err-clause-reading
-returns-in-Err-clause-reading g c =
+pub returns-in-Err-fetch-clause-reading : goal.returns-in-Err-fetch-clause-reading
+returns-in-Err-fetch-clause-reading g c =
     let f = c.fetch.ensures in
     let mid = c.fetch.new.self in
     let ask = c.args.ask in
-    let is = c.unread-in-Err.ensures.reply in
+    let is = c.unread-in-Err-fetch.ensures.reply in
     record {
       read = mid;
       further = f.further;
       seen = λ visible start history there. parts_on_disk (g.D.Door.store c.fetch.new.door) start history mid (f.on_disk visible start history there);
       served = λ plain. let no : false ≡ true = sym plain ∙ ap is_excused is in cc;
-      fits = λ x other t parts asked. f.fits x (c.in-Err.is ∙ ap Err (same_excuse c.in-Err.excuse x (sym is ∙ other))) t (parts_before ask c.args.server.now mid t f.further parts) asked;
+      fits = λ x other t parts asked. f.fits x (c.in-Err-fetch.is ∙ ap Err (same_excuse c.in-Err-fetch.excuse x (sym is ∙ other))) t (parts_before ask c.args.server.now mid t f.further parts) asked;
       unchanged = λ excused t parts. parts;
       forgets = nothing_forgotten mid;
       away = λ plain. let no : false ≡ true = sym plain ∙ ap is_excused is in cc;
     }
 
-pub returns-in-Err-clause-on_disk : goal.returns-in-Err-clause-on_disk
-returns-in-Err-clause-on_disk g c visible start history asked legal is =
+pub returns-in-Err-fetch-clause-on_disk : goal.returns-in-Err-fetch-clause-on_disk
+returns-in-Err-fetch-clause-on_disk g c visible start history asked legal is =
     let f = c.fetch.ensures in
-    c.on_disk_law.ensures.excused (g.D.Door.store c.fetch.new.door) start history _ c.fetch.new.self (f.geometry ∙ sym c.geometry-geometry.ensures.is) legal (ap is_excused c.unread-in-Err.ensures.reply) (f.on_disk visible start history is)
+    c.on_disk_law.ensures.excused (g.D.Door.store c.fetch.new.door) start history _ c.fetch.new.self (f.geometry ∙ sym c.geometry-geometry.ensures.is) legal (ap is_excused c.unread-in-Err-fetch.ensures.reply) (f.on_disk visible start history is)
 
-pub returns-in-Err-clause-moments : goal.returns-in-Err-clause-moments
-returns-in-Err-clause-moments g c visible start history asked legal is =
+pub returns-in-Err-fetch-clause-moments : goal.returns-in-Err-fetch-clause-moments
+returns-in-Err-fetch-clause-moments g c visible start history asked legal is =
     let old = g.D.Door.store c.args.door.now in
     let mid = g.D.Door.store c.fetch.new.door in
     let f = c.fetch.ensures in
-    let entry = c.unread-in-Err.result.entry in
+    let entry = c.unread-in-Err-fetch.result.entry in
     let same = f.geometry ∙ sym c.geometry-geometry.ensures.is in
-    let next = c.on_disk_law.ensures.excused mid start history entry c.fetch.new.self same legal (ap is_excused c.unread-in-Err.ensures.reply) (f.on_disk visible start history is) in
+    let next = c.on_disk_law.ensures.excused mid start history entry c.fetch.new.self same legal (ap is_excused c.unread-in-Err-fetch.ensures.reply) (f.on_disk visible start history is) in
     throughout_one g.D.Door.keeps old.sectors start history entry old.moments mid.moments (f.moments visible start history is)
     (subst (λ (n : ℕ). IsExplainedBetween g.D.Door.keeps n start (history ++ entry ∷ []) mid.moments mid.moments) f.sectors (c.always_law.ensures.rest g.D.Door.keeps mid start (history ++ entry ∷ []) c.fetch.new.self same next))
 
-pub returns-in-Err-clause-told : goal.returns-in-Err-clause-told
-returns-in-Err-clause-told g c =
+pub returns-in-Err-fetch-clause-told : goal.returns-in-Err-fetch-clause-told
+returns-in-Err-fetch-clause-told g c =
     let f = c.fetch.ensures in
-    read_failed (g.D.Door.store c.args.door.now) (g.D.Door.store c.fetch.new.door) c.in-Err.excuse c.in-Err.ensures.excused f.stop
-    (λ fault device. f.told fault (c.in-Err.is ∙ ap Err device)) (λ none. f.untold (ap device_told c.in-Err.is ∙ none)) c.unread-in-Err.result.entry.reply c.unread-in-Err.ensures.reply
+    read_failed (g.D.Door.store c.args.door.now) (g.D.Door.store c.fetch.new.door) c.in-Err-fetch.excuse c.in-Err-fetch.ensures.excused f.stop
+    (λ fault device. f.told fault (c.in-Err-fetch.is ∙ ap Err device)) (λ none. f.untold (ap device_told c.in-Err-fetch.is ∙ none)) c.unread-in-Err-fetch.result.entry.reply c.unread-in-Err-fetch.ensures.reply
 
 -- ---- the file isn't known
 
-pub returns-in_default-clause-reading : goal.returns-in_default-clause-reading
-returns-in_default-clause-reading g c =
+pub returns-in-Err-clause-reading : goal.returns-in-Err-clause-reading
+returns-in-Err-clause-reading g c =
     let p = c.args.server.now in
-    let is = c.unread.ensures.reply in
+    let is = c.unread.ensures.reply ∙ ap reply.Excused c.from.ensures in
     record {
       read = p;
       further = none_read (geometry_of_store (g.D.Door.store c.args.door.now)) (g.D.Door.store c.args.door.now).unassigned.free c.args.ask p c.requires.sound;
@@ -156,12 +157,12 @@ returns-in_default-clause-reading g c =
       away = λ plain. let no : false ≡ true = sym plain ∙ ap is_excused is in cc;
     }
 
-pub returns-in_default-clause-on_disk : goal.returns-in_default-clause-on_disk
-returns-in_default-clause-on_disk g c visible start history asked legal is =
+pub returns-in-Err-clause-on_disk : goal.returns-in-Err-clause-on_disk
+returns-in-Err-clause-on_disk g c visible start history asked legal is =
     c.on_disk_law.ensures.excused (g.D.Door.store c.args.door.now) start history _ c.args.server.now (sym c.geometry-geometry.ensures.is) legal (ap is_excused c.unread.ensures.reply) is
 
-pub returns-in_default-clause-moments : goal.returns-in_default-clause-moments
-returns-in_default-clause-moments g c visible start history asked legal is =
+pub returns-in-Err-clause-moments : goal.returns-in-Err-clause-moments
+returns-in-Err-clause-moments g c visible start history asked legal is =
     let s = g.D.Door.store c.args.door.now in
     let p = c.args.server.now in
     let entry = c.unread.result.entry in
@@ -170,7 +171,7 @@ returns-in_default-clause-moments g c visible start history asked legal is =
     throughout_one g.D.Door.keeps s.sectors start history entry s.moments s.moments (c.always_law.ensures.rest g.D.Door.keeps s start history p same is)
     (c.always_law.ensures.rest g.D.Door.keeps s start (history ++ entry ∷ []) p same next)
 
-pub returns-in_default-clause-told : goal.returns-in_default-clause-told
-returns-in_default-clause-told g c =
+pub returns-in-Err-clause-told : goal.returns-in-Err-clause-told
+returns-in-Err-clause-told g c =
     let s = g.D.Door.store c.args.door.now in
-    read_failed s s excuse.Memory refl refl (λ fault device. absurd cc) (λ none. inl refl) c.unread.result.entry.reply c.unread.ensures.reply
+    read_failed s s excuse.Memory refl refl (λ fault device. absurd cc) (λ none. inl refl) c.unread.result.entry.reply (c.unread.ensures.reply ∙ ap reply.Excused c.from.ensures)

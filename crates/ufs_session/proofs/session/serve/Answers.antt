@@ -1,4 +1,5 @@
-use Rattle.std.proofs.Common.{◌≡◌, List, [], Result, ap, map, sym, subst}
+use Rattle.std.proofs.Common.{◌≡◌, ◌∙◌, List, [], Result, ap, map, sym, subst}
+use Rattle.ufs_base.specs.Wanting.{wanting}
 use Rattle.ufs_client.proofs.Lists.{once_rising, rising_from}
 use Rattle.ufs_client.specs.declared.played.EndFault.{EndFault}
 use Rattle.ufs_client.specs.declared.played.EndFault.TheVariants as fault
@@ -61,16 +62,16 @@ module _ (g : Over) (c : After-unbegun g) where
   first = g.D.Door.store c.args.door
 
   abbrev last : StoreState
-  last = g.D.Door.store c.in-Err.failed.value
+  last = g.D.Door.store c.beside-door.result.1
 
   same_store : first ≡ last
-  same_store = ap g.D.Door.store (sym c.in-Err.ensures.value_returned)
+  same_store = ap g.D.Door.store (sym c.in-Err.ensures.value_returned ∙ sym c.beside-door.ensures)
 
   unserved : AreServed c.args.opened.start g.D.Door.visible g.D.Door.keeps first last c.args.server.now c.args.server.now c.args.clients c.unbegun.result.told c.unbegun.result.ended
   unserved =
       let none = c.unbegun.ensures in
       subst (λ (x : StoreState × Result (Unit {0}) EndFault). AreServed c.args.opened.start g.D.Door.visible g.D.Door.keeps first x.0 c.args.server.now c.args.server.now c.args.clients c.unbegun.result.told x.1) (λ i. (same_store i, sym none.ended i))
-      (ended_at_once c.args.opened.start g.D.Door.visible g.D.Door.keeps c.args.server.now first c.args.clients c.unbegun.result.told fault.Memory none.told c.requires.start
+      (ended_at_once c.args.opened.start g.D.Door.visible g.D.Door.keeps c.args.server.now first c.args.clients c.unbegun.result.told (fault.Memory wanting) none.told c.requires.start
       (λ start there. c.always_law.ensures.rest g.D.Door.keeps first start [] c.args.server.now (sym c.geometry-geometry.ensures.is) there) c.requires.sound)
 
   unstamped : AreMomentsStamped c.args.opened.start.tree (joined c.unbegun.result.told) last.sectors first.moments last.moments

@@ -112,7 +112,7 @@ pub serve_request-next-requires-clause-ticket : goal.serve_request-next-requires
 serve_request-next-requires-clause-ticket g c =
     let at = (goal.at.serve_request-next-requires-clause-ticket g c).After-ask-asked in
     let count = length-append (before g at) (told g at) in
-    omega (arith, count, c.requires.first, c.from.ensures, (one g at).1.long)
+    omega (arith, count, c.requires.first, c.from-in-loop-op.ensures, (one g at).1.long)
 
 pub serve_request-next-requires-clause-numbers : goal.serve_request-next-requires-clause-numbers
 serve_request-next-requires-clause-numbers g c =
@@ -180,19 +180,19 @@ overflow_add-seq g c =
 
 -- ---- where no room is left
 
-pub returns-then-is_err-clause-resting : goal.returns-then-is_err-clause-resting
-returns-then-is_err-clause-resting g c =
+pub returns-in-Err-clause-resting : goal.returns-in-Err-clause-resting
+returns-in-Err-clause-resting g c =
     subst (λ (told : List Entry). IsResting g.N.Naming.start g.D.Door.keeps g.F.Since.count c.args.client 1 (had_as g.N.Naming.start (joined c.args.earlier.now.items ++ told)) (g.D.Door.store c.loop-op.running.door) c.loop-op.running.hand c.loop-op.running.apart) (sym c.reserve.ensures.items)
     c.loop-op.invariant.resting
 
-pub returns-then-is_err-clause-goes_on : goal.returns-then-is_err-clause-goes_on
-returns-then-is_err-clause-goes_on g c =
+pub returns-in-Err-clause-goes_on : goal.returns-in-Err-clause-goes_on
+returns-in-Err-clause-goes_on g c =
     let ready = c.requires.ready in
     let one = one_serving (c.loop-op.invariant.reading ready.0 ready.1 ready.2) refl in
     subst (GoesOn (joined c.args.earlier.now.items) c.args.client c.args.requests) (sym c.reserve.ensures.items) one.1.goes
 
-pub returns-then-is_err-clause-served : goal.returns-then-is_err-clause-served
-returns-then-is_err-clause-served g c begun picks new_to =
+pub returns-in-Err-clause-served : goal.returns-in-Err-clause-served
+returns-in-Err-clause-served g c begun picks new_to =
     let l = c.loop-op in
     let first = g.D.Door.store c.args.running.door in
     let reading = l.invariant.reading begun picks new_to in

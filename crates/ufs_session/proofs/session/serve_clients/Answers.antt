@@ -1,6 +1,7 @@
 use Rattle.std.proofs.Common.{◌≡◌, ◌++◌, ◌∷◌, [], List, ap, arith, length, sym, refl, ◌∙◌, subst, ◌+◌, ℕ, Err, Result}
 use Rattle.std.specs.Prelude.{OnOk}
-use Rattle.ufs_base.specs.declared.Memory.{Memory}
+use Rattle.ufs_base.specs.Wanting.{wanting}
+use Rattle.ufs_base.specs.declared.memory.Memory.{Memory}
 use Rattle.ufs_model.specs.History.{AreFaultsOnce, joined}
 use Rattle.ufs_model.specs.PosixTree.{PosixTree}
 use Rattle.ufs_model.specs.declared.data.Op.{Op}
@@ -41,22 +42,22 @@ loop-requests-init g c =
 
 -- ---- where no room is left
 
-pub returns-then-is_err-clause-served : goal.returns-then-is_err-clause-served
-returns-then-is_err-clause-served g c =
+pub returns-in-Err-clause-served : goal.returns-in-Err-clause-served
+returns-in-Err-clause-served g c =
     let l = c.loop-requests in
     let first = g.D.Door.store c.args.running.door in
     let now = g.D.Door.store l.running.door in
     let k = g.N.Naming.start in
     let inv = l.invariant in
-    subst (λ (told : List (List Entry)). AreServed k g.D.Door.visible g.D.Door.keeps first now c.args.server.now l.server c.args.clients told (Err fault.Memory)) (sym c.reserve.ensures.items)
-    (served_all k g.D.Door.visible g.D.Door.keeps c.args.server.now first now l.server c.args.clients l.told.items (Err fault.Memory) (record {
+    subst (λ (told : List (List Entry)). AreServed k g.D.Door.visible g.D.Door.keeps first now c.args.server.now l.server c.args.clients told (Err (fault.Memory wanting))) (sym c.reserve.ensures.items)
+    (served_all k g.D.Door.visible g.D.Door.keeps c.args.server.now first now l.server c.args.clients l.told.items (Err (fault.Memory wanting)) (record {
       on = inv.reading.on;
       each = λ start may.
-          played_here start c.args.clients l.told.items l.server l.client l.first l.yielded _ (inv.reading.each start may) (once_told first now (joined l.told.items) inv.faults) (Err fault.Memory) (λ ok. cc);
+          played_here start c.args.clients l.told.items l.server l.client l.first l.yielded _ (inv.reading.each start may) (once_told first now (joined l.told.items) inv.faults) (Err (fault.Memory wanting)) (λ ok. cc);
     }) inv.faults inv.sound inv.geometry inv.sectors)
 
-pub returns-then-is_err-clause-resting : goal.returns-then-is_err-clause-resting
-returns-then-is_err-clause-resting g c =
+pub returns-in-Err-clause-resting : goal.returns-in-Err-clause-resting
+returns-in-Err-clause-resting g c =
     subst (λ (told : List (List Entry)). IsResting g.N.Naming.start g.D.Door.keeps g.F.Since.count 0 (length c.args.clients) (had_as g.N.Naming.start (joined told)) (g.D.Door.store c.loop-requests.running.door) c.loop-requests.running.hand c.loop-requests.running.apart) (sym c.reserve.ensures.items)
     c.loop-requests.invariant.resting
 
@@ -194,9 +195,9 @@ module _ (g : Over) (c : After-unwrap g) where
       (with_more g.N.Naming.start g.D.Door.visible g.D.Door.keeps c.args.server.now (g.D.Door.store c.args.running.door) (g.D.Door.store c.loop-requests.running.door) c.loop-requests.server (g.D.Door.store s.result.0.door) s.new.server
       (joined earlier) mine Each read (More (earlier ++ mine ∷ [])) more c.loop-requests.invariant.sectors goes))
 
-pub returns-in-Err-clause-served : goal.returns-in-Err-clause-served
-returns-in-Err-clause-served g c =
-    let at = goal.at.returns-in-Err-clause-served g c in
+pub returns-in-Err-ended-clause-served : goal.returns-in-Err-ended-clause-served
+returns-in-Err-ended-clause-served g c =
+    let at = goal.at.returns-in-Err-ended-clause-served g c in
     let before = at.After-new-mine in
     let l = c.loop-requests in
     let s = c.serve_client-next in
@@ -208,14 +209,14 @@ returns-in-Err-clause-served g c =
     let once = subst (λ (told : List (List Entry)). AreFaultsOnce (joined told)) (pushed g at.After-unwrap) (once_told first later (joined c.push.new.self.items) faults) in
     let read = so_far g before in
     let more = (s.ensures.served c.args.server.now read.on.more (new_here g before)).on in
-    served_all g.N.Naming.start g.D.Door.visible g.D.Door.keeps c.args.server.now first later s.new.server c.args.clients c.push.new.self.items (Err fault.Memory)
-    (read_behind g at.After-unwrap (IsSoFar g before) read (λ told start. IsPlayedFrom start c.args.clients told (Err fault.Memory) (joined told)) more
+    served_all g.N.Naming.start g.D.Door.visible g.D.Door.keeps c.args.server.now first later s.new.server c.args.clients c.push.new.self.items (Err (fault.Memory wanting))
+    (read_behind g at.After-unwrap (IsSoFar g before) read (λ told start. IsPlayedFrom start c.args.clients told (Err (fault.Memory wanting)) (joined told)) more
     (λ start is may left.
-    played_more start c.args.clients earlier l.server l.client l.first l.yielded c.in-Some.requests c.next.new.self.rest.items is mine s.ensures.goes_on s.new.server left once (Err fault.Memory) refl))
+    played_more start c.args.clients earlier l.server l.client l.first l.yielded c.in-Some.requests c.next.new.self.rest.items is mine s.ensures.goes_on s.new.server left once (Err (fault.Memory wanting)) refl))
     faults s.ensures.sound (s.ensures.geometry ∙ l.invariant.geometry) (s.ensures.sectors ∙ l.invariant.sectors)
 
-pub returns-in-Err-clause-resting : goal.returns-in-Err-clause-resting
-returns-in-Err-clause-resting g c = resting_behind g (goal.at.returns-in-Err-clause-resting g c).After-unwrap
+pub returns-in-Err-ended-clause-resting : goal.returns-in-Err-ended-clause-resting
+returns-in-Err-ended-clause-resting g c = resting_behind g (goal.at.returns-in-Err-ended-clause-resting g c).After-unwrap
 
 pub loop-requests-preserved : goal.loop-requests-preserved
 loop-requests-preserved g c =

@@ -1,6 +1,7 @@
 use Rattle.std.proofs.Common.{ℕ, List, [], Result, map, ap, ◌∙◌, sym, subst, arith}
 use Rattle.std.specs.Prelude.{drop}
 use Rattle.std.specs.FinMap as fin
+use Rattle.ufs_base.specs.Wanting.{wanting}
 use Rattle.ufs_client.specs.declared.played.EndFault.{EndFault}
 use Rattle.ufs_client.specs.declared.played.EndFault.TheVariants as fault
 use Rattle.ufs_disk.specs.Disk.{State}
@@ -58,5 +59,5 @@ returns-in-Err-clause-served g c =
     let s = g.D.Door.store c.args.door in
     let none = c.unbegun-session in
     subst (λ (ended : Result (Unit {0}) EndFault). AreServed g.N.Naming.start g.D.Door.visible g.D.Door.keeps s s c.args.server.now c.args.server.now c.args.clients none.result.told ended) (sym none.ensures.ended)
-    (ended_at_once g.N.Naming.start g.D.Door.visible g.D.Door.keeps c.args.server.now s c.args.clients none.result.told fault.Memory none.ensures.told c.requires.start
+    (ended_at_once g.N.Naming.start g.D.Door.visible g.D.Door.keeps c.args.server.now s c.args.clients none.result.told (fault.Memory wanting) none.ensures.told c.requires.start
     (λ start is. c.always_law.ensures.rest g.D.Door.keeps s start [] c.args.server.now (sym c.geometry-geometry.ensures.is) is) c.requires.sound)

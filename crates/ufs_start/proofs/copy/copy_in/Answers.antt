@@ -24,13 +24,13 @@ returns-clause-same g c visible first =
     let front : Image = image_of (bytes_of c.in_ok-copy.copy) in
     let own = c.requires.fields ∙ sym (ap (λ (bytes : List ℕ). geometry_of (superblock_of (λ _. bytes))) c.in_ok-copy.ensures.first) in
     let begins = c.first_of_data.ensures in
-    used_there h disk front (image_of (bytes_of c.copy_blocks.new.copy)) c.in-Ok.end
+    used_there h disk front (image_of (bytes_of c.copy_blocks.new.copy)) c.in_ok-end.end
     (record {
-      least = c.in-Ok.ensures.least;
+      least = c.in_ok-end.ensures.least;
       front_is = c.in_ok-copy.ensures.same visible first;
       kept = λ s before. c.copy_blocks.ensures.before s (omega (arith, before, begins)) ∙ ap (λ (d : Image). d s) c.end_of_used.ensures.image;
       there = λ s low high. c.in_ok-copy_blocks.ensures.there visible s (omega (arith, low, begins)) high ∙ ap (λ (d : Image). d s) (c.metadata_of.ensures.read_only visible).content;
-      behind = λ v e. c.in-Ok.ensures.behind v (ap (λ n. volume n front) c.in_ok-copy.ensures.sectors ∙ e);
+      behind = λ v e. c.in_ok-end.ensures.behind v (ap (λ n. volume n front) c.in_ok-copy.ensures.sectors ∙ e);
     })
     own
 

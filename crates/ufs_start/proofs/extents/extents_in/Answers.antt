@@ -26,13 +26,9 @@ returns-clause-runs c =
     let xs = c.args.form.now.extents in
     let long = ap (length {A = Extent}) c.used_extents-extent-items.ensures in
     let all : take c.loop-extent.extent-index xs ≡ xs = take_all c.loop-extent.extent-index xs (omega (arith, c.loop-extent-test.false, long)) in
-    if_ok c.from_runs.result (λ (e : List Run). e ≡ c.as_slice-2.result.now) (λ (e : List Run). e ≡ map run_of xs)
-    (λ e is. is ∙ c.as_slice-2.ensures.items ∙ c.loop-extent.invariant ∙ ap (map run_of) all)
-    c.from_runs.ensures
+    c.in_ok-from_runs.ensures ∙ c.as_slice-2.ensures.items ∙ c.loop-extent.invariant ∙ ap (map run_of) all
 
 pub returns-clause-blocks : goal.returns-clause-blocks
 returns-clause-blocks c =
     let xs = c.args.form.now.extents in
-    if_ok c.from_runs.result (λ (e : List Run). e ≡ map run_of xs) (λ (e : List Run). runs.blocks_of e ≡ nodes.blocks_of c.args.form.now)
-    (λ e is. ap runs.blocks_of is ∙ runs_blocks xs)
-    (returns-clause-runs c)
+    ap runs.blocks_of (returns-clause-runs c) ∙ runs_blocks xs

@@ -31,7 +31,9 @@ returns-in-Some-clause-fault c image u =
     let g = c.args.geometry.now in
     let is = c.damage_law.ensures.catalog image u.whole in
     let forms : length c.forms.result.now ≡ g.inodes = ap length c.forms.ensures ∙ forms_counted g image c.args.findings.now u.found in
-    let last = c.in-Some.ensures.within in
-    unnamed_file g image c.args.findings.now c.requires.geometry u is (c.damage_law.ensures.sound image (catalog_at g image) is u.whole) c.in_ok-numbers.numbers.files.items
-    (c.in_ok-numbers.ensures.numbers image u) c.in-Some.inode (record { from_one = c.in-Some.ensures.from_one; within = omega (arith, forms, last) })
-    (sym (λ i. is_unnamed_in (c.forms.ensures i) (c.deref.ensures.value i) c.in-Some.inode) ∙ c.in-Some.ensures.unnamed)
+    let last = c.in-Some.ensures.within in (
+      unnamed_file g image c.args.findings.now c.requires.geometry u is (c.damage_law.ensures.sound image (catalog_at g image) is u.whole) c.in_ok-numbers.numbers.files.items
+          (c.in_ok-numbers.ensures.numbers image u) c.in-Some.inode (record { from_one = c.in-Some.ensures.from_one; within = omega (arith, forms, last) })
+          (sym (λ i. is_unnamed_in (c.forms.ensures i) (c.deref.ensures.value i) c.in-Some.inode) ∙ c.in-Some.ensures.unnamed),
+      c.requires.whole image u,
+    )

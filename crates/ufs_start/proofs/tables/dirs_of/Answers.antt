@@ -15,7 +15,7 @@ use Rattle.ufs_dir_image.specs.Tables.{IsTableOf}
 use Rattle.ufs_start.specs.Starts.{IsUndamaged}
 use Rattle.ufs_start.proofs.Tabled.{is_table}
 use Rattle.ufs_start.proofs.TableLemmas.{read_forms}
-use Rattle.ufs_start.proofs.Reaching.{all_reached, cut_off}
+use Rattle.ufs_start.proofs.Reaching.{all_reached, cut_off, none_cut}
 use Rattle.ufs_start.proofs.tables.dirs_of.Goals as goal
 
 pub all_dirs-requires-clause-counted : goal.all_dirs-requires-clause-counted
@@ -80,6 +80,18 @@ returns-clause-dirs c image u =
     subst (IsTableOf g (catalog_at g image)) (sym c.from_parts.ensures)
     (is_table g image c.args.findings.now u is sound t c.in_ok-dirs.ensures.counted c.in_ok-dirs.ensures.read
     (λ i. c.in_ok-free.ensures.free i ∙ ap (λ (forms : List (Option InodeForm)). is_between 2 (g.inodes + 1) i && not (is_used_in forms i)) c.forms.ensures))
+
+pub returns-clause-whole : goal.returns-clause-whole
+returns-clause-whole c image u =
+    let g = c.args.geometry.now in
+    let is = c.damage_law.ensures.catalog image u.whole in
+    let sound = c.damage_law.ensures.sound image (catalog_at g image) is u.whole in
+    let t : DirTable = record { dirs = c.in_ok-dirs.dirs.items; free = c.in_ok-free.free.free } in
+    let of = is_table g image c.args.findings.now u is sound t c.in_ok-dirs.ensures.counted c.in_ok-dirs.ensures.read
+    (λ i. c.in_ok-free.ensures.free i ∙ ap (λ (forms : List (Option InodeForm)). is_between 2 (g.inodes + 1) i && not (is_used_in forms i)) c.forms.ensures) in
+    none_cut g image (catalog_at g image) t (has_root g c.requires.geometry) is sound of c.in_ok-marks.marks.items (c.in_ok-marks.ensures.marks image u.found u.whole)
+    (λ place name has. ap (λ (l : List Bool). slice_get l place) (sym c.as_slice-2.ensures.value)
+    ∙ c.in_default.ensures.none place name (subst (λ (ds : List Directory). IsSome (entry_of (dir_in ds (place + 1)).slots name)) (sym c.as_slice.ensures.value) has))
 
 pub returns-in-Some-clause-fault : goal.returns-in-Some-clause-fault
 returns-in-Some-clause-fault c image u =

@@ -19,8 +19,8 @@ same_volume v w e = cc
 pub returns-in-Err-clause-image : goal.returns-in-Err-clause-image
 returns-in-Err-clause-image c = (c.read_volume.ensures.read_only refl).content
 
-pub returns-in_default-clause-image : goal.returns-in_default-clause-image
-returns-in_default-clause-image c = (c.read_findings.ensures.read_only refl).content ∙ (c.read_volume.ensures.read_only refl).content
+pub returns-in-Err-read_findings-clause-image : goal.returns-in-Err-read_findings-clause-image
+returns-in-Err-read_findings-clause-image c = (c.read_findings.ensures.read_only refl).content ∙ (c.read_volume.ensures.read_only refl).content
 
 pub returns-clause-image : goal.returns-clause-image
 returns-clause-image c = (c.read_findings.ensures.read_only refl).content ∙ (c.read_volume.ensures.read_only refl).content

@@ -17,7 +17,7 @@ returns-in-Ok-clause-crash g c visible l has =
     let new = g.D.Disk.moments c.checkpoint.new.disk in
     let size = g.D.Disk.size c.args.disk.now in
     let home = block_at (home_of l (reads old)) in
-    subst (λ (h : Super). LeavesOnly g.D.Disk.keeps (IsLeftByAny size (l ∷ beginning h home l ∷ [])) old new) c.in-Some.ensures
+    subst (λ (h : Super). LeavesOnly g.D.Disk.keeps (IsLeftByAny size (l ∷ beginning h home l ∷ [])) old new) c.in-Some.ensures.superblock
     (by_two size g.D.Disk.keeps l (beginning c.in-Some.superblock home l) old new (c.checkpoint.ensures.crash visible l has.by has.added))
 
 pub returns-in-Ok-clause-ok : goal.returns-in-Ok-clause-ok
@@ -27,13 +27,13 @@ returns-in-Ok-clause-ok g c visible l has =
     let by = c.in-Ok.ensures.ok visible l has.by has.added in
     let superblock : Super = record (c.args.tables.now.superblock) { epoch = c.args.tables.now.superblock.epoch + 1; next = c.args.tables.now.journal.number; clean = false } in
     let there : IsLedgerBy c.checkpoint.new.journal (g.D.Disk.size c.checkpoint.new.disk) new.state (emptied superblock home l) =
-    subst (λ (h : Super). IsLedgerBy c.checkpoint.new.journal (g.D.Disk.size c.checkpoint.new.disk) new.state (emptied h home l)) c.in-Some.ensures by in
+    subst (λ (h : Super). IsLedgerBy c.checkpoint.new.journal (g.D.Disk.size c.checkpoint.new.disk) new.state (emptied h home l)) c.in-Some.ensures.superblock by in
     let same = there.geometry ∙ c.checkpoint.ensures.geometry ∙ sym has.by.geometry in
     let still = c.checkpoint.ensures.number in
     record {
       going = c.requires.going;
       by = there;
-      superblock_is = sym c.in-Some.ensures;
+      superblock_is = sym c.in-Some.ensures.superblock;
       added = c.empty_after_epoch.ensures.none;
       numbered = refl;
       unused = λ txn _. unused_at_first c.checkpoint.new.journal.geometry c.checkpoint.new.journal.epoch c.checkpoint.new.journal.used c.checkpoint.new.journal.number txn new.state c.in-Ok.ensures.used by.ready;
@@ -48,5 +48,5 @@ returns-in-Err-clause-crash g c visible l has =
     let new = g.D.Disk.moments c.checkpoint.new.disk in
     let size = g.D.Disk.size c.args.disk.now in
     let home = block_at (home_of l (reads old)) in
-    subst (λ (h : Super). LeavesOnly g.D.Disk.keeps (IsLeftByAny size (l ∷ beginning h home l ∷ [])) old new) c.in-Some.ensures
+    subst (λ (h : Super). LeavesOnly g.D.Disk.keeps (IsLeftByAny size (l ∷ beginning h home l ∷ [])) old new) c.in-Some.ensures.superblock
     (by_two size g.D.Disk.keeps l (beginning c.in-Some.superblock home l) old new (c.checkpoint.ensures.crash visible l has.by has.added))

@@ -69,7 +69,7 @@ returns-in_err-commit_names-clause-err g c visible =
     (λ fault e. let clash = sym going ∙ (c.commit_names.ensures.stopped fault).0 e in cc)
     (λ fault e. inr (c.names_law.ensures.stop mid new start history p c.args.log.now beside noted table
     (subst IsSome (sym (stop_is mid.stop new.stop _ going c.commit_names.ensures.stop ∙ ap fault_in e)) refl) (c.commit_names.ensures.device visible fault e) ready))
-    (λ e. inl (c.names_law.ensures.memory mid new start history p beside (c.commit_names.ensures.memory visible e) ready))) in
+    (λ w e. inl (c.names_law.ensures.memory mid new start history p beside (c.commit_names.ensures.memory visible w e) ready))) in
     let p = err_from_is_err_and c.from_residual-in_err-commit_names.result c.from_residual-in_err-commit_names.ensures.1 in
     subst (λ r. OnErr r ((start : PosixTree) (history : List Entry) (p : Parts) → p.fresh ≡ c.args.fresh.now → p.names.tree.noted ≡ Some c.args.log.now → IsNameTable p.names.tree → IsGoing old start history p → IsOnDisk new start history p)) (sym p.1) stays
 

@@ -12,12 +12,12 @@ use Rattle.ufs_file.proofs.hand.FileHand.lengthen.Goals as goal
 
 pub give_runs-requires-clause-apart : goal.give_runs-requires-clause-apart
 give_runs-requires-clause-apart c =
-    subst (λ (l : List Run). IsApart c.take.new.pool (blocks_of l)) (sym c.as_slice.ensures.value)
+    subst (λ (l : List Run). IsApart c.take.new.pool (blocks_of l)) (sym c.as_slice-in-Err-grow.ensures.value)
     (takes_apart c.args.pool.now (c.div_ceil.result - c.block_count.result) c.in-Ok.runs.items c.take.new.pool 0 c.in-Ok.ensures.taken)
 
-pub returns-clause-apart : goal.returns-clause-apart
-returns-clause-apart c =
-    let e : c.append_all.new.extents ≡ appended_all c.self.inside.extents c.in-Ok.runs.items = c.append_all.ensures ∙ ap (λ (l : List Run). appended_all c.self.inside.extents l) c.as_slice-2.ensures.value in
+pub returns-in-Ok-grow-clause-apart : goal.returns-in-Ok-grow-clause-apart
+returns-in-Ok-grow-clause-apart c =
+    let e : c.append_all.new.extents ≡ appended_all c.self.inside.extents c.in-Ok.runs.items = c.append_all.ensures ∙ ap (λ (l : List Run). appended_all c.self.inside.extents l) c.as_slice.ensures.value in
     let apart : IsApart c.args.pool.now (blocks_of c.self.inside.extents) = subst (λ (f : FileState). IsApart c.args.pool.now (blocks_of f.extents)) (sym c.self.view_is) c.requires.apart in
     subst (λ (l : List ℕ). IsApart c.take.new.pool l) (sym (ap blocks_of e ∙ blocks_of-all c.self.inside.extents c.in-Ok.runs.items))
     (apart_taken c.args.pool.now (blocks_of c.self.inside.extents) (c.div_ceil.result - c.block_count.result) c.in-Ok.runs.items c.take.new.pool 0 apart c.in-Ok.ensures.taken)
@@ -35,12 +35,12 @@ returns-in-Err-clause-cause c =
     subst (λ (n : ℕ). IsCause c.args.self.now.extents n c.args.pool.now c.in-Err.excuse) e
     c.in-Err.ensures.cause
 
-pub invariant_of-self-2 : goal.invariant_of-self-2
-invariant_of-self-2 c =
+pub invariant_of-self : goal.invariant_of-self
+invariant_of-self c =
     let xs : List Run = c.self.inside.extents in
     let rs : List Run = c.in-Ok.runs.items in
     let need : ℕ = c.div_ceil.result - c.block_count.result in
-    let e : c.append_all.new.extents ≡ appended_all xs rs = c.append_all.ensures ∙ ap (λ (l : List Run). appended_all xs l) c.as_slice-2.ensures.value in
+    let e : c.append_all.new.extents ≡ appended_all xs rs = c.append_all.ensures ∙ ap (λ (l : List Run). appended_all xs l) c.as_slice.ensures.value in
     let blocks : length (blocks_of c.append_all.new.extents) ≡ length (blocks_of xs) + length (blocks_of rs) =
     ap (λ (l : List Run). length (blocks_of l)) e ∙ ap length (blocks_of-all xs rs) ∙ length-append (blocks_of xs) (blocks_of rs) in
     let taken : length (blocks_of rs) + 0 ≡ need = takes_blocks c.args.pool.now need rs c.take.new.pool 0 c.in-Ok.ensures.taken in
@@ -51,9 +51,9 @@ invariant_of-self-2 c =
     let counted : length c.self.inside.blocks.dirty ≡ block_count (length c.self.inside.blocks.bytes) = c.size.ensures.blocks in
     blocks ∙ omega (arith, taken, had, is, c.block_count.ensures, dirty-grown c.self.inside.blocks c.args.size counted longer, counted, longer) ∙ ap (λ (v : Content). length v.dirty) (sym grew)
 
-pub returns-in_default-clause-pool : goal.returns-in_default-clause-pool
-returns-in_default-clause-pool c =
-    c.give_runs.ensures ∙ ap (λ (l : List Run). set.union c.take.new.pool (set_of l)) c.as_slice.ensures.value
+pub returns-clause-pool : goal.returns-clause-pool
+returns-clause-pool c =
+    c.give_runs.ensures ∙ ap (λ (l : List Run). set.union c.take.new.pool (set_of l)) c.as_slice-in-Err-grow.ensures.value
     ∙ takes_undone c.args.pool.now (c.div_ceil.result - c.block_count.result) c.in-Ok.runs.items c.take.new.pool 0 c.in-Ok.ensures.taken
 
 pub grow-requires-clause-there : goal.grow-requires-clause-there

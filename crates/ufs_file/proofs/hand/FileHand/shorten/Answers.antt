@@ -16,7 +16,7 @@ give_runs-requires-clause-apart c =
     let n : ℕ = c.div_ceil.result in
     let apart : IsApart c.args.pool.now bs = subst (λ (f : FileState). IsApart c.args.pool.now (blocks_of f.extents)) (sym c.self.view_is) c.requires.apart in
     let parts : IsApart c.args.pool.now (take n bs ++ drop n bs) = subst (IsApart c.args.pool.now) (sym (take-append-drop n bs)) apart in
-    subst (IsApart c.args.pool.now) (sym (ap blocks_of c.as_slice.ensures.items ∙ c.in-Ok.ensures.rest_blocks)) (apart_back c.args.pool.now (take n bs) (drop n bs) parts)
+    subst (IsApart c.args.pool.now) (sym (ap blocks_of c.as_slice.ensures.items ∙ c.in_ok-rest.ensures.rest_blocks)) (apart_back c.args.pool.now (take n bs) (drop n bs) parts)
 
 pub returns-clause-apart : goal.returns-clause-apart
 returns-clause-apart c =
@@ -25,8 +25,8 @@ returns-clause-apart c =
     let apart : IsApart c.args.pool.now bs = subst (λ (f : FileState). IsApart c.args.pool.now (blocks_of f.extents)) (sym c.self.view_is) c.requires.apart in
     let parts : IsApart c.args.pool.now (take n bs ++ drop n bs) = subst (IsApart c.args.pool.now) (sym (take-append-drop n bs)) apart in
     let rest : List Run = c.as_slice.result.now in
-    let back : blocks_of rest ≡ drop n bs = ap blocks_of c.as_slice.ensures.items ∙ c.in-Ok.ensures.rest_blocks in
-    subst (λ (l : List ℕ). IsApart c.give_runs.new.pool l) (sym c.in-Ok.ensures.kept_blocks)
+    let back : blocks_of rest ≡ drop n bs = ap blocks_of c.as_slice.ensures.items ∙ c.in_ok-rest.ensures.rest_blocks in
+    subst (λ (l : List ℕ). IsApart c.give_runs.new.pool l) (sym c.in_ok-rest.ensures.kept_blocks)
     (subst (λ (s : BlockSet). IsApart s (take n bs)) (sym c.give_runs.ensures) (apart_front c.args.pool.now (take n bs) (drop n bs) rest back parts))
 
 pub returns-clause-ok : goal.returns-clause-ok
@@ -41,4 +41,4 @@ returns-clause-ok c =
     let blocks : length (blocks_of old.extents) ≡ length old.content.dirty = c.self.invariant in
     subst (λ (f : FileState). IsChanged f new c.args.pool.now c.give_runs.new.pool (shortened f.content size)) c.self.view_is
     (cut_changed old new c.args.pool.now c.give_runs.new.pool size c.div_ceil.result c.as_slice.result.now is (omega (arith, is, shorter, whole, blocks)) (omega (arith, shorter)) refl refl
-    c.in-Ok.ensures.kept (c.as_slice.ensures.items ∙ c.in-Ok.ensures.rest) c.give_runs.ensures c.cut-2.ensures)
+    c.in_ok-rest.ensures.kept (c.as_slice.ensures.items ∙ c.in_ok-rest.ensures.rest) c.give_runs.ensures c.cut-2.ensures)

@@ -20,7 +20,7 @@ pub invariant_of-self-2 : goal.invariant_of-self-2
 invariant_of-self-2 c =
     let t : NameTable = record { dirs = c.self.inside.dirs; files = c.self.inside.files.items; noted = c.self.inside.notes } in
     let is = c.in-Ok.ensures in
-    renoted (record t { dirs = c.add.new.self }) c.note_added.new.notes
+    renoted (record t { dirs = c.add.new.self }) c.note_added-lost.new.notes
     (added_dir t c.add.new.self c.self.invariant is.table is.inodes c.args.path.now (names_above c.args.path.now) c.args.pool.now c.add.new.pool c.in-Ok.added.inode is.inode is.block is.ok)
 
 pub returns-clause-table : goal.returns-clause-table
@@ -34,7 +34,7 @@ returns-in-Err-clause-noted c =
 pub returns-clause-noted : goal.returns-clause-noted
 returns-clause-noted c =
     let t : NameTable = record { dirs = c.self.inside.dirs; files = c.self.inside.files.items; noted = c.self.inside.notes } in
-    let u : NameTable = record { dirs = c.add.new.self; files = c.self.inside.files.items; noted = c.note_added.new.notes } in
+    let u : NameTable = record { dirs = c.add.new.self; files = c.self.inside.files.items; noted = c.note_added-lost.new.notes } in
     let is = c.in-Ok.ensures in
     let path = c.args.path.now in
     let added = c.in-Ok.added in
@@ -44,4 +44,4 @@ returns-clause-noted c =
     subst (λ (x : NameTable). GoesByNotes x u c.args.pool.now) c.self.view_is
     (add_noted t u c.self.invariant c.args.pool.now c.add.new.pool c.args.dir (names_above path) met c.blocks-blocks.ensures.whole added.slot added.grown d c.from_name-dentry.result same is.steps
     (λ s at. kinds_of_dir t u s.kinds c.self.invariant at.kinds added.inode is.inode path is.ok refl)
-    (dir_comes t c.self.invariant c.args.pool.now c.args.dir (names_above path) met added.slot d added.grown is.steps.may u refl) c.note_added.ensures)
+    (dir_comes t c.self.invariant c.args.pool.now c.args.dir (names_above path) met added.slot d added.grown is.steps.may u refl) c.note_added-lost.ensures.behind)

@@ -20,7 +20,7 @@ pub invariant_of-self-2 : goal.invariant_of-self-2
 invariant_of-self-2 c =
     let t : NameTable = record { dirs = c.self.inside.dirs; files = c.self.inside.files.items; noted = c.self.inside.notes } in
     let is = c.in-Ok.ensures in
-    renoted (numbered t c.add.new.self c.in-Ok.added.inode (Some c.args.file)) c.note_added.new.notes
+    renoted (numbered t c.add.new.self c.in-Ok.added.inode (Some c.args.file)) c.note_added-lost.new.notes
     (added_file t c.add.new.self c.self.invariant is.table is.inodes c.in-Ok.added.inode c.args.file is.inode c.args.path.now (names_above c.args.path.now) c.args.pool.now c.add.new.pool is.block is.ok
     (λ j at. c.requires.fresh j (ap (λ (t : NameTable). file_at t j) (sym c.self.view_is) ∙ at)))
 
@@ -44,7 +44,7 @@ returns-clause-noted c =
     let is = c.in-Ok.ensures in
     let path = c.args.path.now in
     let added = c.in-Ok.added in
-    let u : NameTable = record (numbered t c.add.new.self added.inode (Some c.args.file)) { noted = c.note_added.new.notes } in
+    let u : NameTable = record (numbered t c.add.new.self added.inode (Some c.args.file)) { noted = c.note_added-lost.new.notes } in
     let met : found_at t.dirs (names_above path) ≡ Some (Dir c.args.dir) = ap (λ (x : NameTable). found_at x.dirs (names_above path)) c.self.view_is ∙ c.requires.dir in
     let d : DentryForm = record { inode = added.inode; kind = 1; name = last_name path } in
     let same : c.from_name-dentry.result ≡ d = c.from_name-dentry.ensures ∙ ap (λ (x : List ℕ). record d { name = x }) (sym (last_is path (names_above path) c.last.result.now c.last.ensures.value)) in
@@ -54,4 +54,4 @@ returns-clause-noted c =
     subst (λ (x : NameTable). GoesByNotes x u c.args.pool.now) c.self.view_is
     (add_noted t u c.self.invariant c.args.pool.now c.add.new.pool c.args.dir (names_above path) met c.blocks-blocks.ensures.whole added.slot added.grown d c.from_name-dentry.result same is.steps
     (λ s at. kinds_of_file t u s.kinds c.self.invariant at.kinds added.inode is.inode path c.args.file is.ok here others)
-    (file_comes t c.self.invariant c.args.pool.now c.args.dir (names_above path) met added.slot d added.grown is.steps.may u c.args.file fresh here others) c.note_added.ensures)
+    (file_comes t c.self.invariant c.args.pool.now c.args.dir (names_above path) met added.slot d added.grown is.steps.may u c.args.file fresh here others) c.note_added-lost.ensures.behind)

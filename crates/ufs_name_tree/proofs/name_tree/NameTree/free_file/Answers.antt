@@ -18,7 +18,7 @@ pub invariant_of-self : goal.invariant_of-self
 invariant_of-self c =
     let t : NameTable = record { dirs = c.self.inside.dirs; files = c.self.inside.files.items; noted = c.self.inside.notes } in
     let one = c.free_inode.ensures.one in
-    renoted (numbered t c.free_inode.new.self c.args.inode None) c.note_freed.new.notes (freed_file t c.free_inode.new.self c.self.invariant c.free_inode.ensures.table c.args.inode (some t c.args.self.now c.args.inode c.self.view_is c.requires.file) c.args.pool.now c.free_inode.new.pool c.free_inode.ensures.freed
+    renoted (numbered t c.free_inode.new.self c.args.inode None) c.note_freed-lost.new.notes (freed_file t c.free_inode.new.self c.self.invariant c.free_inode.ensures.table c.args.inode (some t c.args.self.now c.args.inode c.self.view_is c.requires.file) c.args.pool.now c.free_inode.new.pool c.free_inode.ensures.freed
     (unmet t c.args.self.now c.args.inode c.self.view_is c.requires.unmet) c.free_inode.ensures.found one.counted)
 
 pub returns-clause-pool : goal.returns-clause-pool
@@ -33,8 +33,8 @@ returns-clause-table c = invariant_of-self c
 pub returns-clause-noted : goal.returns-clause-noted
 returns-clause-noted c =
     let t : NameTable = record { dirs = c.self.inside.dirs; files = c.self.inside.files.items; noted = c.self.inside.notes } in
-    let u : NameTable = record (numbered t c.free_inode.new.self c.args.inode None) { noted = c.note_freed.new.notes } in
+    let u : NameTable = record (numbered t c.free_inode.new.self c.args.inode None) { noted = c.note_freed-lost.new.notes } in
     let freed = c.free_inode.ensures.freed in
     subst (λ (x : NameTable). GoesByNotes x u set.empty) c.self.view_is
     (free_noted t u c.self.invariant c.args.pool.now c.free_inode.new.pool c.args.inode (some t c.args.self.now c.args.inode c.self.view_is c.requires.file) c.free_inode.ensures.steps
-    (λ j at. (at.0, sym (c.free_inode.ensures.found at.0) ∙ at.1)) freed.free (unset c.self.inside.files.items c.args.inode) (other_number t c.free_inode.new.self c.args.inode None) c.note_freed.ensures)
+    (λ j at. (at.0, sym (c.free_inode.ensures.found at.0) ∙ at.1)) freed.free (unset c.self.inside.files.items c.args.inode) (other_number t c.free_inode.new.self c.args.inode None) c.note_freed-lost.ensures.behind)

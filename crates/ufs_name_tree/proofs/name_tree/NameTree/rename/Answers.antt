@@ -37,7 +37,7 @@ pub invariant_of-self-2 : goal.invariant_of-self-2
 invariant_of-self-2 c =
     let t : NameTable = record { dirs = c.self.inside.dirs; files = c.self.inside.files.items; noted = c.self.inside.notes } in
     let is = c.in-Ok.ensures in
-    renoted (record t { dirs = c.rename.new.self }) c.note_moved.new.notes
+    renoted (record t { dirs = c.rename.new.self }) c.note_moved-lost.new.notes
     (renamed t c.rename.new.self c.self.invariant is.table is.inodes c.args.from.now c.args.to.now (names_above c.args.to.now) c.args.pool.now c.rename.new.pool is.ok is.replaced is.block is.free)
 
 pub returns-clause-table : goal.returns-clause-table
@@ -46,7 +46,7 @@ returns-clause-table c = invariant_of-self-2 c
 pub returns-clause-ok : goal.returns-clause-ok
 returns-clause-ok c =
     let t : NameTable = record { dirs = c.self.inside.dirs; files = c.self.inside.files.items; noted = c.self.inside.notes } in
-    let u : NameTable = record { dirs = c.rename.new.self; files = c.self.inside.files.items; noted = c.note_moved.new.notes } in
+    let u : NameTable = record { dirs = c.rename.new.self; files = c.self.inside.files.items; noted = c.note_moved-lost.new.notes } in
     subst (λ (before : NameTable). MovesNodes (node_at before) (node_at u) c.args.from.now c.args.to.now) c.self.view_is (moves_nodes t u (λ names i at. refl) c.args.from.now c.args.to.now c.in-Ok.ensures.ok)
 
 pub returns-in-Err-clause-noted : goal.returns-in-Err-clause-noted
@@ -57,7 +57,7 @@ returns-in-Err-clause-noted c =
 pub returns-clause-noted : goal.returns-clause-noted
 returns-clause-noted c =
     let t : NameTable = record { dirs = c.self.inside.dirs; files = c.self.inside.files.items; noted = c.self.inside.notes } in
-    let u : NameTable = record { dirs = c.rename.new.self; files = c.self.inside.files.items; noted = c.note_moved.new.notes } in
+    let u : NameTable = record { dirs = c.rename.new.self; files = c.self.inside.files.items; noted = c.note_moved-lost.new.notes } in
     let is = c.in-Ok.ensures in
     let from = c.args.from.now in
     let to = c.args.to.now in
@@ -78,4 +78,4 @@ returns-clause-noted c =
     to moved.dropped (found_at t.dirs to) c.entry-found.result moved.grown d c.from_name-dentry.result (met_inode t.dirs from left c.self.invariant.table met_from)
     (λ has. has c.args.from_dir (place_of (dir_at t.dirs c.args.from_dir).blocks moved.left) left (slice_get-get_or (slots_at t.dirs c.args.from_dir) (place_of (dir_at t.dirs c.args.from_dir).blocks moved.left) free_slot is.left.place.slot.in_blocks) is.left.place.used) same found refl
     (λ slot at. if_some (λ (s : Slot). moved.grown ≡ None) moved.dropped slot is.not_grown at) (λ none. if_none (found_at t.dirs to ≡ None) moved.dropped is.not_dropped none)
-    is.steps (λ j at. was_moved t.dirs u.dirs from to at.0 (Dir j) is.ok at.1) refl is.unmet is.replaced is.free c.note_moved.ensures)
+    is.steps (λ j at. was_moved t.dirs u.dirs from to at.0 (Dir j) is.ok at.1) refl is.unmet is.replaced is.free c.note_moved-lost.ensures.behind)

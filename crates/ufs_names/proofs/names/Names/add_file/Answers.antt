@@ -7,17 +7,17 @@ use Rattle.ufs_names.specs.declared.holding.Holding.{Holding}
 use Rattle.ufs_names.proofs.AddLemmas.{fresh_number, new_is_here, new_is_apart, pool_undone}
 use Rattle.ufs_names.proofs.KeepsSpaceLemmas.{keeps_made}
 use Rattle.ufs_names.proofs.SpaceLemmas.{block_spent}
-use Rattle.ufs_names.proofs.UndoneLemmas.{same_part, undone, not_err}
+use Rattle.ufs_names.proofs.UndoneLemmas.{same_part, undone}
 use Rattle.ufs_names.proofs.names.Names.add_file.Goals as goal
 
 pub add_file-requires-clause-fresh : goal.add_file-requires-clause-fresh
 add_file-requires-clause-fresh c = fresh_number c.args.self.now c.requires.inodes c.requires.unheld c.next_inode.new.self (c.in-Some.ensures.same ∙ ap (λ (n : NamesPart). n.tree) c.self.view_is) c.self.inside.next (ap (λ (n : NamesPart). n.next) c.self.view_is)
 
-pub remove-requires-in-Err-clause-here : goal.remove-requires-in-Err-clause-here
-remove-requires-in-Err-clause-here c = new_is_here c.args.files.now c.make.new.self c.self.inside.next c.in-Some.inode (not_err c.make.result c.is_err-2.result c.is_err-2.ensures.value c.if-is_err-2.false c.make.ensures.ok)
+pub remove-requires-in-Err-add_file-clause-here : goal.remove-requires-in-Err-add_file-clause-here
+remove-requires-in-Err-add_file-clause-here c = new_is_here c.args.files.now c.make.new.self c.self.inside.next c.in-Some.inode c.in_default-make.ensures.ok
 
-pub remove-requires-in-Err-clause-apart : goal.remove-requires-in-Err-clause-apart
-remove-requires-in-Err-clause-apart c = new_is_apart c.args.files.now c.make.new.self c.self.inside.next c.in-Some.inode (not_err c.make.result c.is_err-2.result c.is_err-2.ensures.value c.if-is_err-2.false c.make.ensures.ok) c.add_file.new.pool
+pub remove-requires-in-Err-add_file-clause-apart : goal.remove-requires-in-Err-add_file-clause-apart
+remove-requires-in-Err-add_file-clause-apart c = new_is_apart c.args.files.now c.make.new.self c.self.inside.next c.in-Some.inode c.in_default-make.ensures.ok c.add_file.new.pool
 
 pub returns-in-Ok-clause-space : goal.returns-in-Ok-clause-space
 returns-in-Ok-clause-space c =
@@ -28,26 +28,26 @@ returns-in-Ok-clause-space c =
     (subst (λ (t : NameTable). SpendsBlock t.dirs c.add_file.new.self.dirs c.args.pool.now c.add_file.new.pool (names_above c.args.path.now)) tree c.in-Ok.ensures.block) c.add_file.ensures.apart in
     keeps_made n _ c.args.files.now c.make.new.self c.args.pool.now c.add_file.new.pool c.requires.apart c.self.inside.next c.in-Some.inode c.with.result
     (ap (map.get c.args.files.now) next ∙ c.requires.no_file) (ap (λ (h : Holding). h.inode) c.with.ensures) spent (c.add_file.ensures.inodes ∙ ap (λ (t : NameTable). length t.dirs.dirs) tree)
-    (not_err c.put.result c.is_err.result c.is_err.ensures.value c.if-is_err.false c.put.ensures.ok ∙ ap (λ (n : NamesPart). map.insert n.held c.self.inside.next c.with.result) c.self.view_is)
-    (not_err c.make.result c.is_err-2.result c.is_err-2.ensures.value c.if-is_err-2.false c.make.ensures.ok)
+    (c.in_default-put.ensures.ok ∙ ap (λ (n : NamesPart). map.insert n.held c.self.inside.next c.with.result) c.self.view_is)
+    c.in_default-make.ensures.ok
 
-pub returns-in-Err-clause-err : goal.returns-in-Err-clause-err
-returns-in-Err-clause-err c =
+pub returns-in-Err-add_file-clause-err : goal.returns-in-Err-add_file-clause-err
+returns-in-Err-add_file-clause-err c =
     let unheld = ap (λ (n : NamesPart). map.get n.held n.next) c.self.view_is ∙ c.requires.unheld in
-    let held = undone _ _ _ _ _ unheld (not_err c.put.result c.is_err.result c.is_err.ensures.value c.if-is_err.false c.put.ensures.ok) c.remove-in-Err-2.ensures in
-    same_part _ _ _ _ _ (c.in-Err.ensures.err ∙ c.in-Some.ensures.same) held ∙ c.self.view_is
+    let held = undone _ _ _ _ _ unheld c.in_default-put.ensures.ok c.remove-in-Err-add_file-2.ensures in
+    same_part _ _ _ _ _ (c.in-Err-add_file.ensures.err ∙ c.in-Some.ensures.same) held ∙ c.self.view_is
 
-pub returns-in-Err-clause-err_files : goal.returns-in-Err-clause-err_files
-returns-in-Err-clause-err_files c =
-    undone _ _ _ _ _ (ap (map.get c.args.files.now) (ap (λ (n : NamesPart). n.next) c.self.view_is) ∙ c.requires.no_file) (not_err c.make.result c.is_err-2.result c.is_err-2.ensures.value c.if-is_err-2.false c.make.ensures.ok) c.remove-in-Err.ensures.gone
+pub returns-in-Err-add_file-clause-err_files : goal.returns-in-Err-add_file-clause-err_files
+returns-in-Err-add_file-clause-err_files c =
+    undone _ _ _ _ _ (ap (map.get c.args.files.now) (ap (λ (n : NamesPart). n.next) c.self.view_is) ∙ c.requires.no_file) c.in_default-make.ensures.ok c.remove-in-Err-add_file.ensures.gone
 
-pub returns-in-Err-clause-err_pool : goal.returns-in-Err-clause-err_pool
-returns-in-Err-clause-err_pool c =
-    pool_undone c.args.files.now c.make.new.self c.self.inside.next c.in-Some.inode (not_err c.make.result c.is_err-2.result c.is_err-2.ensures.value c.if-is_err-2.false c.make.ensures.ok) c.add_file.new.pool c.remove-in-Err.new.pool c.remove-in-Err.ensures.pool
-    ∙ c.in-Err.ensures.err_pool
+pub returns-in-Err-add_file-clause-err_pool : goal.returns-in-Err-add_file-clause-err_pool
+returns-in-Err-add_file-clause-err_pool c =
+    pool_undone c.args.files.now c.make.new.self c.self.inside.next c.in-Some.inode c.in_default-make.ensures.ok c.add_file.new.pool c.remove-in-Err-add_file.new.pool c.remove-in-Err-add_file.ensures.pool
+    ∙ c.in-Err-add_file.ensures.err_pool
 
-pub returns-then-is_err-2-clause-err : goal.returns-then-is_err-2-clause-err
-returns-then-is_err-2-clause-err c =
+pub returns-in-Err-make-clause-err : goal.returns-in-Err-make-clause-err
+returns-in-Err-make-clause-err c =
     let unheld = ap (λ (n : NamesPart). map.get n.held n.next) c.self.view_is ∙ c.requires.unheld in
-    let held = undone _ _ _ _ _ unheld (not_err c.put.result c.is_err.result c.is_err.ensures.value c.if-is_err.false c.put.ensures.ok) c.remove.ensures in
+    let held = undone _ _ _ _ _ unheld c.in_default-put.ensures.ok c.remove.ensures in
     same_part _ _ _ _ _ c.in-Some.ensures.same held ∙ c.self.view_is

@@ -1,4 +1,6 @@
-use Rattle.std.proofs.Common.{ℕ, Option, ap, sym, subst, ◌∙◌}
+use Rattle.std.proofs.Common.{ℕ, Option, ap, sym, subst, ◌∙◌, ◌≡◌, Some, inl, inr, false, true, is_some}
+use Rattle.ufs_names.proofs.PathRefusals.{text_passed}
+use Rattle.ufs_names.specs.PathCalls.{path_asked}
 use Rattle.ufs_model.specs.Refusals.{own_refusal}
 use Rattle.ufs_model.specs.Touched.{reached}
 use Rattle.ufs_model.specs.declared.data.Op.{Op}
@@ -14,3 +16,13 @@ returns-in_ok-to-in-Rename c t part asked own =
 pub returns-in-Close : goal.returns-in-Close
 returns-in-Close c t part asked own =
     subst (λ (o : Option ℕ). IsFileIn t (reached t c.args.ask.now.client c.args.ask.now.op) o) (sym c.need_of_close.ensures) (close_needs c.args.self.now t part c.args.ask.now asked c.in-Close.fd c.in-Close.is)
+
+pub returns-then-is_some-3 : goal.returns-then-is_some-3
+returns-then-is_some-3 c t part asked own f =
+    let told : path_asked c.args.ask.now.op ≡ Some c.in-OpenFile.path = elim c.in-OpenFile.is [
+      | inl x ↦ ap path_asked x.6
+      | inr y ↦ elim y [ inl z ↦ ap path_asked z | inr w ↦ ap path_asked w ]
+    ] in
+    let passed = text_passed t c.args.ask.now.client c.args.ask.now.op c.in-OpenFile.path own told in
+    let clash : false ≡ true = sym (ap is_some (c.text_refusal-in-OpenFile.ensures ∙ passed)) ∙ sym c.is_some-in-OpenFile.ensures ∙ c.if-is_some-3.true in
+    absurd cc

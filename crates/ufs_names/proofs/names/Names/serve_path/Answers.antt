@@ -80,7 +80,7 @@ returns-in-Ok-change_found-clause-ok c t asked own =
       met = c.in-Ok.ensures.found ∙ ap (λ (n : NamesPart). found_at n.tree.dirs c.args.path.now) c.self.view_is;
       table = subst IsNameTable (ap (λ (n : NamesPart). n.tree) c.self.view_is) c.in-Ok.ensures.table;
     } in
-    subst (λ (r : Reply). IsServed t c.args.ask.now c.change_found.new.self c.args.files.now c.change_found.new.files r c.in-Ok-change_found.desc) (sym (c.in-Ok-answer_found.ensures t c.args.path.now is)) (c.in-Ok-change_found.ensures.ok t is)
+    subst (λ (r : Reply). IsServed t c.args.ask.now c.change_found.new.self c.args.files.now c.change_found.new.files r c.in-Ok-change_found.desc) (sym (c.in_ok-reply.ensures t c.args.path.now is)) (c.in-Ok-change_found.ensures.ok t is)
 
 pub returns-in-Err-clause-noted : goal.returns-in-Err-clause-noted
 returns-in-Err-clause-noted c = notes_stay c.args.self.now.tree c.args.pool.now (one_told c.args.self.now.tree c.args.self.now.held c.requires.asked.1.part.inodes)

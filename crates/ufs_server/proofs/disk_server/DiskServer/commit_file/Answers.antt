@@ -27,8 +27,8 @@ within names files commits pool fresh dropped = record { names = names; files = 
 known_before : (g : Given.Over) (c : goal.After-hand-3-1 g) → map.get c.take_out.new.self.commits c.args.file ≡ Some c.in-Some-get_mut.known.now
 known_before g c = ap (λ (p : Parts). map.get p.commits c.args.file) (sym c.self-2.view_is) ∙ sym c.in-Some-get_mut.ensures.value
 
-out_before : (g : Given.Over) (c : goal.After-hand-3-1 g) → IsOut (g.D.Door.store c.args.door.now) c.args.self.now c.take_out.new.self c.args.file c.in-Ok.hand c.in-Some-get_mut.known.now
-out_before g c = record { sound = c.requires.sound; held = λ f at. c.in-Ok.ensures.held f c.in-Some-get_mut.known.now at (known_before g c); there = c.in-Ok.ensures.there; number = c.in-Ok.ensures.number; others = c.in-Ok.ensures.others }
+out_before : (g : Given.Over) (c : goal.After-hand-3-1 g) → IsOut (g.D.Door.store c.args.door.now) c.args.self.now c.take_out.new.self c.args.file c.in_ok-hand.hand c.in-Some-get_mut.known.now
+out_before g c = record { sound = c.requires.sound; held = λ f at. c.in_ok-hand.ensures.held f c.in-Some-get_mut.known.now at (known_before g c); there = c.in_ok-hand.ensures.there; number = c.in_ok-hand.ensures.number; others = c.in_ok-hand.ensures.others }
 
 numbered_before : (g : Given.Over) (c : goal.After-hand-3-1 g) → AreNumbered c.args.self.now.files
 numbered_before g c = subst AreNumbered (ap (λ (p : Parts). p.files) c.self.view_is) c.are_numbered.ensures
@@ -57,29 +57,29 @@ sync_held-told-requires-clause-stamped g c stamps =
 
 -- ---- it couldn't be committed
 
-known_failed : (g : Given.Over) (c : goal.After-from_residual g) → map.get c.take_out.new.self.commits c.args.file ≡ Some c.in-Some-get_mut.known.now
+known_failed : (g : Given.Over) (c : goal.After-from_residual-in_err-told g) → map.get c.take_out.new.self.commits c.args.file ≡ Some c.in-Some-get_mut.known.now
 known_failed g c = ap (λ (p : Parts). map.get p.commits c.args.file) (sym c.self-2.view_is) ∙ sym c.in-Some-get_mut.ensures.value
 
-out_failed : (g : Given.Over) (c : goal.After-from_residual g) → IsOut (g.D.Door.store c.args.door.now) c.args.self.now c.take_out.new.self c.args.file c.in-Ok.hand c.in-Some-get_mut.known.now
-out_failed g c = record { sound = c.requires.sound; held = λ f at. c.in-Ok.ensures.held f c.in-Some-get_mut.known.now at (known_failed g c); there = c.in-Ok.ensures.there; number = c.in-Ok.ensures.number; others = c.in-Ok.ensures.others }
+out_failed : (g : Given.Over) (c : goal.After-from_residual-in_err-told g) → IsOut (g.D.Door.store c.args.door.now) c.args.self.now c.take_out.new.self c.args.file c.in_ok-hand.hand c.in-Some-get_mut.known.now
+out_failed g c = record { sound = c.requires.sound; held = λ f at. c.in_ok-hand.ensures.held f c.in-Some-get_mut.known.now at (known_failed g c); there = c.in_ok-hand.ensures.there; number = c.in_ok-hand.ensures.number; others = c.in_ok-hand.ensures.others }
 
-numbered_failed : (g : Given.Over) (c : goal.After-from_residual g) → AreNumbered c.args.self.now.files
+numbered_failed : (g : Given.Over) (c : goal.After-from_residual-in_err-told g) → AreNumbered c.args.self.now.files
 numbered_failed g c = subst AreNumbered (ap (λ (p : Parts). p.files) c.self.view_is) c.are_numbered.ensures
 
-back_failed : (g : Given.Over) (c : goal.After-from_residual g) → IsBack c.args.self.now c.take_out.new.self c.args.file (state_of c.sync_held-told.new.hand c.sync_held-told.new.known) c.put_back.new.self
+back_failed : (g : Given.Over) (c : goal.After-from_residual-in_err-told g) → IsBack c.args.self.now c.take_out.new.self c.args.file (state_of c.sync_held-told.new.hand c.sync_held-told.new.known) c.put_back.new.self
 back_failed g c = record {
   put = put_is (within c.self-2.inside.names c.self-2.inside.files c.self-2.inside.commits c.self-2.inside.pool c.self-2.inside.fresh.items c.self-2.inside.dropped) c.take_out.new.self c.put_back.new.self
       (state_of c.sync_held-told.new.hand c.sync_held-told.new.known) c.self-2.inside.pool c.args.file (c.get_mut.follows.lender c.sync_held-told.new.known) c.self-2.view_is
-      (ap (λ (x : DurableState). x.file.file) c.in_err-told.ensures.kept ∙ c.in-Ok.ensures.number)
+      (ap (λ (x : DurableState). x.file.file) c.in_err-told.ensures.kept ∙ c.in_ok-hand.ensures.number)
       (subst (λ (o : Option (MutBor CommitState)). OnSome o (c.get_mut.follows.lender c.sync_held-told.new.known ≡ map.insert c.self-2.inside.commits c.args.file c.sync_held-told.new.known)) c.in-Some-get_mut.is (c.get_mut.follows.holds c.sync_held-told.new.known))
       c.put_back.ensures
       ∙ ap (λ (b : BlockSet). with_file (state_of c.sync_held-told.new.hand c.sync_held-told.new.known) b c.take_out.new.self) (ap (λ (p : Parts). p.pool) c.self-2.view_is);
-  back = c.in-Ok.ensures.back;
+  back = c.in_ok-hand.ensures.back;
 }
 
 pub returns-in_err-told-clause-err : goal.returns-in_err-told-clause-err
 returns-in_err-told-clause-err g c visible =
-    on_err c.from_residual.result (λ start history names. on_disk_failed (out_failed g c) (numbered_failed g c) (back_failed g c) c.in_err-told.ensures.kept c.told_law.ensures.back (g.D.Door.store c.sync_held-told.new.door) c.told_law.ensures.on_disk c.geometry-geometry.result
+    on_err c.from_residual-in_err-told.result (λ start history names. on_disk_failed (out_failed g c) (numbered_failed g c) (back_failed g c) c.in_err-told.ensures.kept c.told_law.ensures.back (g.D.Door.store c.sync_held-told.new.door) c.told_law.ensures.on_disk c.geometry-geometry.result
     c.file_memory_law.ensures c.file_failure_law.ensures (sym c.geometry-geometry.ensures.is) c.requires.held c.sync_held-told.ensures.fits (c.in_err-told.ensures.err visible) start history names)
 
 pub returns-in_err-told-clause-here : goal.returns-in_err-told-clause-here
@@ -104,8 +104,8 @@ returns-in_err-told-clause-moments g c visible start history names =
 known_done : (g : Given.Over) (c : goal.Joined-committed g) → map.get c.take_out.new.self.commits c.args.file ≡ Some c.in-Some-get_mut.known.now
 known_done g c = ap (λ (p : Parts). map.get p.commits c.args.file) (sym c.self-2.view_is) ∙ sym c.in-Some-get_mut.ensures.value
 
-out : (g : Given.Over) (c : goal.Joined-committed g) → IsOut (g.D.Door.store c.args.door.now) c.args.self.now c.take_out.new.self c.args.file c.in-Ok.hand c.in-Some-get_mut.known.now
-out g c = record { sound = c.requires.sound; held = λ f at. c.in-Ok.ensures.held f c.in-Some-get_mut.known.now at (known_done g c); there = c.in-Ok.ensures.there; number = c.in-Ok.ensures.number; others = c.in-Ok.ensures.others }
+out : (g : Given.Over) (c : goal.Joined-committed g) → IsOut (g.D.Door.store c.args.door.now) c.args.self.now c.take_out.new.self c.args.file c.in_ok-hand.hand c.in-Some-get_mut.known.now
+out g c = record { sound = c.requires.sound; held = λ f at. c.in_ok-hand.ensures.held f c.in-Some-get_mut.known.now at (known_done g c); there = c.in_ok-hand.ensures.there; number = c.in_ok-hand.ensures.number; others = c.in_ok-hand.ensures.others }
 
 numbered : (g : Given.Over) (c : goal.Joined-committed g) → AreNumbered c.args.self.now.files
 numbered g c = subst AreNumbered (ap (λ (p : Parts). p.files) c.self.view_is) c.are_numbered.ensures
@@ -114,18 +114,18 @@ back : (g : Given.Over) (c : goal.Joined-committed g) → IsBack c.args.self.now
 back g c = record {
   put = put_is (within c.self-2.inside.names c.self-2.inside.files c.self-2.inside.commits c.self-2.inside.pool c.self-2.inside.fresh.items c.self-2.inside.dropped) c.take_out.new.self c.put_back.new.self
       (state_of c.sync_held-told.new.hand c.sync_held-told.new.known) c.self-2.inside.pool c.args.file (c.get_mut.follows.lender c.sync_held-told.new.known) c.self-2.view_is
-      (ap (λ (x : DurableState). x.file.file) c.in_ok-told.ensures.committed ∙ c.in-Ok.ensures.number)
+      (ap (λ (x : DurableState). x.file.file) c.in_ok-told.ensures.committed ∙ c.in_ok-hand.ensures.number)
       (subst (λ (o : Option (MutBor CommitState)). OnSome o (c.get_mut.follows.lender c.sync_held-told.new.known ≡ map.insert c.self-2.inside.commits c.args.file c.sync_held-told.new.known)) c.in-Some-get_mut.is (c.get_mut.follows.holds c.sync_held-told.new.known))
       c.put_back.ensures
       ∙ ap (λ (b : BlockSet). with_file (state_of c.sync_held-told.new.hand c.sync_held-told.new.known) b c.take_out.new.self) (ap (λ (p : Parts). p.pool) c.self-2.view_is);
-  back = c.in-Ok.ensures.back;
+  back = c.in_ok-hand.ensures.back;
 }
 
 abbrev before : (g : Given.Over) (c : goal.Joined-committed g) → Parts
 before g c = record { names = c.self-3.inside.names; files = c.self-3.inside.files; commits = c.self-3.inside.commits; pool = c.self-3.inside.pool; fresh = c.self-3.inside.fresh.items; dropped = c.self-3.inside.dropped }
 
 done_with : (g : Given.Over) (c : goal.Joined-committed g)
-    → IsForgotten c.put_back.new.self c.args.file c.in-Ok.hand c.in-Some-get_mut.known.now (state_of c.sync_held-told.new.hand c.sync_held-told.new.known) (before g c) c.take-committed.new.self
+    → IsForgotten c.put_back.new.self c.args.file c.in_ok-hand.hand c.in-Some-get_mut.known.now (state_of c.sync_held-told.new.hand c.sync_held-told.new.known) (before g c) c.take-committed.new.self
 done_with g c = record { committed = c.in_ok-told.ensures.committed; view = c.self-3.view_is; gone = c.take-committed.ensures.gone }
 
 pub returns-clause-ok : goal.returns-clause-ok
@@ -153,6 +153,6 @@ returns-clause-moments g c visible start history names =
 
 -- ---- where no memory is left
 
-pub returns-in_default-take_out-clause-moments : goal.returns-in_default-take_out-clause-moments
-returns-in_default-take_out-clause-moments g c visible start history names =
+pub returns-in_err-hand-clause-moments : goal.returns-in_err-hand-clause-moments
+returns-in_err-hand-clause-moments g c visible start history names =
     c.always_law.ensures.rest g.D.Door.keeps (g.D.Door.store c.args.door.now) start history c.args.self.now (sym c.geometry-geometry.ensures.is) (inl names.going)

@@ -22,10 +22,10 @@ use Rattle.ufs_server.proofs.disk_server.DiskServer.fetch_lacking.Given
 use Rattle.ufs_server.proofs.disk_server.DiskServer.fetch_lacking.Goals as goal
 
 -- memory is wanting
-pub returns-in_default-clause-on_disk : goal.returns-in_default-clause-on_disk
-returns-in_default-clause-on_disk g c visible =
+pub returns-in_err-hand-clause-on_disk : goal.returns-in_err-hand-clause-on_disk
+returns-in_err-hand-clause-on_disk g c visible =
     let s = g.D.Door.store c.args.door.now in
-    subst (λ (p : Parts). StaysOnDisk c.args.self.now p s s g.D.Door.keeps) (sym c.in_default.ensures.err)
+    subst (λ (p : Parts). StaysOnDisk c.args.self.now p s s g.D.Door.keeps) (sym c.in_err-hand.ensures.err)
     (rests_on_disk c.geometry-geometry.result c.always_law.ensures.rest g.D.Door.keeps c.args.self.now s (sym c.geometry-geometry.ensures.is))
 
 -- ---- the file is out
@@ -33,8 +33,8 @@ returns-in_default-clause-on_disk g c visible =
 pub fetch-read-requires : goal.fetch-read-requires
 fetch-read-requires g c =
     let s = g.D.Door.store c.args.door.now in
-    let took = c.in-Ok.ensures in
-    let out : IsOut s c.args.self.now c.take_out.new.self c.args.file c.in-Ok.hand c.in-Some.known.now = record { sound = c.requires.sound; held = λ f at. took.held f c.in-Some.known.now at (ap (λ (p : Parts). map.get p.commits c.args.file) (sym c.self-2.view_is) ∙ sym c.get.ensures ∙ ap option_copied c.in-Some.is); there = took.there; number = took.number; others = took.others } in
+    let took = c.in_ok-hand.ensures in
+    let out : IsOut s c.args.self.now c.take_out.new.self c.args.file c.in_ok-hand.hand c.in-Some.known.now = record { sound = c.requires.sound; held = λ f at. took.held f c.in-Some.known.now at (ap (λ (p : Parts). map.get p.commits c.args.file) (sym c.self-2.view_is) ∙ sym c.get.ensures ∙ ap option_copied c.in-Some.is); there = took.there; number = took.number; others = took.others } in
     let numbered : AreNumbered c.args.self.now.files = subst AreNumbered (ap (λ (p : Parts). p.files) c.self.view_is) c.are_numbered.ensures in
     let space : IsSpaceOf (geometry_of_store s) s.unassigned = record { first = c.geometry-geometry.ensures.first ∙ ap first_of_data c.geometry-geometry.ensures.is; blocks = c.geometry-geometry.ensures.blocks ∙ ap (λ (k : Geometry). k.blocks) c.geometry-geometry.ensures.is } in
     let valid : All IsRun c.in-Some.known.now.dropped = subst (All IsRun) (c.as_slice-runs.ensures.items ∙ c.dropped.ensures) c.as_slice-runs.ensures.runs in
@@ -45,23 +45,23 @@ fetch-read-requires g c =
 known_there : (g : Given.Over) (c : goal.After-put_back g) → map.get c.take_out.new.self.commits c.args.file ≡ Some c.in-Some.known.now
 known_there g c = ap (λ (p : Parts). map.get p.commits c.args.file) (sym c.self-2.view_is) ∙ sym c.get.ensures ∙ ap option_copied c.in-Some.is
 
-out : (g : Given.Over) (c : goal.After-put_back g) → IsOut (g.D.Door.store c.args.door.now) c.args.self.now c.take_out.new.self c.args.file c.in-Ok.hand c.in-Some.known.now
-out g c = record { sound = c.requires.sound; held = λ f at. c.in-Ok.ensures.held f c.in-Some.known.now at (known_there g c); there = c.in-Ok.ensures.there; number = c.in-Ok.ensures.number; others = c.in-Ok.ensures.others }
+out : (g : Given.Over) (c : goal.After-put_back g) → IsOut (g.D.Door.store c.args.door.now) c.args.self.now c.take_out.new.self c.args.file c.in_ok-hand.hand c.in-Some.known.now
+out g c = record { sound = c.requires.sound; held = λ f at. c.in_ok-hand.ensures.held f c.in-Some.known.now at (known_there g c); there = c.in_ok-hand.ensures.there; number = c.in_ok-hand.ensures.number; others = c.in_ok-hand.ensures.others }
 
 numbered : (g : Given.Over) (c : goal.After-put_back g) → AreNumbered c.args.self.now.files
 numbered g c = subst AreNumbered (ap (λ (p : Parts). p.files) c.self.view_is) c.are_numbered.ensures
 
 done : (g : Given.Over) (c : goal.After-put_back g)
-    → IsReadBack g.D.Door.visible g.D.Door.keeps (g.D.Door.store c.args.door.now) (g.D.Door.store c.fetch-read.new.door) c.args.self.now c.take_out.new.self c.args.file c.in-Ok.hand c.in-Some.known.now c.fetch-read.new.hand c.put_back.new.self
+    → IsReadBack g.D.Door.visible g.D.Door.keeps (g.D.Door.store c.args.door.now) (g.D.Door.store c.fetch-read.new.door) c.args.self.now c.take_out.new.self c.args.file c.in_ok-hand.hand c.in-Some.known.now c.fetch-read.new.hand c.put_back.new.self
 done g c =
     let read = c.fetch-read.ensures in
-    let number : c.fetch-read.new.hand.file ≡ c.args.file = ap (λ (h : FileState). h.file) read.rest ∙ c.in-Ok.ensures.number in
+    let number : c.fetch-read.new.hand.file ≡ c.args.file = ap (λ (h : FileState). h.file) read.rest ∙ c.in_ok-hand.ensures.number in
     record {
       fetched = record { rest = read.rest; noted = read.noted; read = read.read; crash = read.crash; on_disk = read.on_disk; ledger = read.ledger; store = read.store };
       still = read.still;
       kept = read.kept;
       fewer = read.fewer;
-      back = c.in-Ok.ensures.back;
+      back = c.in_ok-hand.ensures.back;
       put = put_as_known c.take_out.new.self c.put_back.new.self c.fetch-read.new.hand c.in-Some.known.now c.args.file number (known_there g c) c.put_back.ensures;
     }
 

@@ -21,16 +21,16 @@ use Rattle.ufs_server.proofs.Staying.{excused_promise, memory_served, on_disk_ga
 use Rattle.ufs_server.proofs.disk_server.DiskServer.serve_file.Given
 use Rattle.ufs_server.proofs.disk_server.DiskServer.serve_file.Goals as goal
 
-pub returns-in_default : goal.returns-in_default
-returns-in_default g c =
+pub returns-in-Err : goal.returns-in-Err
+returns-in-Err g c =
     let s0 = g.D.Door.store c.args.door.now in
     let s1 = g.D.Door.store c.gather.new.door in
     let p0 = c.args.self.now in
     let moved = c.gather.ensures in
     let law = c.file_request_law.ensures in
     let form = sym c.geometry-geometry.ensures.is in
-    let same = sym c.in_default.ensures.err in
-    let memory = c.out_of_memory-in_default.ensures in
+    let same = sym c.in-Err.ensures.err in
+    let memory = c.out_of_memory-in-Err.ensures in
     let excused = ap is_excused memory.reply in
     let stays = subst (λ (p : Parts). Stays p0 p s0 s1) same (stays_gathered (rests p0 s0 c.requires.sound) law.free_sound moved.moved moved.rest moved.store) in
     let kept = subst (λ (p : Parts). StaysOnDisk p0 p s0 s1 g.D.Door.keeps) same

@@ -30,8 +30,8 @@ touch-requires-clause-sound g c =
 
 -- ---- memory ran out
 
-pub returns-in_default : goal.returns-in_default
-returns-in_default g c =
+pub returns-in-Err : goal.returns-in-Err
+returns-in-Err g c =
     let room = c.make_room.ensures in
     let memory = c.out_of_memory.ensures in
     record {
@@ -42,12 +42,12 @@ returns-in_default g c =
       untold = room.stays.untold;
     }
 
-pub returns-in_default-touch : goal.returns-in_default-touch
-returns-in_default-touch g c =
+pub returns-in-Err-touch : goal.returns-in-Err-touch
+returns-in-Err-touch g c =
     let moved = c.gather.ensures in
     let more = c.touch.ensures in
     let law = c.file_request_law.ensures in
-    let memory = c.out_of_memory-in_default-touch.ensures in
+    let memory = c.out_of_memory-in-Err-touch.ensures in
     let stays = stays_told (stays_gathered c.make_room.ensures.stays law.free_sound moved.moved moved.rest moved.store) c.told_law.ensures.sound more.rest more.same in
     record {
       served = memory_served stays memory.entry memory.reply memory.desc;

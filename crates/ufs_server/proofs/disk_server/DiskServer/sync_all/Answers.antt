@@ -13,14 +13,14 @@ use Rattle.ufs_server.proofs.disk_server.DiskServer.sync_all.Goals as goal
 pub commit_files-requires-clause-held : goal.commit_files-requires-clause-held
 commit_files-requires-clause-held g c file is =
     let p = c.args.self.now in
-    let keys : c.as_slice.result.now ≡ map.keys p.names.held = c.as_slice.ensures ∙ c.in-Ok.ensures ∙ ap (λ (x : Parts). map.keys x.names.held) c.self.view_is in
+    let keys : c.as_slice.result.now ≡ map.keys p.names.held = c.as_slice.ensures ∙ c.in_ok-live.ensures ∙ ap (λ (x : Parts). map.keys x.names.held) c.self.view_is in
     let held : c.sync_names.new.self.names.held ≡ p.names.held = ap (λ (x : Parts). x.names.held) c.sync_names.ensures.rest in
     subst (λ (m : Holdings). IsSome (map.get m file)) (sym held) (sym (keys_are p.names.held file) ∙ ap (λ (xs : List ℕ). has xs file) (sym keys) ∙ is)
 
 pub returns-clause-ok : goal.returns-clause-ok
 returns-clause-ok g c visible =
     let p = c.args.self.now in
-    let keys : c.as_slice.result.now ≡ map.keys p.names.held = c.as_slice.ensures ∙ c.in-Ok.ensures ∙ ap (λ (x : Parts). map.keys x.names.held) c.self.view_is in
+    let keys : c.as_slice.result.now ≡ map.keys p.names.held = c.as_slice.ensures ∙ c.in_ok-live.ensures ∙ ap (λ (x : Parts). map.keys x.names.held) c.self.view_is in
     let held : c.commit_files.new.self.names.held ≡ p.names.held = ap (λ (n : NamesPart). n.held) c.commit_files.ensures.names ∙ ap (λ (x : Parts). x.names.held) c.sync_names.ensures.rest in
     let form = c.commit_files.ensures.ends.geometry ∙ c.sync_names.ensures.ends.geometry ∙ sym c.geometry-geometry.ensures.is in
     let all : (file : ℕ) → IsSome (map.get c.commit_files.new.self.names.held file) → has c.as_slice.result.now file ≡ true =
@@ -36,7 +36,7 @@ returns-clause-err g c visible =
 pub returns-clause-nothing : goal.returns-clause-nothing
 returns-clause-nothing g c =
     let p = c.args.self.now in
-    let keys : c.as_slice.result.now ≡ map.keys p.names.held = c.as_slice.ensures ∙ c.in-Ok.ensures ∙ ap (λ (x : Parts). map.keys x.names.held) c.self.view_is in
+    let keys : c.as_slice.result.now ≡ map.keys p.names.held = c.as_slice.ensures ∙ c.in_ok-live.ensures ∙ ap (λ (x : Parts). map.keys x.names.held) c.self.view_is in
     let held : c.commit_files.new.self.names.held ≡ p.names.held = ap (λ (n : NamesPart). n.held) c.commit_files.ensures.names ∙ ap (λ (x : Parts). x.names.held) c.sync_names.ensures.rest in
     let all : (file : ℕ) → IsSome (map.get c.commit_files.new.self.names.held file) → has c.as_slice.result.now file ≡ true =
     λ file is. ap (λ (xs : List ℕ). has xs file) keys ∙ keys_are p.names.held file ∙ ap (λ (m : Holdings). is_some (map.get m file)) (sym held) ∙ is in
@@ -58,8 +58,8 @@ pub returns-in-Some-clause-moments : goal.returns-in-Some-clause-moments
 returns-in-Some-clause-moments g c visible start history on =
     c.always_law.ensures.rest g.D.Door.keeps (g.D.Door.store c.args.door.now) start history c.args.self.now (sym c.geometry-geometry.ensures.is) on
 
-pub returns-in_default-live-clause-moments : goal.returns-in_default-live-clause-moments
-returns-in_default-live-clause-moments g c visible start history on =
+pub returns-in_err-live-clause-moments : goal.returns-in_err-live-clause-moments
+returns-in_err-live-clause-moments g c visible start history on =
     c.always_law.ensures.rest g.D.Door.keeps (g.D.Door.store c.args.door.now) start history c.args.self.now (sym c.geometry-geometry.ensures.is) on
 
 pub returns-clause-forgets : goal.returns-clause-forgets

@@ -42,3 +42,9 @@ returns-clause-device g c = let at : g.D.Door.store c.self.inside.door ≡ g.D.D
 
 pub returns-clause-stopped : goal.returns-clause-stopped
 returns-clause-stopped g c = let at : g.D.Door.store c.self.inside.door ≡ g.D.Door.store c.args.self.now.door = ap (λ d. g.D.Door.store d.door) c.self.view_is in rw (← at) c.commit_names-number.ensures.stopped
+
+pub returns-clause-ok : goal.returns-clause-ok
+returns-clause-ok g c = let at : g.D.Door.store c.self.inside.door ≡ g.D.Door.store c.args.self.now.door = ap (λ d. g.D.Door.store d.door) c.self.view_is in rw (← at) c.commit_names-number.ensures.ok
+
+pub returns-clause-memory : goal.returns-clause-memory
+returns-clause-memory g c = let at : g.D.Door.store c.self.inside.door ≡ g.D.Door.store c.args.self.now.door = ap (λ d. g.D.Door.store d.door) c.self.view_is in rw (← at) c.commit_names-number.ensures.memory

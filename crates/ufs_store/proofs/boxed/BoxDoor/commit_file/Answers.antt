@@ -12,3 +12,6 @@ returns-clause-device g c = let at : g.D.Door.store c.deref_mut.result.now ≡ g
 -- src/boxed.rt:43:5
 pub returns-clause-stopped : goal.returns-clause-stopped
 returns-clause-stopped g c = let at : g.D.Door.store c.deref_mut.result.now ≡ g.D.Door.store c.args.self.now.value = ap (λ d. g.D.Door.store d) c.deref_mut.ensures.value in rw (← at) c.commit_file.ensures.stopped
+
+pub returns-clause-lack : goal.returns-clause-lack
+returns-clause-lack g c = let at : g.D.Door.store c.deref_mut.result.now ≡ g.D.Door.store c.args.self.now.value = ap (λ d. g.D.Door.store d) c.deref_mut.ensures.value in rw (← at) c.commit_file.ensures.lack

@@ -4,14 +4,14 @@ use Rattle.ufs_layout.specs.declared.geometry.Geometry.{Geometry}
 use Rattle.ufs_journal.specs.Kept.{IsReady, IsUnused}
 use Rattle.ufs_store.proofs.store.Store.mount.Goals as goal
 
-pub returns-in_default-clause-err_crash : goal.returns-in_default-clause-err_crash
-returns-in_default-clause-err_crash g c visible is some = absurd (some refl)
+pub returns-in-Err-clause-err_crash : goal.returns-in-Err-clause-err_crash
+returns-in-Err-clause-err_crash g c visible is some = absurd (some _ refl)
 
 pub returns-in-Ok-mark_in_use-clause-crash : goal.returns-in-Ok-mark_in_use-clause-crash
 returns-in-Ok-mark_in_use-clause-crash g c visible is = c.mark_in_use.ensures.crash visible c.args.superblock refl is
 
-pub returns-in-Err-clause-err_crash : goal.returns-in-Err-clause-err_crash
-returns-in-Err-clause-err_crash g c visible is some = c.mark_in_use.ensures.crash visible c.args.superblock refl is
+pub returns-in-Err-mark_in_use-clause-err_crash : goal.returns-in-Err-mark_in_use-clause-err_crash
+returns-in-Err-mark_in_use-clause-err_crash g c visible is some = c.mark_in_use.ensures.crash visible c.args.superblock refl is
 
 pub returns-in-Ok-mark_in_use-clause-ok : goal.returns-in-Ok-mark_in_use-clause-ok
 returns-in-Ok-mark_in_use-clause-ok g c visible is =

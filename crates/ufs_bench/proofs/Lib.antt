@@ -1,0 +1,3 @@
+mod GeneratorLemmas
+mod WorkloadLemmas
+mod JoinedLemmas

@@ -1,0 +1,3 @@
+pub mod Generator
+pub mod Workload
+pub mod Summary

@@ -1,0 +1,7 @@
+//! The benchmark's workload, beside what a program of another language makes of the same seed.
+#![tactic(auto)]
+
+#[cfg(test)]
+mod asserts;
+#[cfg(test)]
+mod tests;

@@ -1,0 +1,30 @@
+use Rattle.std.proofs.Common.{◌&&◌, arith, ◌∙◌}
+use Rattle.ufs_disk.specs.Disk.{IsImage}
+use Rattle.ufs_mirror.specs.Pairs.{state_of, watched}
+use Rattle.ufs_mirror.specs.Joined.{IsCalm}
+use Rattle.ufs_mirror.proofs.Calm.{second_alone_may, second_goes_on}
+use Rattle.ufs_mirror.proofs.LabelRuns.{calm_run}
+use Rattle.ufs_mirror.proofs.Opened.{labelled_opens}
+use Rattle.ufs_mirror.proofs.Runs.{started}
+use Rattle.ufs_mirror.proofs.legs.Legs.leave_first.Goals as goal
+
+pub returns-in_default-clause-runs : goal.returns-in_default-clause-runs
+returns-in_default-clause-runs g c va vb labelled =
+    started (g.A.Disk.keeps && g.B.Disk.keeps) (IsCalm c.args.sectors (IsImage (state_of c.args.sectors (watched (λ l. g.A.Disk.moments l.first) (λ l. g.B.Disk.moments l.second) c.args.self.now.log.items c.args.self.now.both c.args.self.now.picks).now))) (watched (λ l. g.A.Disk.moments l.first) (λ l. g.B.Disk.moments l.second) c.args.self.now.log.items c.args.self.now.both c.args.self.now.picks) (record { leaves = λ image left. left; opens = labelled_opens c.args.sectors c.args.number (watched (λ l. g.A.Disk.moments l.first) (λ l. g.B.Disk.moments l.second) c.args.self.now.log.items c.args.self.now.both c.args.self.now.picks).now labelled })
+
+pub returns-then-not-label_second-clause-runs : goal.returns-then-not-label_second-clause-runs
+returns-then-not-label_second-clause-runs g c va vb labelled =
+    calm_run (g.A.Disk.keeps && g.B.Disk.keeps) c.args.sectors c.args.number (IsImage (state_of c.args.sectors (watched (λ l. g.A.Disk.moments l.first) (λ l. g.B.Disk.moments l.second) c.args.self.now.log.items c.args.self.now.both c.args.self.now.picks).now)) (watched (λ l. g.A.Disk.moments l.first) (λ l. g.B.Disk.moments l.second) c.args.self.now.log.items c.args.self.now.both c.args.self.now.picks) (watched (λ l. g.A.Disk.moments l.first) (λ l. g.B.Disk.moments l.second) c.label_second.new.self.log.items c.label_second.new.self.both c.label_second.new.self.picks) (c.label_second.ensures.runs c.args.number (second_alone_may c.args.number c.in-Some.next c.args.self.now.picks c.requires.alone (omega (arith, c.in-Some.ensures.1))) va vb labelled)
+
+pub returns-clause-runs : goal.returns-clause-runs
+returns-clause-runs g c va vb labelled =
+    calm_run (g.A.Disk.keeps && g.B.Disk.keeps) c.args.sectors c.args.number (IsImage (state_of c.args.sectors (watched (λ l. g.A.Disk.moments l.first) (λ l. g.B.Disk.moments l.second) c.args.self.now.log.items c.args.self.now.both c.args.self.now.picks).now)) (watched (λ l. g.A.Disk.moments l.first) (λ l. g.B.Disk.moments l.second) c.args.self.now.log.items c.args.self.now.both c.args.self.now.picks) (watched (λ l. g.A.Disk.moments l.first) (λ l. g.B.Disk.moments l.second) c.label_second.new.self.log.items c.label_second.new.self.both c.label_second.new.self.picks) (c.label_second.ensures.runs c.args.number (second_alone_may c.args.number c.in-Some.next c.args.self.now.picks c.requires.alone (omega (arith, c.in-Some.ensures.1))) va vb labelled)
+
+pub returns-clause-second_settled : goal.returns-clause-second_settled
+returns-clause-second_settled g c va vb = c.label_second.ensures.settled vb c.if-not-label_second.false
+
+pub returns-clause-labelled : goal.returns-clause-labelled
+returns-clause-labelled g c va vb labelled =
+    second_goes_on c.args.sectors c.args.number c.in-Some.next (g.B.Disk.moments c.label_second.new.self.both.second).state (g.A.Disk.moments c.label_second.new.self.both.first).state c.label_second.new.self.picks (c.label_second.ensures.picks ∙ c.requires.alone) (omega (arith, c.in-Some.ensures.1))
+    (c.label_second.ensures.settled vb c.if-not-label_second.false) (c.label_second.ensures.label vb c.if-not-label_second.false)
+    (c.label_second.ensures.runs c.args.number (second_alone_may c.args.number c.in-Some.next c.args.self.now.picks c.requires.alone (omega (arith, c.in-Some.ensures.1))) va vb labelled).after.labelled

@@ -1,0 +1,12 @@
+pub mod Labels
+pub mod Pairs
+pub mod Labelled
+pub mod Props
+pub mod Calls
+pub mod Opens
+pub mod Whole
+pub mod Refused
+pub mod Copies
+pub mod Joined
+pub mod Ready
+pub mod Failing

@@ -1,0 +1,5 @@
+mod NumberLemmas
+mod ValueLemmas
+mod CommandLemmas
+mod Simple
+mod Rows

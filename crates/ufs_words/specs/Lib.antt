@@ -1,0 +1,4 @@
+pub mod Numbers
+pub mod Grammar
+pub mod Commands
+pub mod Values
