@@ -1,5 +1,6 @@
 -- What a session begins with, by the disk that it is given.
-use Rattle.std.specs.Prelude.{ℕ, ◌≡◌, Bool, true, false, Ok}
+use Rattle.std.specs.Prelude.{ℕ, ◌≡◌, Bool, true, false, Ok, None}
+use Rattle.std.specs.FinMap as map
 use Rattle.ufs_base.specs.Images as images
 use Rattle.ufs_image.specs.Opens.{ImageTree, opens}
 use Rattle.ufs_model.specs.PosixTree.{PosixTree}
@@ -13,6 +14,10 @@ pub record BeginsWith (sectors : ℕ) (image : images.Image) (start : PosixTree)
   pub tree : ImageTree
   pub opened : opens sectors image ≡ Ok tree
   pub start_is : start ≡ image_start tree
+
+-- No client has a descriptor in the tree.
+abbrev pub HasNothingOpen : PosixTree → Type 0
+HasNothingOpen start = (client fd : ℕ) → map.get start.fds (client, fd) ≡ None
 
 -- A server that can't begin with an image for this can with what a recovery leaves of it.
 abbrev pub is_mended : StartFault → Bool

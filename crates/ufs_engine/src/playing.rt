@@ -1,6 +1,6 @@
 // Playing a script on one thread.
 ghost use Rattle.std.specs.Prelude.{ℕ, ◌≡◌, ◌≢◌, ◌⊎◌, [], Err, IsOk, IsTrue, OnOk};
-ghost use Rattle.ufs_engine.specs.Begins.{BeginsWith, TellsNoSession};
+ghost use Rattle.ufs_engine.specs.Begins.{BeginsWith, HasNothingOpen, TellsNoSession};
 ghost use Rattle.ufs_disk.specs.Disk.{Leaves};
 ghost use Rattle.ufs_disk.specs.Moments.{reads};
 ghost use Rattle.ufs_base.specs.declared.lack.Lack.{Lack};
@@ -64,8 +64,8 @@ pub struct Played<D: Disk> {
 /// and what a crash leaves at a moment before is explained so by the entries that were answered by then, and by the first
 /// entries, for each number of them from one stamp of the session's hand to another.
 pub fn play<D: Disk>(alloc: Global, script: Script, _lease: u32, disk: D) -> Played<D>
-    // over any disk: some tree gives the replies
-    ensures legal { (start : PosixTree) × IsPlayedFrom start script.clients result.told (served_end result.ended) (joined result.told) }
+    // over any disk: some tree gives the replies, in which nothing is open
+    ensures legal { (start : PosixTree) × HasNothingOpen start × IsPlayedFrom start script.clients result.told (served_end result.ended) (joined result.told) }
     ensures once { AreTicketsOnce (joined result.told) }
     ensures refused { (fault : StartFault) → result.ended ≡ Err (ending.Image fault) → result.told ≡ [] }
     ensures outside { (w : Lack) → result.ended ≢ Err (ending.Image (start.Image (image.Lack w))) }
@@ -73,6 +73,8 @@ pub fn play<D: Disk>(alloc: Global, script: Script, _lease: u32, disk: D) -> Pla
     ensures faults { AreFaultsOf (D.faults disk) (D.faults result.disk) (joined result.told) }
     ensures unopened { IsTrue D.visible → (refusal : Refusal) → opens (D.size disk) (reads (D.moments disk)) ≡ Err refusal
         → ((w : Lack) × (result.ended ≡ Err (ending.Lack w))) ⊎ ((fault : RecoverFault) × (result.ended ≡ Err (ending.Image (start.Image fault))) × TellsWhy (D.size disk) (reads (D.moments disk)) fault) }
+    ensures unserved { IsTrue D.visible → (refusal : Refusal) → opens (D.size disk) (reads (D.moments disk)) ≡ Err refusal → result.told ≡ [] }
+    ensures stands { IsTrue D.visible → (refusal : Refusal) → opens (D.size disk) (reads (D.moments disk)) ≡ Err refusal → OnOk result.ended ⊥ }
     ensures closing { IsEndFault (D.faults disk) (D.faults result.disk) (joined result.told) result.ended }
     ensures size { D.size result.disk ≡ D.size disk }
     // over a proper visible disk: the tree that its image stands for gives them

@@ -76,6 +76,8 @@ unread_left c told status stands none untouched same other = record {
       (none_stamped c.keeps c.sectors begun c.from c.to (as_begun begun (stands c.from.state begun may.proper with) may.proper));
   clean = λ may zero. absurd (other zero);
   last = λ may begun with zero. absurd (other zero);
+  unserved = λ visible refusal is. none;
+  undone = λ visible refusal is. other;
   broken = λ two. untouched;
   unread = λ six. untouched;
 }

@@ -2,7 +2,7 @@
 use Rattle.std.proofs.Common.{◌≡◌, ◌⊎◌, inl, inr, ℕ, List, [], length, Result, Ok, Err, ap, sym, subst, refl, ◌∙◌}
 use Rattle.std.specs.Prelude.{Bool, IsTrue}
 use Rattle.ufs_base.specs.declared.lack.Lack.{Lack}
-use Rattle.ufs_engine.specs.Begins.{BeginsWith, TellsNoSession}
+use Rattle.ufs_engine.specs.Begins.{BeginsWith, HasNothingOpen, TellsNoSession}
 use Rattle.ufs_catalog.specs.Faults.{IsWhyNot}
 use Rattle.ufs_catalog.specs.declared.fault.RecoverFault.{RecoverFault}
 use Rattle.ufs_catalog.specs.declared.fault.RecoverFault.TheVariants as recover
@@ -31,7 +31,7 @@ use Rattle.ufs_quiet.proofs.PrintLemmas.{output_is}
 
 -- what is known of a session that was played, and of the disk's counts
 pub record HasPlayed (d : Formatting) (script : Script) (told : List (List Entry)) (result : Result (Unit {0}) PlayFault) : Type 0 where
-  pub legal : (begun : PosixTree) × ArePlayedFrom begun script.clients told result
+  pub legal : (begun : PosixTree) × HasNothingOpen begun × ArePlayedFrom begun script.clients told result
   pub refused : (fault : StartFault) → result ≡ Err (ended.Image fault) → told ≡ []
   pub opening : (fault : StartFault) → result ≡ Err (ended.Image fault) → HasStartCause d.before d.now fault
   pub closing : IsEndFault d.before d.now (joined told) result
@@ -59,7 +59,7 @@ told_why given (recover.Lack _) why refusal is none = cc
 module _ (trace : Bool) (d : Formatting) (script : Script) (told : List (List Entry)) where
   cut_session : (result : Result (Unit {0}) PlayFault) → HasPlayed d script told result → IsCutSessionOf d script told
   cut_session result h = record {
-    any = let p = h.legal in (p.0, record { legal = p.1.legal; ordered = p.1.ordered; servers = p.1.servers });
+    any = let p = h.legal in (p.0, p.1, record { legal = p.2.legal; ordered = p.2.ordered; servers = p.2.servers });
     opened = h.opened;
     begun = λ may begun with. let p = h.played may begun with in record { legal = p.legal; ordered = p.ordered; servers = p.servers };
   }
@@ -67,11 +67,11 @@ module _ (trace : Bool) (d : Formatting) (script : Script) (told : List (List En
   session : (result : Result (Unit {0}) PlayFault) → served_end result ≡ Ok tt → HasPlayed d script told result → IsSessionOf d script told
   session result well h = record {
     history_is = record {
-      any = let p = h.legal in (p.0, record { legal = p.1.legal; ordered = p.1.ordered; servers = p.1.servers; complete = p.1.complete well });
+      any = let p = h.legal in (p.0, p.1, record { legal = p.2.legal; ordered = p.2.ordered; servers = p.2.servers; complete = p.2.complete well });
       opened = h.opened;
       begun = λ may begun with. let p = h.played may begun with in record { legal = p.legal; ordered = p.ordered; servers = p.servers; complete = p.complete well };
     };
-    lines = let p = h.legal.1 in output_is told (joined told) (length script.clients) p.merged (p.each well);
+    lines = let p = h.legal.2 in output_is told (joined told) (length script.clients) p.merged (p.each well);
   }
 
   -- none began

@@ -16,6 +16,7 @@ use Rattle.ufs_model.specs.PosixTree.{PosixTree}
 use Rattle.ufs_model.specs.declared.data.Entry.{Entry}
 use Rattle.ufs_engine.specs.Plays.{IsStampedThroughout, MayPlay}
 use Rattle.ufs_recover.specs.Stopped.{IsNewDisk, IsStopped}
+use Rattle.ufs_recover.specs.Tables.{IsOutside}
 use Rattle.ufs_recovery.specs.Home.{KeepsTree}
 use Rattle.ufs_recovery.specs.Recovered.{IsCleanDisk, IsProperDisk, IsRecovered}
 use Rattle.ufs_session.specs.Throughout.{IsExplainedThroughout}
@@ -33,6 +34,9 @@ pub record Formats {D : Type 0} (g : Geometry) (status : ℕ) (c : Course D) : T
   pub formatted : IsTrue c.visible → status ≡ 0 → IsNewDisk g c.sectors c.to.state
   -- At each moment, whatever the status, a crash leaves what it might have left before, no superblock, or a new image.
   pub crash : IsTrue c.visible → LeavesOnly c.keeps (IsStopped g c.sectors c.from.state) c.from c.to
+  -- Whatever the status, what stands in the superblock's block behind the superblock, and in the data area and behind it, reads
+  -- as before.
+  pub others : IsTrue c.visible → (s : ℕ) → IsOutside g s → reads c.to s ≡ reads c.from s
   -- A geometry that is refused, one that is too large for the disk, and want of memory leave it.
   pub refused : geometry_refusal g ≢ None → c.new ≡ c.old
   pub small : c.sectors < sector_count g → c.new ≡ c.old
@@ -65,6 +69,9 @@ pub record Plays {D : Type 0} (told : List (List Entry)) (status : ℕ) (c : Cou
   -- Status 0: the disk is proper and clean, nothing is pending, and it stands for the tree behind the history.
   pub clean : MayPlay c.visible c.sectors c.from.state → status ≡ 0 → IsCleanDisk c.sectors c.to.state
   pub last : MayPlay c.visible c.sectors c.from.state → (start : PosixTree) → BeginsWith c.sectors (reads c.from) start → status ≡ 0 → StandsForTree c.sectors (tree_after start (joined told)) (reads c.to)
+  -- Over a visible disk whose image stands for no tree nobody is served, and the status isn't 0.
+  pub unserved : IsTrue c.visible → (refusal : Refusal) → opens c.sectors (reads c.from) ≡ Err refusal → told ≡ []
+  pub undone : IsTrue c.visible → (refusal : Refusal) → opens c.sectors (reads c.from) ≡ Err refusal → status ≢ 0
   -- Where there is no script, it is as it was.
   pub broken : status ≡ 2 → c.new ≡ c.old
   pub unread : status ≡ 6 → c.new ≡ c.old

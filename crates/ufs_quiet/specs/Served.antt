@@ -1,7 +1,7 @@
 -- What it means that a script was served over a disk, and what is written then.
 use Rattle.std.specs.Prelude.{ℕ, ◌≡◌, ◌⊎◌, ◌++◌, Bool, true, false, List, [], length, flat_map, Result, Err}
 use Rattle.ufs_client.specs.Own.{AreServedFrom}
-use Rattle.ufs_engine.specs.Begins.{BeginsWith}
+use Rattle.ufs_engine.specs.Begins.{BeginsWith, HasNothingOpen}
 use Rattle.ufs_model.specs.PosixTree.{PosixTree}
 use Rattle.ufs_model.specs.History.{IsLegal, IsInOrder, IsComplete, joined}
 use Rattle.ufs_model.specs.declared.data.Entry.{Entry}
@@ -53,9 +53,9 @@ session_lines trace history = lines_of history ++ trace_part trace history
 -- ---- over a disk
 
 -- A session that begins with the tree of the disk's image is this. Of a disk that isn't visible, or that isn't
--- proper, it begins with some tree.
+-- proper, it begins with some tree in which nothing is open.
 pub record IsFromDisk (d : Formatting) (Is : PosixTree → Type 0) : Type 0 where
-  pub any : (start : PosixTree) × Is start
+  pub any : (start : PosixTree) × HasNothingOpen start × Is start
   -- the image stands for a tree,
   pub opened : MayPlay d.visible d.sectors d.state → (start : PosixTree) × BeginsWith d.sectors d.image start
   -- and with this one

@@ -1,7 +1,8 @@
-ghost use Rattle.std.specs.Prelude.{◌≡◌, ◌≢◌, ◌<◌, None, IsTrue, IfOk};
-ghost use Rattle.ufs_disk.specs.Moments.{LeavesOnly};
+ghost use Rattle.std.specs.Prelude.{ℕ, ◌≡◌, ◌≢◌, ◌<◌, None, IsTrue, IfOk};
+ghost use Rattle.ufs_disk.specs.Moments.{LeavesOnly, reads};
 ghost use Rattle.ufs_layout.specs.Areas.{IsGeometry, geometry_refusal, sector_count};
 ghost use Rattle.ufs_recover.specs.Stopped.{IsNewDisk, IsStopped};
+ghost use Rattle.ufs_recover.specs.Tables.{IsOutside};
 ghost use Rattle.ufs_quiet.specs.Texts.{made_line, device_line};
 ghost use Rattle.ufs_quiet.specs.Seen.{formatting, writing};
 ghost use Rattle.ufs_quiet.specs.Endings.{EndsMkfs, IsAnswer};
@@ -43,6 +44,7 @@ fn format_disk<K: Sink, D: Disk>(
     ensures crash { IsTrue D.visible → LeavesOnly D.keeps
         (IsStopped geometry.now (D.size disk.old) (D.moments disk.old).state)
         (D.moments disk.old) (D.moments disk.new) }
+    ensures others { IsTrue D.visible → (s : ℕ) → IsOutside geometry.now s → reads (D.moments disk.new) s ≡ reads (D.moments disk.old) s }
     ensures small { D.size disk.old < sector_count geometry.now → disk.new ≡ disk.old }
     ensures starved { result ≡ 5 → disk.new ≡ disk.old }
     ensures size { D.size disk.new ≡ D.size disk.old }
@@ -72,6 +74,7 @@ pub fn mkfs<K: Sink, D: Disk>(alloc: Global, asked: Geometry, sink: &mut K, disk
     ensures crash { IsTrue D.visible → LeavesOnly D.keeps
         (IsStopped asked (D.size disk.old) (D.moments disk.old).state)
         (D.moments disk.old) (D.moments disk.new) }
+    ensures others { IsTrue D.visible → (s : ℕ) → IsOutside asked s → reads (D.moments disk.new) s ≡ reads (D.moments disk.old) s }
     ensures refused { geometry_refusal asked ≢ None → disk.new ≡ disk.old }
     ensures small { D.size disk.old < sector_count asked → disk.new ≡ disk.old }
     ensures starved { result ≡ 5 → disk.new ≡ disk.old }

@@ -1,11 +1,16 @@
-use Rattle.std.proofs.Common.{◌≡◌, ℕ, List, [], Result, Err, sym, subst, ◌∙◌}
+use Rattle.std.proofs.Common.{◌≡◌, ℕ, List, [], Result, Ok, Err, sym, subst, ◌∙◌}
+use Rattle.std.specs.Prelude.{IsTrue}
+use Rattle.std.specs.FinMap.{get-empty}
 use Rattle.ufs_disk.specs.Disk.{Leaves}
 use Rattle.ufs_disk.specs.Moments.{reads}
 use Rattle.ufs_client.proofs.Lists.{once_rising}
 use Rattle.ufs_client.specs.declared.played.EndFault.{EndFault}
+use Rattle.ufs_image.specs.Opens.{opens}
+use Rattle.ufs_image.specs.Volume.{Refusal}
 use Rattle.ufs_last.specs.Last.{StandsForTree}
 use Rattle.ufs_ledger.specs.Kept.{OpensExplained}
 use Rattle.ufs_model.specs.History.{AreTicketsOnce, joined, tree_after}
+use Rattle.ufs_model.specs.Order.{fd_cmp}
 use Rattle.ufs_model.specs.PosixTree.{PosixTree, root_alone}
 use Rattle.ufs_model.specs.declared.data.Entry.{Entry}
 use Rattle.ufs_engine.specs.Begins.{BeginsWith}
@@ -67,7 +72,7 @@ returns-in-Ok-clause-legal g c =
     let s = c.serve-session in
     let end = c.whole_end in
     let from = s.ensures.played in
-    (from.tree, played_as from.tree c.args.script.clients s.result.session.told s.result.session.ended (served_end end.result) (told g c) end.ensures.served from.played)
+    (from.tree, from.begins.closed, played_as from.tree c.args.script.clients s.result.session.told s.result.session.ended (served_end end.result) (told g c) end.ensures.served from.played)
 
 pub returns-in-Ok-clause-faults : goal.returns-in-Ok-clause-faults
 returns-in-Ok-clause-faults g c =
@@ -86,6 +91,19 @@ returns-in-Ok-clause-closing g c =
     subst (λ (n : ℕ). IsEndFault n now (told g c) end.result) b.passed
     (end_fault (first g c) (last g c) b.going (told g c) c.serve-session.ensures.faults now closing.result.ended closing.ensures.cause closing.ensures.stopped
     end.result end.ensures.closed end.ensures.device end.ensures.stopped)
+
+-- The image stood for a tree.
+stood : (g : Over) (c : After-drop-script g) → IsTrue g.D.Disk.visible → (refusal : Refusal) → opens (g.D.Disk.size c.args.disk) (reads (g.D.Disk.moments c.args.disk)) ≡ Err refusal → ⊥
+stood g c visible refusal none =
+    let tree = c.in-Ok.ensures.stands visible in
+    let both : Ok tree.0 ≡ Err refusal = sym tree.1 ∙ none in
+    cc
+
+pub returns-in-Ok-clause-unserved : goal.returns-in-Ok-clause-unserved
+returns-in-Ok-clause-unserved g c visible refusal none = absurd (stood g c visible refusal none)
+
+pub returns-in-Ok-clause-stands : goal.returns-in-Ok-clause-stands
+returns-in-Ok-clause-stands g c visible refusal none = absurd (stood g c visible refusal none)
 
 pub returns-in-Ok-clause-size : goal.returns-in-Ok-clause-size
 returns-in-Ok-clause-size g c = c.close-closed.ensures.size ∙ sized g c
@@ -158,12 +176,16 @@ returns-in-Err-clause-legal g c =
     let clients = c.args.script.clients in
     let ended = not_served c.unbegun_end.result c.in-Err.unbegun.fault c.unbegun_end.ensures.which in (
       root_alone,
+      (λ client fd. get-empty fd_cmp (client, fd)),
       subst (λ (told : List (List Entry)). IsPlayedFrom root_alone clients told (served_end (Err c.unbegun_end.result)) (joined told)) (sym (c.from_vec.ensures ∙ c.new.ensures.items))
           (subst (λ (r : Result (Unit {0}) EndFault). IsPlayedFrom root_alone clients [] r []) (sym ended) (none_played root_alone clients)),
     )
 
 pub returns-in-Err-clause-once : goal.returns-in-Err-clause-once
 returns-in-Err-clause-once g c = subst (λ (told : List (List Entry)). AreTicketsOnce (joined told)) (sym (c.from_vec.ensures ∙ c.new.ensures.items)) (once_rising [] tt)
+
+pub returns-in-Err-clause-unserved : goal.returns-in-Err-clause-unserved
+returns-in-Err-clause-unserved g c visible refusal none = c.from_vec.ensures ∙ c.new.ensures.items
 
 pub returns-in-Err-clause-faults : goal.returns-in-Err-clause-faults
 returns-in-Err-clause-faults g c =

@@ -38,6 +38,8 @@ returns-clause-acts g c =
       stamped = is.stamped;
       clean = λ may zero. on_whole ended (session_lines c.args.trace (joined told)) w status c.tell_played.ensures (IsCleanDisk size to.state) (is.clean may) zero;
       last = λ may start with zero. on_whole ended (session_lines c.args.trace (joined told)) w status c.tell_played.ensures (StandsForTree size (tree_after start (joined told)) (reads to)) (is.last may start with) zero;
+      unserved = is.unserved;
+      undone = λ visible refusal none zero. on_whole ended (session_lines c.args.trace (joined told)) w status c.tell_played.ensures ⊥ (is.stands visible refusal none) zero;
       broken = λ two. absurd (never_unread ended (session_lines c.args.trace (joined told)) w status c.tell_played.ensures (inl two));
       unread = λ six. absurd (never_unread ended (session_lines c.args.trace (joined told)) w status c.tell_played.ensures (inr six));
     }

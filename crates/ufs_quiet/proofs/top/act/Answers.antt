@@ -18,6 +18,7 @@ returns-in-Mkfs-clause-disk g c =
     (record {
       formatted = c.mkfs.ensures.formatted;
       crash = c.mkfs.ensures.crash;
+      others = c.mkfs.ensures.others;
       refused = c.mkfs.ensures.refused;
       small = c.mkfs.ensures.small;
       starved = c.mkfs.ensures.starved;
