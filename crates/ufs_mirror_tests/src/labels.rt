@@ -139,7 +139,15 @@ fn a_fault_while_a_pair_opens(rt: HostRuntime) {
         same(&rt, faulty(&rt, whole.as_slice(), &[], &[call]), refused);
     }
     for call in 2..8 {
-        same(&rt, faulty(&rt, whole.as_slice(), &[], &[call]), Ok(LiveLegs::First));
+        same(
+            &rt,
+            faulty(&rt, whole.as_slice(), &[], &[call]),
+            Ok(LiveLegs::First),
+        );
     }
-    same(&rt, faulty(&rt, whole.as_slice(), &[7], &[8]), Ok(LiveLegs::Both));
+    same(
+        &rt,
+        faulty(&rt, whole.as_slice(), &[7], &[8]),
+        Ok(LiveLegs::Both),
+    );
 }

@@ -58,7 +58,11 @@ pub fn filling<R: Abort>(rt: &R, mirror: &mut Legs, sector: u32) -> Option<u8> {
     if mirror.read(sector, &mut buf).is_err() {
         return None;
     }
-    if buf == [buf[0]; SECTOR] { Some(buf[0]) } else { None }
+    if buf == [buf[0]; SECTOR] {
+        Some(buf[0])
+    } else {
+        None
+    }
 }
 
 /// A leg of zeros.
@@ -96,7 +100,10 @@ fn both_legs_have_what_was_written(rt: HostRuntime) {
     are_bytes(&rt, first.as_slice(), second.as_slice());
     let mut again = mirror(
         &rt,
-        Mirror::open(leg(&rt, first.as_slice(), &[]), leg(&rt, second.as_slice(), &[])),
+        Mirror::open(
+            leg(&rt, first.as_slice(), &[]),
+            leg(&rt, second.as_slice(), &[]),
+        ),
     );
     holds(&rt, is_filled(&rt, &mut again));
     same(&rt, again.live(), LiveLegs::Both);
@@ -127,7 +134,10 @@ fn a_leg_that_fails_is_let_go(rt: HostRuntime) {
     // a barrier; then a write and a barrier of its label.
     let mut opened = mirror(
         &rt,
-        Mirror::open(leg(&rt, first.as_slice(), &[]), leg(&rt, second.as_slice(), &[8])),
+        Mirror::open(
+            leg(&rt, first.as_slice(), &[]),
+            leg(&rt, second.as_slice(), &[8]),
+        ),
     );
     same(&rt, opened.live(), LiveLegs::Both);
     holds(&rt, fill(&rt, &mut opened, 3, 77));
@@ -138,7 +148,10 @@ fn a_leg_that_fails_is_let_go(rt: HostRuntime) {
     holds(&rt, first.as_slice() != second.as_slice());
     let mut again = mirror(
         &rt,
-        Mirror::open(leg(&rt, first.as_slice(), &[]), leg(&rt, second.as_slice(), &[])),
+        Mirror::open(
+            leg(&rt, first.as_slice(), &[]),
+            leg(&rt, second.as_slice(), &[]),
+        ),
     );
     same(&rt, filling(&rt, &mut again, 3), Some(77));
     same(&rt, filling(&rt, &mut again, 4), Some(78));
@@ -152,7 +165,10 @@ fn a_mirror_of_no_legs_fails(rt: HostRuntime) {
     let (first, second) = filled(&rt);
     let mut opened = mirror(
         &rt,
-        Mirror::open(leg(&rt, first.as_slice(), &[8, 9]), leg(&rt, second.as_slice(), &[8])),
+        Mirror::open(
+            leg(&rt, first.as_slice(), &[8, 9]),
+            leg(&rt, second.as_slice(), &[8]),
+        ),
     );
     holds(&rt, !fill(&rt, &mut opened, 3, 77));
     same(&rt, opened.live(), LiveLegs::Neither);
@@ -167,7 +183,10 @@ fn a_read_goes_to_the_other_leg(rt: HostRuntime) {
     let (first, second) = filled(&rt);
     let mut opened = mirror(
         &rt,
-        Mirror::open(leg(&rt, first.as_slice(), &[7]), leg(&rt, second.as_slice(), &[])),
+        Mirror::open(
+            leg(&rt, first.as_slice(), &[7]),
+            leg(&rt, second.as_slice(), &[]),
+        ),
     );
     holds(&rt, is_filled(&rt, &mut opened));
     same(&rt, opened.live(), LiveLegs::Both);

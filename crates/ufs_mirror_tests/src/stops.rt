@@ -15,7 +15,12 @@ fn fused<R: Abort + AllocGlobal>(rt: &R, image: &[u8], passes: u64) -> FuseDisk 
 
 // The first bytes of sector 5, one after another, up to the last one that a barrier made durable; the images that a crash
 // leaves then.
-fn run<R: Abort + AllocGlobal>(rt: &R, image: &[u8], passes: u64, pick: u64) -> (u8, Vec<u8>, Vec<u8>) {
+fn run<R: Abort + AllocGlobal>(
+    rt: &R,
+    image: &[u8],
+    passes: u64,
+    pick: u64,
+) -> (u8, Vec<u8>, Vec<u8>) {
     let first = fused(rt, image, passes);
     let second = fused(rt, image, passes + 3);
     let mut durable = 0;

@@ -125,7 +125,11 @@ fn other_words_are_refused(rt: HostRuntime) {
         same(&rt, command_of(&rt, *line), None);
     }
     let none = Vec::new(rt.alloc());
-    same(&rt, read_command(rt.alloc(), none.as_slice()).expect(&rt, "memory"), None);
+    same(
+        &rt,
+        read_command(rt.alloc(), none.as_slice()).expect(&rt, "memory"),
+        None,
+    );
 }
 
 // Asserts which words name the image and its mirror.
