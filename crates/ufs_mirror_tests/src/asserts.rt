@@ -19,6 +19,8 @@ pub fn are_bytes(rt: &impl Abort, found: &[u8], wanted: &[u8]) {
 }
 
 /// Tells the number of the row where the fact isn't so.
-pub fn holds_in(rt: &impl Abort, fact: bool, row: u64) {
+pub fn holds_in(rt: &impl Abort, fact: bool, row: u64)
+    ensures { fact ≡ true }
+{
     assert!(rt; fact, "{row}");
 }

@@ -66,14 +66,20 @@ fn a_label_is_these_bytes(rt: HostRuntime) {
     are_bytes(&rt, label, &wanted);
 }
 
-// A byte of the label is another one: it is no label.
+// A label of which one byte is another one.
+fn spoiled_label(at: usize) -> [u8; SECTOR] {
+    let mut label = [0; SECTOR];
+    label[..9].copy_from_slice(&[0x75, 0x46, 0x53, 0x4d, 0x49, 0x52, 0x30, 0x31, 9]);
+    if at < SECTOR {
+        label[at] ^= 0x40;
+    }
+    label
+}
+
+// A leg with that label.
 fn spoiled<R: Abort + AllocGlobal>(rt: &R, at: usize) -> MemoryDisk {
     let mut bytes = [0; BYTES];
-    bytes[LABEL..LABEL + 8].copy_from_slice(b"uFSMIR01".as_slice());
-    bytes[LABEL + 8] = 9;
-    if at < SECTOR {
-        bytes[LABEL + at] ^= 0x40;
-    }
+    bytes[LABEL..].copy_from_slice(&spoiled_label(at));
     leg(rt, &bytes, &[])
 }
 
