@@ -1,0 +1,213 @@
+-- A turn of the store in which the commit of a file failed may end.
+use Rattle.std.proofs.Common.{◌≡◌, ◌≢◌, ℕ, ◌≤◌, ◌⊎◌, inl, inr, Bool, true, false, cond, ◌||◌, eqb, ne_eqb, leb, List, [], ◌∷◌, length, map, Option, Some, None, is_some, sym, refl, ap, ◌∙◌, subst, arith}
+use Rattle.std.specs.Prelude.{IsSome, drop}
+use Rattle.std.proofs.lemmas.List.{append-nil}
+use Rattle.std.specs.FinMap as fin
+use Rattle.std.specs.List.{slice_get}
+use Rattle.ufs_bitmap.specs.Blocks.{BlockSet}
+use Rattle.ufs_disk.specs.Disk.{Leaves}
+use Rattle.ufs_disk.specs.Moments.{Passes, all}
+use Rattle.ufs_sound.proofs.Keys.{itself}
+use Rattle.ufs_durable.specs.Committing.{CommitsShowAll, FilesMayCommitNext, HasTreeBytes, StagesAreKept, WritesAreKept}
+use Rattle.ufs_durable.specs.Standing.{DirtyMayBeWritten, StandsWhileWritten}
+use Rattle.ufs_durable.specs.Others.{StandsBehindWrites}
+use Rattle.ufs_model.specs.Laws.{KeepsTrees}
+use Rattle.ufs_files.proofs.MapLemmas.{one_or_apart}
+use Rattle.ufs_layout.specs.declared.geometry.Geometry.{Geometry}
+use Rattle.ufs_model.specs.PosixTree.{PosixTree}
+use Rattle.ufs_model.specs.declared.data.Entry.{Entry}
+use Rattle.ufs_on_disk.specs.Syncs.{HasFailed, HasWritten, LeavesStages}
+use Rattle.ufs_sound.specs.Owned.{Has, count, find}
+use Rattle.ufs_sound.specs.Parts.{Cells, only_one}
+use Rattle.ufs_store.specs.State.{StoreState, geometry_of_store}
+use Rattle.ufs_stored.specs.AlwaysLaws.{ImagesAreExplained}
+use Rattle.ufs_stored.specs.Laws.{EmptiedIsStored}
+use Rattle.ufs_stored.specs.OnDisk.{IsExplainedBetween, IsExplainedImage}
+use Rattle.ufs_stored.specs.Parts.{Parts, durable_in}
+use Rattle.ufs_stored.specs.Sound.{IsSoundServer}
+use Rattle.ufs_joint.specs.Cells.{FileCell, StoreCell, View, store_of, store_since}
+use Rattle.ufs_joint.specs.FileHands.{FailsFile, FileFailuresGoOn, FileFailuresMayEnd, IsAsBegun, IsSyncHand, WentOn, failed_turn}
+use Rattle.ufs_joint.specs.Kept.{GoesKnown, IsDiskKept, Known}
+use Rattle.ufs_store_steps.specs.Cells.{cells_of}
+use Rattle.ufs_joint.specs.Turns.{EndsOnDisk, MayEndTurn, Turn, known_by}
+use Rattle.ufs_joint.specs.Whole.{HasCells, HasFileCell, birth_known, changes_known, file_changes_at}
+use Rattle.ufs_joint.proofs.FileFailing.{failed}
+use Rattle.ufs_joint.proofs.FileWriting.{goes_on}
+use Rattle.ufs_joint.proofs.FileTurns.{or_none}
+use Rattle.ufs_joint.proofs.Disks.{among, drop_behind}
+use Rattle.ufs_joint.proofs.Kept.{IsLess, less_kept, since_kept}
+use Rattle.ufs_joint.proofs.Meanwhile.{explained_between, may_leave}
+use Rattle.ufs_joint.proofs.OneFile.{durable_is, none_here, one_here, same_file_goes}
+
+module _ (dirty : DirtyMayBeWritten) (may_next : FilesMayCommitNext) (writes : WritesAreKept) (shows : CommitsShowAll) (staged : StagesAreKept) (tree_bytes : HasTreeBytes) (trees : KeepsTrees) (stands : StandsWhileWritten) (others : StandsBehindWrites) (g : Geometry) (empties : EmptiedIsStored g) (each : ImagesAreExplained g)
+    (keeps visible : Bool) (v : View) (file : ℕ) (cell : FileCell) (was left : StoreCell) (passed : List Cells) (told : List ℕ) (form : geometry_of_store (store_of was) ≡ g) (hand : IsSyncHand visible v file cell was) (fails : FailsFile keeps visible was left cell.value passed told) where
+  abbrev t : Turn
+  t = failed_turn file cell left passed told
+
+  has_file : Has (file, cell) v.files
+  has_file = subst (Has (file, cell)) (sym hand.files) (inl refl)
+
+  only_file : (other : ℕ) (c : FileCell) → Has (other, c) v.files → (other ≡ file) × (c ≡ cell)
+  only_file other c has = by (subst (Has (other, c)) hand.files has)
+    where
+      by : Has {A = ℕ × FileCell} (other, c) ((file, cell) ∷ []) → (other ≡ file) × (c ≡ cell)
+      by (inl is) = (ap (λ (q : ℕ × FileCell). q.0) is, ap (λ (q : ℕ × FileCell). q.1) is)
+      by (inr is) = absurd is
+
+  -- ---- whole parts
+
+  module _ (p : Parts) (cells : HasCells v p) where
+    its : HasFileCell p file cell
+    its = cells.files file cell has_file
+
+    here : fin.get p.files cell.value.file.file ≡ Some cell.value.file
+    here = ap (fin.get p.files) hand.number ∙ its.file_is
+
+    durable : durable_in p.commits cell.value.file ≡ cell.value
+    durable = durable_is p file cell hand.number its
+
+    -- ---- the disk
+
+    module _ (seen : visible ≡ true) (start : PosixTree) (history : List Entry) (known : Known) (around : IsAsBegun v was start history p known) where
+      abbrev old : StoreState
+      old = store_since fails.earlier was
+
+      abbrev new : StoreState
+      new = store_since fails.later left
+
+      was_kept : IsDiskKept old start history p known
+      was_kept = since_kept was [] fails.earlier start history p known around.kept
+
+      birth_is : known.born file ≡ true
+      birth_is = around.knows.born file cell has_file hand.born
+
+      -- no more is known than was
+      less : IsLess (known_by start history t known) known
+      less = record { names = omega arith; files = λ other. files_at other (one_or_apart other file); born = λ other. born_at other (one_or_apart other file) }
+        where
+          files_at : (other : ℕ) → (other ≡ file) ⊎ (other ≢ file) → cond (leb 1 (count eqb other t.files)) (changes_known start history other (find eqb other t.files)) (known.files other) ≤ known.files other
+          files_at other (inl is) =
+              let a = one_here file other is cell in
+              let b : eqb other file ≡ true = ap (eqb other) (sym is) ∙ itself other in
+              let c : cond (leb 1 (count eqb other t.files)) (changes_known start history other (find eqb other t.files)) (known.files other) ≡ file_changes_at start history other cell.known =
+              (λ i. cond (leb 1 (a i)) (changes_known start history other (cond (b i) (Some cell) None)) (known.files other)) in
+              let d = subst (λ (m : ℕ). file_changes_at start history m cell.known ≤ known.files m) (sym is) (around.knows.files file cell has_file) in
+              omega (arith, c, d)
+          files_at other (inr not) =
+              let a = none_here file other not cell in
+              let c : cond (leb 1 (count eqb other t.files)) (changes_known start history other (find eqb other t.files)) (known.files other) ≡ known.files other = (λ i. cond (leb 1 (a i)) (changes_known start history other (find eqb other t.files)) (known.files other)) in
+              omega (arith, c)
+
+          born_at : (other : ℕ) → (other ≡ file) ⊎ (other ≢ file) → (known.born other || birth_known start history (find eqb other t.files)) ≡ true → known.born other ≡ true
+          born_at other (inl is) born = ap known.born is ∙ birth_is
+          born_at other (inr not) born =
+              let a : find eqb other t.files ≡ None = ap (λ b. cond b (Some cell) None) (ne_eqb other file not) in
+              sym (or_none (known.born other)) ∙ ap (λ (x : Option FileCell). known.born other || birth_known start history x) (sym a) ∙ born
+
+      -- the store went on until it failed
+      module _ (going : was.stop ≡ None) where
+        goes : IsDiskKept old start history p known → GoesKnown old start history p known
+        goes (inl k) = k
+        goes (inr k) = (let stop = k.stopped.stopped in let clash : false ≡ true = ap is_some (sym going) ∙ stop in absurd cc)
+
+        kept : GoesKnown old start history p known
+        kept = goes was_kept
+
+        there : IsSome (kept.going.counts.numbers.inode cell.value.file.file)
+        there = subst (λ (q : ℕ). IsSome (kept.going.counts.numbers.inode q)) (sym hand.number) (kept.covers.born file birth_is)
+
+        after : HasWritten old new cell.value ⊎ HasFailed old new cell.value → IsDiskKept new start history p known
+        after (inl told) =
+            inl (goes_on old new start history p cell.value.file here known (subst (HasWritten old new) (sym durable) told) kept there (subst EmptiedIsStored (sym form) empties) writes dirty tree_bytes stands others)
+        after (inr told) = inr (failed old new start history p cell.value.file here known fails.fits (subst (HasFailed old new) (sym durable) told) kept there trees writes shows may_next dirty tree_bytes)
+
+        between : IsExplainedBetween keeps was.sectors start history old.moments new.moments
+        between = explained_between g keeps old new start history p cell.value.file (subst (LeavesStages keeps old new) (sym durable) (fails.stages seen))
+            (may_leave g old start history p cell.value.file form here fails.fits (record { going = kept.going; there = there }) writes staged may_next dirty tree_bytes each)
+
+        passes : Passes (Leaves (IsExplainedImage was.sectors start history)) old.moments new.moments
+        passes = between.between (fails.left_so.keeps_all seen)
+
+        behind : passed ≡ map (cells_of was.sectors) passes.inside
+        behind = fails.left_so.went seen ∙ (λ i. map (cells_of (fails.left_so.sectors i)) (drop (length (all old.moments)) (passes.whole i))) ∙ ap (map (cells_of was.sectors)) (drop_behind (all old.moments) passes.inside)
+
+        ended : HasWritten old new cell.value ⊎ HasFailed old new cell.value → EndsOnDisk was t (λ q. q) start history p known
+        ended told = record {
+          kept = less_kept (store_of left) start history p (known_by start history t known) known less (since_kept left fails.later [] start history p known (after told));
+          picked = λ pick never. absurd never;
+          passed = λ cells has. among was.sectors start history passes.inside passes.each cells (subst (Has cells) behind has);
+        }
+
+      ends : (new ≡ old) ⊎ ((was.stop ≡ None) × (HasWritten old new cell.value ⊎ HasFailed old new cell.value)) → EndsOnDisk was t (λ q. q) start history p known
+      ends (inr told) = ended told.0 told.1
+      ends (inl same) = record {
+        kept = less_kept (store_of left) start history p (known_by start history t known) known less (since_kept left fails.later [] start history p known (subst (λ (s : StoreState). IsDiskKept s start history p known) (sym same) was_kept));
+        passed = λ cells has. absurd (subst (Has cells) none has);
+        picked = λ pick never. absurd never;
+      }
+        where
+          nothing : {A : Type 0} (xs : List A) → drop (length xs) xs ≡ []
+          nothing [] = refl
+          nothing (x ∷ xs) = nothing xs
+
+          none : passed ≡ []
+          none = fails.left_so.went seen ∙ ap (λ (s : StoreState). map (cells_of s.sectors) (drop (length (all old.moments)) (all s.moments))) same ∙ ap (map (cells_of was.sectors)) (nothing (all old.moments))
+
+      went_by : (new ≡ old) ⊎ ((was.stop ≡ None) × (HasWritten old new cell.value ⊎ HasFailed old new cell.value)) → WentOn old new
+      went_by (inl same) = ([], ap (λ (q : StoreState). all q.moments) same ∙ sym (append-nil (all old.moments)))
+      went_by (inr told) = (let is = passes told.0 in (is.inside, is.whole))
+
+  pub went_on : visible ≡ true → (start : PosixTree) (history : List Entry) (p : Parts) (known : Known) → IsAsBegun v was start history p known → WentOn (store_since fails.earlier was) (store_since fails.later left)
+  went_on seen start history p known begun = went_by p begun.cells seen start history known begun (fails.failed seen)
+
+  pub may_end : MayEndTurn g visible v t
+  may_end = record {
+    was = was;
+    has_store = hand.store;
+    stamp = fails.left_so.stamp;
+    past = fails.left_so.past;
+    sectors = fails.left_so.sectors;
+    formed = fails.left_so.geometry;
+    told = fails.left_so.told_so;
+    lent = λ seen other c has. let x = ap (λ (q : FileCell). q.changed) (only_file other c has).1 in let y = hand.changed seen in omega (arith, x, y);
+    lent_names = λ _ u c has. absurd (subst (Has (u, c)) hand.names has);
+    same_files = λ other. sym (ap (count eqb other) hand.files);
+    same_names = λ u. sym (ap (count only_one u) hand.names);
+    files = λ other c has. by other c has;
+    names = λ u c has. absurd has;
+    next = λ p. p;
+    goes = λ p cells. same_file_goes v.files file cell cell p.pool p hand.files hand.number (its p cells);
+    pool = λ p cells. refl;
+    read = λ pick none. absurd none;
+    once = tt;
+    away = λ other place c has absent. record {
+      before = cell;
+      has = subst (λ q. Has (q, cell) v.files) (sym (same_cell other c has).0) has_file;
+      absent = ap (λ (q : FileCell). slice_get q.value.file.content.there place) (sym (same_cell other c has).1) ∙ absent;
+      unpicked = λ pick none e at. absurd none;
+    };
+    parts = λ tree p cells _ are. are;
+    server = λ p cells numbered sound. subst (λ (q : BlockSet). IsSoundServer g q p) (sym fails.unfreed) sound;
+    disk = λ seen start history p known around. ends p around.cells seen start history known (record { cells = around.cells; knows = around.knows; kept = around.kept }) (fails.failed seen);
+  }
+    where
+      same_cell : (other : ℕ) (c : FileCell) → Has (other, c) t.files → (other ≡ file) × (c ≡ cell)
+      same_cell other c (inl is) = (ap (λ (q : ℕ × FileCell). q.0) is, ap (λ (q : ℕ × FileCell). q.1) is)
+      same_cell other c (inr is) = absurd is
+
+      by : (other : ℕ) (c : FileCell) → Has (other, c) t.files → (before : FileCell) × Has (other, before) v.files × (c.changed ≡ before.changed) × (visible ≡ true → c.known ≤ was.stamp)
+      by other c (inl is) = (
+        cell,
+        subst (λ q. Has (q, cell) v.files) (sym (ap (λ (q : ℕ × FileCell). q.0) is)) has_file,
+        ap (λ (q : ℕ × FileCell). q.1.changed) is,
+        λ seen. (let x = ap (λ (q : ℕ × FileCell). q.1.known) is in let y = hand.known seen in omega (arith, x, y)),
+      )
+      by other c (inr is) = absurd is
+
+pub file_failures_may_end : DirtyMayBeWritten → FilesMayCommitNext → WritesAreKept → CommitsShowAll → StagesAreKept → HasTreeBytes → KeepsTrees → StandsWhileWritten → StandsBehindWrites → (g : Geometry) → EmptiedIsStored g → ImagesAreExplained g → FileFailuresMayEnd g
+file_failures_may_end dirty may_next writes shows staged tree_bytes trees stands others g empties each keeps visible v file cell was left passed told form hand fails =
+    may_end dirty may_next writes shows staged tree_bytes trees stands others g empties each keeps visible v file cell was left passed told form hand fails
+
+pub file_failures_go_on : DirtyMayBeWritten → FilesMayCommitNext → WritesAreKept → CommitsShowAll → StagesAreKept → HasTreeBytes → KeepsTrees → StandsWhileWritten → StandsBehindWrites → (g : Geometry) → EmptiedIsStored g → ImagesAreExplained g → FileFailuresGoOn g
+file_failures_go_on dirty may_next writes shows staged tree_bytes trees stands others g empties each keeps visible v file cell was left passed told form hand fails =
+    went_on dirty may_next writes shows staged tree_bytes trees stands others g empties each keeps visible v file cell was left passed told form hand fails

@@ -1,0 +1,29 @@
+-- Each fault of the device excuses one entry at most, and a store stopped once.
+use Rattle.std.specs.Prelude.{ℕ, ◌+◌, ◌-◌, ◌^◌, ◌<◌, ◌≤◌, ◌≡◌, List, [], ◌∷◌, Some, min}
+use mathlib.Core.Option.{some}
+use lib.ListN.{get_elem?}
+use Rattle.ufs_model.specs.declared.data.Entry.{Entry}
+use Rattle.ufs_model.specs.declared.data.Excuse.TheVariants as excuse
+use Rattle.ufs_model.specs.declared.data.Reply.TheVariants as reply
+use Rattle.ufs_sound.specs.FaultsOnce.{told}
+use Rattle.ufs_sound.specs.Owned.{Has, times, total}
+use Rattle.ufs_joint.specs.Cells.{Start, StoreCell, View}
+
+-- the device's count of faults
+abbrev pub faults_in : List (Unit {0} × StoreCell) → ℕ
+faults_in [] = 0
+faults_in (c ∷ cs) = c.1.faults
+
+-- It is a fault of this session. The last number of the count, at which that stands still, is no fault's.
+pub record IsOfSession (k : Start) (s : StoreCell) (fault : ℕ) : Type 0 where
+  pub later : faults_in k.view.store < fault
+  pub answered : fault ≤ s.faults
+  pub below : fault < 2 ^ 64 - 1
+
+-- What a hand was told of a fault is of this session, and each fault excuses one entry, or is told to one hand and excuses none yet.
+pub record AreFaultsOnce (k : Start) (views : List View) (history : List Entry) (s : StoreCell) : Type 0 where
+  pub rose : min (faults_in k.view.store) (2 ^ 64 - 1) ≤ s.faults
+  pub once : (n : ℕ) → total (λ (v : View). times n v.faults) views + told n history ≤ 1
+  pub answered : (n : ℕ) → 1 ≤ total (λ (v : View). times n v.faults) views + told n history → IsOfSession k s n
+  pub stops : (i : ℕ) (v : View) → get_elem? views i ≡ some v → (n : ℕ) → v.stop ≡ Some n → s.stop ≡ Some n
+  pub stopped : (e : Entry) (n : ℕ) → Has e history → e.reply ≡ reply.Excused (excuse.Stopped n) → s.stop ≡ Some n
