@@ -1,0 +1,5 @@
+pub mod Hands
+pub mod Turning
+pub mod Syncing
+pub mod Emptying
+pub mod Pools

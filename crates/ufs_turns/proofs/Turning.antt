@@ -1,0 +1,165 @@
+-- A turn of the store between its two marks, whatever it is about.
+use Rattle.std.proofs.Common.{◌≡◌, zero, suc, ◌+◌, ◌-◌, ◌^◌, ◌<◌, ◌++◌, cond, eqb, eqb-true, leb, map, min, Option, ⊎_elim, ℕ, ◌≤◌, ◌⊎◌, inl, inr, Bool, true, false, List, [], ◌∷◌, length, Some, None, sym, refl, ap, ◌∙◌, subst, arith}
+use Rattle.std.specs.Prelude.{IsTrue, drop}
+use Rattle.std.proofs.lemmas.Bool.{leb-false}
+use Rattle.std.proofs.lemmas.List.{length-append, map-append}
+use Rattle.ufs_disk.specs.Disk.{IsWhole}
+use Rattle.ufs_disk.specs.Moments.{all}
+use Rattle.ufs_model.specs.declared.data.Entry.{Entry}
+use Rattle.ufs_sound.specs.Owned.{Has, one, times}
+use Rattle.ufs_sound.specs.Parts.{Cells, Stretch}
+use Rattle.ufs_sound.proofs.Owning.{has_append}
+use Rattle.ufs_store.specs.Refusals.{IsTold}
+use Rattle.ufs_store.specs.State.{StoreState, geometry_of_store}
+use Rattle.ufs_store_steps.specs.Cells.{cells_of}
+use Rattle.ufs_stored.specs.Parts.{Parts}
+use Rattle.ufs_joint.specs.Cells.{Start, StoreCell, View, store_since}
+use Rattle.ufs_joint.specs.Disks.{cell_of, states_behind}
+use Rattle.ufs_joint.specs.FileHands.{IsAsBegun, LeavesStore, WentOn}
+use Rattle.ufs_joint.specs.Kept.{Known}
+use Rattle.ufs_joint.specs.Known.{Knows}
+use Rattle.ufs_joint.specs.Turns.{AreFaultsTold, begun_at, rested, turn_begun}
+use Rattle.ufs_joint.proofs.Disks.{drop_behind, store_as_cell}
+use Rattle.ufs_turns.specs.HeldStore.{IsPassed, IsStoreIn, begun_in, begun_view, counted_in}
+use Rattle.ufs_turns.specs.Told.{fault_told, told_list}
+
+drop_within : {A : Type 0} (n : ℕ) (xs ys : List A) → n ≤ length xs → drop n (xs ++ ys) ≡ drop n xs ++ ys
+drop_within zero xs ys low = refl
+drop_within (suc n) [] ys low = absurd (omega (arith, low))
+drop_within (suc n) (x ∷ xs) ys low = drop_within n xs ys (omega (arith, low))
+
+-- ---- faults
+
+-- The faults that a call told are new.
+told_once : (n fault : ℕ) → times n (fault ∷ []) ≤ 1
+told_once n fault = by (eqb n fault)
+  where
+    by : (b : Bool) → one b + 0 ≤ 1
+    by true = omega arith
+    by false = omega arith
+
+told_is : (n fault : ℕ) → 1 ≤ times n (fault ∷ []) → n ≡ fault
+told_is n fault l = by (eqb n fault) refl l
+  where
+    by : (b : Bool) → eqb n fault ≡ b → 1 ≤ one b + 0 → n ≡ fault
+    by true is l = eqb-true n fault is
+    by false is l = absurd (omega (arith, l))
+
+faults_told : (was left : StoreCell) (told : Option ℕ) → IsTold was.faults left.faults told → ((n : ℕ) → was.stop ≡ Some n → left.stop ≡ Some n) → AreFaultsTold was left (told_list (fault_told told))
+faults_told was left None cause stops = record { rise = omega (arith, cause); once = λ n. omega arith; new = λ n l. absurd (omega (arith, l)); stopped = stops }
+faults_told was left (Some m) cause stops = by (leb (2 ^ 64 - 1) m) refl
+  where
+    rise : min was.faults (2 ^ 64 - 1) ≤ left.faults
+    rise = let a = cause.rose in omega (arith, a)
+
+    by : (b : Bool) → leb (2 ^ 64 - 1) m ≡ b → AreFaultsTold was left (told_list (cond b None (Some m)))
+    by true is = record { rise = rise; once = λ n. omega arith; new = λ n l. absurd (omega (arith, l)); stopped = stops }
+    by false is = record { rise = rise; once = λ n. told_once n m; new = new_one; stopped = stops }
+      where
+        below : m < 2 ^ 64 - 1
+        below = leb-false (2 ^ 64 - 1) m is
+
+        new_one : (n : ℕ) → 1 ≤ times n (m ∷ []) → (was.faults < n) × (n ≤ left.faults) × (n < 2 ^ 64 - 1)
+        new_one n l = let a = told_is n m l in let b = cause.rose in let c = cause.number in let d = below in (omega (arith, a, b, c, d), omega (arith, a, c), omega (arith, a, d))
+
+-- ---- between the marks
+
+module _ (k : Start) (visible keeps : Bool) (n : ℕ) (v w : View) (s t : StoreState) (knows : Knows k n v) (home : IsStoreIn k visible keeps v s) (begun : w ≡ begun_view v n) where
+  -- the store's cell before the turn
+  abbrev c : StoreCell
+  c = cell_of home.stamp home.past s
+
+  -- as it begins
+  abbrev was : StoreCell
+  was = begun_at n (cell_of home.stamp home.past s)
+
+  abbrev past : List Stretch
+  past = rested n (cell_of home.stamp home.past s) ∷ home.past
+
+  abbrev left : StoreCell
+  left = cell_of n (rested n (cell_of home.stamp home.past s) ∷ home.past) t
+
+  abbrev u : View
+  u = turn_begun n (cell_of home.stamp home.past s) v
+
+  abbrev passed : List Cells
+  passed = states_behind (begun_at n (cell_of home.stamp home.past s)).counted t
+
+  pub begun_is : w ≡ u
+  begun_is = begun ∙ ap (λ (cs : List (Unit {0} × StoreCell)). begun_in cs v n) home.has
+
+  module _ (whole_before : IsTrue visible → IsWhole s.sectors s.moments.state) (whole_behind : IsTrue visible → IsWhole t.sectors t.moments.state) (geometry : geometry_of_store t ≡ geometry_of_store s) (sectors : t.sectors ≡ s.sectors) where
+    pub before_is : k.is_visible ≡ true → s ≡ store_since s.moments.earlier was
+    before_is seen = sym (store_as_cell n past s (whole_before (home.sees seen).0))
+
+    pub behind_is : k.is_visible ≡ true → t ≡ store_since t.moments.earlier left
+    behind_is seen = sym (store_as_cell n past t (whole_behind (home.sees seen).0))
+
+    pub left_so : (told : Option ℕ) → IsTold s.faults t.faults told → ((n : ℕ) → s.stop ≡ Some n → t.stop ≡ Some n) → LeavesStore keeps k.is_visible was left s.moments.earlier t.moments.earlier passed (told_list (fault_told told))
+    left_so told cause stops = record {
+      told_so = faults_told was left told cause stops;
+      keeps_all = λ seen. (home.sees seen).1;
+      went = λ seen. (λ i. states_behind (length (all (before_is seen i).moments)) (behind_is seen i));
+      geometry = geometry;
+      sectors = sectors;
+      stamp = refl;
+      past = refl;
+    }
+
+    -- as the turn begins, of a visible disk
+    pub as_begun : (seen : k.is_visible ≡ true) → (history : List Entry) × (p : Parts) × (known : Known) × IsAsBegun u was k.tree history p known
+    as_begun seen =
+        let d = knows.disk seen tt c (subst (Has (tt, c)) (sym home.has) (inl refl)) in
+        let n = d.knows in (
+          knows.history,
+          d.parts,
+          d.known,
+          record {
+            cells = record { files = d.cells.files; names = d.cells.names };
+            knows = record { files = n.files; born = n.born; named = n.named; names = n.names; files_told = n.files_told; names_told = n.names_told };
+            kept = d.kept;
+          },
+        )
+
+    pub went : k.is_visible ≡ true → WentOn (store_since s.moments.earlier was) (store_since t.moments.earlier left) → WentOn s t
+    went seen on = (on.0, ap (λ (q : StoreState). all q.moments) (behind_is seen) ∙ on.1 ∙ ap (λ (q : StoreState). all q.moments ++ on.0) (sym (before_is seen)))
+
+  abbrev first : ℕ
+  first = counted_in k.view.store
+
+  abbrev ran : ℕ → Stretch
+  ran m = record { states = states_behind (length (all s.moments)) t; from = n; to = m }
+
+  -- the store's cell is the store again, behind what the turn passed
+  pub store_then : (m : ℕ) (z : View) → z.store ≡ (tt, cell_of n (record { states = states_behind (length (all s.moments)) t; from = n; to = m } ∷ rested n (cell_of home.stamp home.past s) ∷ home.past) t) ∷ [] → geometry_of_store t ≡ geometry_of_store s → t.sectors ≡ s.sectors → (k.is_visible ≡ true → WentOn s t)
+      → IsStoreIn k visible keeps z t
+  store_then m z has_store geometry sectors on = record {
+    stamp = n;
+    past = ran m ∷ past;
+    has = has_store;
+    sees = home.sees;
+    formed = geometry ∙ home.formed;
+    since = λ seen. (let a = home.since seen in let b = ap length (on seen).1 in let d = length-append (all s.moments) (on seen).0 in omega (arith, a, b, d));
+    covers = covers;
+  }
+    where
+      covers : k.is_visible ≡ true → (x : Cells) → Has x (states_behind (counted_in k.view.store) t) → (x ≡ cells_of t.sectors t.moments.state) ⊎ IsPassed x (ran m ∷ past)
+      covers seen x has = inr (⊎_elim old_ones new_ones (has_append x (map (cells_of s.sectors) (drop first (all s.moments))) (map (cells_of s.sectors) (on seen).0) (subst (Has x) parts has)))
+        where
+          parts : states_behind first t ≡ map (cells_of s.sectors) (drop first (all s.moments)) ++ map (cells_of s.sectors) (on seen).0
+          parts =
+              (λ i. map (cells_of (sectors i)) (drop first ((on seen).1 i))) ∙ ap (map (cells_of s.sectors)) (drop_within first (all s.moments) (on seen).0 (home.since seen))
+              ∙ map-append (cells_of s.sectors) (drop first (all s.moments)) (on seen).0
+
+          ran_has : map (cells_of s.sectors) (on seen).0 ≡ states_behind (length (all s.moments)) t
+          ran_has = sym ((λ i. map (cells_of (sectors i)) (drop (length (all s.moments)) ((on seen).1 i))) ∙ ap (map (cells_of s.sectors)) (drop_behind (all s.moments) (on seen).0))
+
+          new_ones : Has x (map (cells_of s.sectors) (on seen).0) → IsPassed x (ran m ∷ past)
+          new_ones h = (ran m, inl refl, subst (Has x) ran_has h)
+
+          old_of : (x ≡ cells_of s.sectors s.moments.state) ⊎ IsPassed x home.past → IsPassed x (ran m ∷ past)
+          old_of (inl is) = (rested n (cell_of home.stamp home.past s), inr (inl refl), inl is)
+          old_of (inr p) = (p.0, inr (inr p.1), p.2)
+
+          old_ones : Has x (map (cells_of s.sectors) (drop first (all s.moments))) → IsPassed x (ran m ∷ past)
+          old_ones h = old_of (home.covers seen x h)

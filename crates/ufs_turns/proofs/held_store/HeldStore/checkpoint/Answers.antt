@@ -1,0 +1,32 @@
+use Rattle.std.proofs.Common.{ℕ, ◌∙◌, ◌++◌, List, ap}
+use Rattle.std.specs.Prelude.{OnOk, Result, Ok, Err}
+use Rattle.ufs_joint.specs.Disks.{cell_of}
+use Rattle.ufs_store.specs.Refusals.{fault_in}
+use Rattle.ufs_store.specs.declared.fault.StoreFault.{StoreFault}
+use Rattle.ufs_turns.specs.HeldStore.{used_in}
+use Rattle.ufs_turns.specs.Told.{fault_told, told_list}
+use Rattle.ufs_turns.proofs.held_store.HeldStore.checkpoint.Goals as goal
+
+pub invariant_of-self : goal.invariant_of-self
+invariant_of-self g c =
+    let t = g.D.Door.store c.checkpoint_lent-made.new.store in
+    let st = c.checkpoint_lent-made.ensures.store in
+    let alone = c.give_back.ensures.home (cell_of st.stamp st.past t) st.has in
+    (c.self.invariant.0, record { cell = cell_of st.stamp st.past t; alone = alone; store = record { stamp = st.stamp; past = st.past; has = alone.store; sees = st.sees; formed = st.formed; since = st.since; covers = st.covers } })
+
+pub returns-clause-faults : goal.returns-clause-faults
+returns-clause-faults g c = c.give_back.ensures.faults ∙ c.checkpoint_lent-made.ensures.faults ∙ ap (λ (xs : List ℕ). told_list (fault_told (fault_in c.checkpoint_lent-made.result)) ++ xs) c.lend.ensures.faults
+
+pub returns-clause-stop : goal.returns-clause-stop
+returns-clause-stop g c fault is = c.give_back.ensures.stop ∙ c.checkpoint_lent-made.ensures.stop fault is
+
+on_ok : {A B : Type 0} (r : Result (Unit {0}) StoreFault) → (A → B) → OnOk r A → OnOk r B
+on_ok (Ok x) f a = f a
+on_ok (Err e) f a = tt
+
+pub returns-clause-emptied : goal.returns-clause-emptied
+returns-clause-emptied g c =
+    let t = g.D.Door.store c.checkpoint_lent-made.new.store in
+    let st = c.checkpoint_lent-made.ensures.store in
+    let alone = c.give_back.ensures.home (cell_of st.stamp st.past t) st.has in
+    on_ok c.checkpoint_lent-made.result (λ used. ap used_in alone.store ∙ used) c.checkpoint_lent-made.ensures.room

@@ -1,0 +1,31 @@
+use Rattle.std.proofs.Common.{ℕ, ◌∙◌, ◌++◌, List, ap}
+use Rattle.std.specs.Prelude.{OnOk, Result, Ok, Err}
+use Rattle.ufs_joint.specs.Disks.{cell_of}
+use Rattle.ufs_store.specs.declared.fault.StoreFault.{StoreFault}
+use Rattle.ufs_store.specs.Refusals.{fault_in}
+use Rattle.ufs_turns.specs.Told.{fault_told, told_list}
+use Rattle.ufs_turns.proofs.held_store.HeldStore.sync_file.Goals as goal
+
+pub invariant_of-self : goal.invariant_of-self
+invariant_of-self g c =
+    let t = g.D.Door.store c.sync_lent-synced.new.store in
+    let st = c.sync_lent-synced.ensures.store in
+    let alone = c.give_back.ensures.home (cell_of st.stamp st.past t) st.has in
+    (c.self.invariant.0, record { cell = cell_of st.stamp st.past t; alone = alone; store = record { stamp = st.stamp; past = st.past; has = alone.store; sees = st.sees; formed = st.formed; since = st.since; covers = st.covers } })
+
+on_ok : {A B : Type 0} (r : Result ℕ StoreFault) → (A → B) → OnOk r A → OnOk r B
+on_ok (Ok n) f a = f a
+on_ok (Err e) f a = tt
+
+pub returns-clause-ok : goal.returns-clause-ok
+returns-clause-ok g c = on_ok c.sync_lent-synced.result
+    (λ all name cell lends.
+    let h = all name cell (record { files = c.lend.ensures.files ∙ lends.file.files; names = c.lend.ensures.names ∙ lends.file.names; number = lends.file.number }) in
+    record { known = h.known; file = record { files = c.give_back.ensures.files ∙ h.file.files; names = c.give_back.ensures.names ∙ h.file.names; number = h.file.number }; all = h.all })
+    c.sync_lent-synced.ensures.ok
+
+pub returns-clause-faults : goal.returns-clause-faults
+returns-clause-faults g c = c.give_back.ensures.faults ∙ c.sync_lent-synced.ensures.faults ∙ ap (λ (xs : List ℕ). told_list (fault_told (fault_in c.sync_lent-synced.result)) ++ xs) c.lend.ensures.faults
+
+pub returns-clause-stop : goal.returns-clause-stop
+returns-clause-stop g c fault is = c.give_back.ensures.stop ∙ c.sync_lent-synced.ensures.stop fault is

@@ -1,0 +1,120 @@
+-- What lies under the lock: the store, and the hand of the store's cell, which goes with it.
+use Rattle.std.specs.Prelude.{ℕ, ◌≡◌, ◌≤◌, ◌⊎◌, Bool, IsTrue, true, cond, List, [], ◌∷◌, length, Option}
+use Rattle.ufs_bitmap.specs.Blocks.{BlockSet}
+use Rattle.ufs_disk.specs.Moments.{all}
+use Rattle.ufs_durable.specs.State.{DurableState}
+use Rattle.ufs_joint.specs.Cells.{FileCell, Start, StoreCell, View}
+use Rattle.ufs_joint.specs.Checkpoints.{checkpoint_turn}
+use Rattle.ufs_joint.specs.Disks.{cell_of, states_behind}
+use Rattle.ufs_joint.specs.Moves.{blocks_moved}
+use Rattle.ufs_joint.specs.Picks.{Pick, picks_from}
+use Rattle.ufs_joint.specs.Turns.{Turn, turn_begun, turn_ended}
+use Rattle.ufs_sound.specs.Owned.{Has, each}
+use Rattle.ufs_sound.specs.Parts.{Cells, Stretch}
+use Rattle.ufs_store.specs.State.{StoreState, geometry_of_store}
+use Rattle.ufs_store_steps.specs.Cells.{cells_of}
+use Rattle.ufs_turns.specs.Told.{told_list}
+
+-- The hand has the store's cell, and no other.
+pub record HasStoreAlone (c : StoreCell) (v : View) : Type 0 where
+  pub clients : v.clients ≡ []
+  pub asked : v.asked ≡ []
+  pub files : v.files ≡ []
+  pub pools : v.pools ≡ []
+  pub names : v.names ≡ []
+  pub store : v.store ≡ (tt, c) ∷ []
+
+-- The hand has no cell.
+pub record HasNothing (v : View) : Type 0 where
+  pub clients : v.clients ≡ []
+  pub asked : v.asked ≡ []
+  pub files : v.files ≡ []
+  pub pools : v.pools ≡ []
+  pub names : v.names ≡ []
+  pub store : v.store ≡ []
+
+-- how many states the disk had been in as the session began
+abbrev pub counted_in : List (Unit {0} × StoreCell) → ℕ
+counted_in [] = 0
+counted_in (c ∷ cs) = c.1.counted
+
+-- how many places of the store's journal are given out
+abbrev pub used_in : List (Unit {0} × StoreCell) → ℕ
+used_in [] = 0
+used_in (c ∷ cs) = c.1.journal.used
+
+-- a stretch has this state
+abbrev pub IsPassed : Cells → List Stretch → Type 0
+IsPassed x past = (y : Stretch) × Has y past × Has x y.states
+
+-- The store's cell, which the hand has, is this store. Of a visible disk contracts see each moment, and the stretches have each state
+-- that it was in since the session began, but for the one that it is in.
+pub record IsStoreIn (k : Start) (visible keeps : Bool) (v : View) (s : StoreState) : Type 0 where
+  pub stamp : ℕ
+  pub past : List Stretch
+  pub has : v.store ≡ (tt, cell_of stamp past s) ∷ []
+  pub sees : k.is_visible ≡ true → IsTrue visible × IsTrue keeps
+  pub formed : geometry_of_store s ≡ k.geometry
+  pub since : k.is_visible ≡ true → counted_in k.view.store ≤ length (all s.moments)
+  pub covers : k.is_visible ≡ true → (x : Cells) → Has x (states_behind (counted_in k.view.store) s) → (x ≡ cells_of s.sectors s.moments.state) ⊎ IsPassed x past
+
+-- What is known each time that the lock is taken: the hand has the store's cell alone.
+pub record IsHeldStore (k : Start) (visible keeps : Bool) (v : View) (s : StoreState) : Type 0 where
+  pub cell : StoreCell
+  pub alone : HasStoreAlone cell v
+  pub store : IsStoreIn k visible keeps v s
+
+-- ---- what a turn leaves
+
+abbrev pub begun_in : List (Unit {0} × StoreCell) → View → ℕ → View
+begun_in [] v n = v
+begun_in (c ∷ cs) v n = turn_begun n c.1 v
+
+-- A turn begins on the store's cell that the hand has.
+abbrev pub begun_view : View → ℕ → View
+begun_view v n = begun_in v.store v n
+
+abbrev pub ended_view : Turn → View → ℕ → View
+ended_view t v n = turn_ended n t v
+
+-- the file once it was synced in a turn that began then, or else read or as it was
+abbrev pub synced_cell : Bool → DurableState → ℕ → FileCell → FileCell
+synced_cell done value stamp c = record c { value = value; known = cond done stamp c.known }
+
+-- the blocks of the file that weren't in memory and are now
+abbrev pub came_in : List (ℕ × FileCell) → DurableState → List Pick
+came_in [] value = []
+came_in (c ∷ cs) value = picks_from c.0 value.file.content.bytes c.1.value.file.content.there value.file.content.there 0
+
+abbrev pub turn_in : Bool → Option ℕ → DurableState → StoreState → View → List (Unit {0} × StoreCell) → Turn
+turn_in done told value s v [] = record { files = v.files; names = v.names; store = cell_of 0 [] s; passed = []; picks = []; told = [] }
+turn_in done told value s v (c ∷ cs) = record {
+  files = each (λ _ x. synced_cell done value c.1.stamp x) v.files;
+  names = v.names;
+  store = cell_of c.1.stamp c.1.past s;
+  passed = states_behind c.1.counted s;
+  picks = came_in v.files value;
+  told = told_list told;
+}
+
+-- The file has this value then, the store is this, and that fault was told.
+abbrev pub sync_turn : Bool → Option ℕ → DurableState → StoreState → View → Turn
+sync_turn done told value s v = turn_in done told value s v v.store
+
+-- ---- where a turn is about no file
+
+abbrev pub bare_in : Option ℕ → StoreState → List (Unit {0} × StoreCell) → Turn
+bare_in told s [] = checkpoint_turn (cell_of 0 [] s) [] []
+bare_in told s (c ∷ cs) = checkpoint_turn (cell_of c.1.stamp c.1.past s) (states_behind c.1.counted s) (told_list told)
+
+-- The store is this then, and that fault was told.
+abbrev pub bare_turn : Option ℕ → StoreState → View → Turn
+bare_turn told s v = bare_in told s v.store
+
+abbrev pub moved_in : BlockSet → StoreState → View → List (Unit {0} × StoreCell) → View
+moved_in pool s v [] = v
+moved_in pool s v (c ∷ cs) = blocks_moved (each (λ _ had. pool) v.pools) s.unassigned.free c.1 v
+
+-- The pool and the store have these blocks then.
+abbrev pub moved_view : BlockSet → StoreState → View → View
+moved_view pool s v = moved_in pool s v v.store

@@ -1,0 +1,4 @@
+pub mod Told
+pub mod Lent
+pub mod HeldStore
+pub mod Syncs

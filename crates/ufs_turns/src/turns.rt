@@ -1,0 +1,91 @@
+ghost use Rattle.std.specs.Prelude.{ℕ, ◌≡◌, ◌++◌, [], true, false, Err, Some, IfErr, IsTrue, OnOk, OnErr, length};
+ghost use Rattle.std.specs.FinSet as set;
+ghost use Rattle.ufs_file.specs.Hand.{HasNeeded};
+ghost use Rattle.ufs_durable.specs.Fetching.{IsReadOn};
+ghost use Rattle.ufs_durable.specs.State.{file_committed, state_of};
+ghost use Rattle.ufs_joint.specs.Cells.{FileCell};
+ghost use Rattle.ufs_store.specs.Refusals.{fault_in, is_no_space, is_own};
+ghost use Rattle.ufs_store.specs.declared.fault.StoreFault.TheVariants as refusal;
+ghost use Rattle.ufs_turns.specs.Lent.{GainsBlocks, HasCommitted, IsBare, IsBeside, IsBesidePools, LacksBlocks, LendsFile, LendsPool};
+ghost use Rattle.ufs_turns.specs.Told.{fault_told, told_list};
+
+use ufs_bitmap::Pool;
+use ufs_durable::FileCommits;
+use ufs_file::FileHand;
+use ufs_joint::{Hand, Naming};
+use ufs_model::{Desc, Op};
+use ufs_store::StoreFault;
+
+/// A way to the store of session `N`. Each call is a turn: nobody else comes to the store meanwhile. What its contracts say
+/// is of the hand that is lent and of the answer, since others change the store between two turns.
+pub trait Turns<N: Naming> {
+    /// Commits a file whose birth is known as committed: the whole of its `fsync`. Where it passes, all that changed of the file is
+    /// known as committed; else the hand has what it had, and was told the fault by which it failed, or that the store has stopped.
+    fn sync_file(
+        &mut self,
+        hand: &mut Hand<N>,
+        file: &mut FileHand,
+        commits: &mut FileCommits,
+    ) -> Result<u64, StoreFault>
+        requires lent { (name : ℕ) × (cell : FileCell) × LendsFile name cell hand.old × (cell.value ≡ state_of file.old commits.old) × (cell.born ≡ true) }
+        ensures ok { OnOk result ((name : ℕ) (cell : FileCell) → LendsFile name cell hand.old → HasCommitted N.start.is_visible name cell (state_of file.new commits.new) hand.new) }
+        ensures err { OnErr result ((name : ℕ) (cell : FileCell) → LendsFile name cell hand.old → cell.value ≡ state_of file.old commits.old → LendsFile name cell hand.new) }
+        ensures away { hand.new.store ≡ [] }
+        ensures beside { IsBeside hand.old hand.new }
+        ensures committed { OnOk result (state_of file.new commits.new ≡ file_committed (state_of file.old commits.old)) }
+        ensures kept { OnErr result (state_of file.new commits.new ≡ state_of file.old commits.old) }
+        ensures faults { hand.new.faults ≡ told_list (fault_told (fault_in result)) ++ hand.old.faults }
+        ensures stop { (fault : ℕ) → result ≡ Err (refusal.Stopped fault) → hand.new.stop ≡ Some fault }
+        ensures refused { IfErr result (λ fault. is_no_space fault ≡ false) };
+
+    /// Reads the blocks of a file that a request on a descriptor of it needs and that aren't in memory. What was read stays, also
+    /// where a later block fails; the hand was told the fault then.
+    fn fetch(
+        &mut self,
+        hand: &mut Hand<N>,
+        file: &mut FileHand,
+        commits: &FileCommits,
+        op: &Op,
+        desc: Desc,
+    ) -> Result<(), StoreFault>
+        requires lent { (name : ℕ) × (cell : FileCell) × LendsFile name cell hand.old × (cell.value ≡ state_of file.old commits.now) }
+        ensures lent { (name : ℕ) (cell : FileCell) → LendsFile name cell hand.old → LendsFile name (record cell { value = state_of file.new commits.now }) hand.new }
+        ensures there { OnOk result (HasNeeded file.new.content desc op.now) }
+        ensures read { IsReadOn file.old file.new }
+        ensures still { length file.new.content.bytes ≡ length file.old.content.bytes }
+        ensures beside { IsBeside hand.old hand.new }
+        ensures faults { hand.new.faults ≡ told_list (fault_told (fault_in result)) ++ hand.old.faults }
+        ensures refused { IfErr result (λ fault. IsTrue (is_own fault)) };
+
+    /// Gives a pool the lowest unassigned blocks: so many, and 64 more where there are. Where there are fewer it says how many there
+    /// were, and nothing moves. No call of the disk.
+    fn give_pool(
+        &mut self,
+        hand: &mut Hand<N>,
+        pool: &mut Pool,
+        missing: u32,
+    ) -> Result<(), StoreFault>
+        requires lent { (name : ℕ) × LendsPool name pool.old hand.old }
+        ensures lent { (name : ℕ) → LendsPool name pool.old hand.old → LendsPool name pool.new hand.new }
+        ensures beside { IsBesidePools hand.old hand.new }
+        ensures given { OnOk result (GainsBlocks missing pool.old pool.new) }
+        ensures lacks { IfErr result (LacksBlocks missing) }
+        ensures kept { OnErr result (pool.new ≡ pool.old) };
+
+    /// Every block of a pool is unassigned again. No call of the disk.
+    fn take_back(&mut self, hand: &mut Hand<N>, pool: &mut Pool)
+        requires lent { (name : ℕ) × LendsPool name pool.old hand.old }
+        ensures lent { (name : ℕ) → LendsPool name pool.old hand.old → LendsPool name pool.new hand.new }
+        ensures beside { IsBesidePools hand.old hand.new }
+        ensures none { pool.new ≡ set.empty };
+
+    /// Writes home all that is committed, and begins the next epoch with the whole journal. The hand that is lent has no file; it was
+    /// told the fault where the disk failed, or that the store has stopped.
+    fn checkpoint(&mut self, hand: &mut Hand<N>) -> Result<(), StoreFault>
+        requires bare { IsBare hand.old }
+        ensures bare { IsBare hand.new }
+        ensures beside { IsBeside hand.old hand.new }
+        ensures faults { hand.new.faults ≡ told_list (fault_told (fault_in result)) ++ hand.old.faults }
+        ensures stop { (fault : ℕ) → result ≡ Err (refusal.Stopped fault) → hand.new.stop ≡ Some fault }
+        ensures refused { IfErr result (λ fault. is_no_space fault ≡ false) };
+}

@@ -1,0 +1,108 @@
+// Two ways to the store: straight, and by a lock.
+use crate::{HeldStore, Turns};
+use std::sync::{Mutex, Wait};
+use ufs_bitmap::Pool;
+use ufs_durable::FileCommits;
+use ufs_file::FileHand;
+use ufs_joint::{Hand, HandTable, Naming};
+use ufs_model::{Desc, Op};
+use ufs_store::{Door, StoreFault};
+
+/// To a store that it borrows.
+#[derive(Drop)]
+pub struct Direct<'a, N: Naming, D: Door> {
+    pub table: &'a HandTable<N>,
+    pub held: &'a mut HeldStore<N, D>,
+}
+
+impl<'a, N: Naming, D: Door> Turns<N> for Direct<'a, N, D> {
+    fn sync_file(
+        &mut self,
+        hand: &mut Hand<N>,
+        file: &mut FileHand,
+        commits: &mut FileCommits,
+    ) -> Result<u64, StoreFault> {
+        self.held.sync_file(self.table, hand, file, commits)
+    }
+
+    fn fetch(
+        &mut self,
+        hand: &mut Hand<N>,
+        file: &mut FileHand,
+        commits: &FileCommits,
+        op: &Op,
+        desc: Desc,
+    ) -> Result<(), StoreFault> {
+        self.held.fetch(self.table, hand, file, commits, op, desc)
+    }
+
+    fn give_pool(
+        &mut self,
+        hand: &mut Hand<N>,
+        pool: &mut Pool,
+        missing: u32,
+    ) -> Result<(), StoreFault> {
+        self.held.give_pool(self.table, hand, pool, missing)
+    }
+
+    fn take_back(&mut self, hand: &mut Hand<N>, pool: &mut Pool) {
+        self.held.take_back(self.table, hand, pool);
+    }
+
+    fn checkpoint(&mut self, hand: &mut Hand<N>) -> Result<(), StoreFault> {
+        self.held.checkpoint(self.table, hand)
+    }
+}
+
+/// To a store that threads share, for one call each. It may wait.
+#[derive(Drop)]
+pub struct Locked<'a, N: Naming, D: Door, R: Wait> {
+    pub rt: &'a R,
+    pub table: &'a HandTable<N>,
+    pub held: &'a Mutex<HeldStore<N, D>>,
+}
+
+impl<'a, N: Naming, D: Door, R: Wait> Turns<N> for Locked<'a, N, D, R> {
+    fn sync_file(
+        &mut self,
+        hand: &mut Hand<N>,
+        file: &mut FileHand,
+        commits: &mut FileCommits,
+    ) -> Result<u64, StoreFault> {
+        self.held
+            .lock(self.rt)
+            .sync_file(self.table, hand, file, commits)
+    }
+
+    fn fetch(
+        &mut self,
+        hand: &mut Hand<N>,
+        file: &mut FileHand,
+        commits: &FileCommits,
+        op: &Op,
+        desc: Desc,
+    ) -> Result<(), StoreFault> {
+        self.held
+            .lock(self.rt)
+            .fetch(self.table, hand, file, commits, op, desc)
+    }
+
+    fn give_pool(
+        &mut self,
+        hand: &mut Hand<N>,
+        pool: &mut Pool,
+        missing: u32,
+    ) -> Result<(), StoreFault> {
+        self.held
+            .lock(self.rt)
+            .give_pool(self.table, hand, pool, missing)
+    }
+
+    fn take_back(&mut self, hand: &mut Hand<N>, pool: &mut Pool) {
+        self.held.lock(self.rt).take_back(self.table, hand, pool);
+    }
+
+    fn checkpoint(&mut self, hand: &mut Hand<N>) -> Result<(), StoreFault> {
+        self.held.lock(self.rt).checkpoint(self.table, hand)
+    }
+}
