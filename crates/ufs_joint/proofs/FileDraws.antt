@@ -51,7 +51,7 @@ use Rattle.ufs_joint.specs.Picks.{IsAbsent, bytes_at}
 use Rattle.ufs_joint.specs.Whole.{GoOnBy, HasFileCell, pooled}
 use Rattle.ufs_joint.proofs.Blocks.{pooled_one}
 use Rattle.ufs_joint.proofs.FileKept.{goes_on_known}
-use Rattle.ufs_joint.proofs.OneFile.{durable_is, none_here, one_file_goes, one_here}
+use Rattle.ufs_joint.proofs.OneFile.{durable_is, none_here, one_file_goes, one_here, only_here}
 
 -- ---- what a request on a file leaves as it is
 
@@ -179,8 +179,7 @@ module _ (trees : KeepsTrees) (nothing : OthersAcknowledgeNothing) (names_keep :
   counted other = ap (count eqb other) hand.files
 
   only_file : (other : ℕ) (c : FileCell) → Has (other, c) l.files → (other ≡ file) × (c ≡ record cell { value = next; changed = suc ticket })
-  only_file other c (inl is) = (ap (λ (q : ℕ × FileCell). q.0) is, ap (λ (q : ℕ × FileCell). q.1) is)
-  only_file other c (inr is) = absurd is
+  only_file other c = only_here file other (record cell { value = next; changed = suc ticket }) c
 
   only_pool : (m : ℕ) (s : BlockSet) → Has (m, s) l.pools → m ≡ n
   only_pool m s (inl is) = ap (λ (q : ℕ × BlockSet). q.0) is

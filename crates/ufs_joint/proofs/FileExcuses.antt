@@ -1,11 +1,10 @@
 -- A request on a file may be excused by a hand without the store.
-use Rattle.std.proofs.Common.{◌≡◌, ◌≢◌, ℕ, ◌+◌, ◌≤◌, ◌⊎◌, inl, inr, Bool, true, false, cond, ◌&&◌, eqb, leb, List, [], ◌∷◌, ◌++◌, Option, Some, None, sym, refl, ap, ◌∙◌, subst, arith, append-nil}
+use Rattle.std.proofs.Common.{◌≡◌, ℕ, ◌+◌, ◌≤◌, inl, inr, Bool, true, false, ◌&&◌, eqb, List, [], ◌∷◌, ◌++◌, Option, Some, None, sym, refl, ap, ◌∙◌, subst, arith, append-nil}
 use Rattle.std.specs.Prelude.{if◌then◌else◌}
 use Rattle.std.specs.FinMap as fin
 use Rattle.std.specs.List.{slice_get}
 use Rattle.std.specs.FinSet as setof
 use Rattle.ufs_bitmap.specs.Blocks.{BlockSet}
-use Rattle.ufs_files.proofs.MapLemmas.{one_or_apart}
 use Rattle.ufs_layout.specs.Superblock.{geometry_of}
 use Rattle.ufs_layout.specs.declared.geometry.Geometry.{Geometry}
 use Rattle.ufs_ledger.specs.Kept.{Counts}
@@ -31,11 +30,10 @@ use Rattle.ufs_model.specs.PosixTree.{is_number}
 use Rattle.ufs_prefix.specs.StepLaws.{OthersAcknowledgeNothing}
 use Rattle.ufs_prefix.proofs.Facts.Histories.{changes_of-push, name_changes-push}
 use Rattle.ufs_sound.specs.Draws.{entry_of}
-use Rattle.ufs_sound.specs.Owned.{Has, count, find, one}
+use Rattle.ufs_sound.specs.Owned.{Has, count, one}
 use Rattle.ufs_sound.specs.Parts.{ClientPart, only_one}
 use Rattle.ufs_sound.specs.declared.fresh.Fresh.{Fresh}
 use Rattle.ufs_sound.proofs.Drawing.{tells_new}
-use Rattle.ufs_sound.proofs.Keys.{itself}
 use Rattle.ufs_store.specs.State.{StoreState, geometry_of_store}
 use Rattle.ufs_stored.specs.OnDisk.{AreReadable}
 use Rattle.ufs_stored.specs.Parts.{Parts}
@@ -46,10 +44,10 @@ use Rattle.ufs_joint.specs.Draws.{DrawsOnDisk, DrawsTo, IsAround, Leaves, MayDra
 use Rattle.ufs_joint.specs.FileHands.{ExcusesMayDraw, IsFileHand, MayExcuse, own_desc, same_leaves}
 use Rattle.ufs_joint.specs.Kept.{IsDiskKept, Known}
 use Rattle.ufs_joint.specs.Picks.{bytes_at}
-use Rattle.ufs_joint.specs.Whole.{GoOnBy, HasCells, commits_of, hand_of, pooled}
+use Rattle.ufs_joint.specs.Whole.{GoOnBy, HasCells, pooled}
 use Rattle.ufs_joint.proofs.FileDraws.{no_last, no_new_fd}
 use Rattle.ufs_joint.proofs.Kept.{named_on}
-use Rattle.ufs_joint.proofs.OneFile.{none_here, one_here}
+use Rattle.ufs_joint.proofs.OneFile.{only_here, same_file_goes}
 
 -- what an excuse tells
 abbrev reason_of : Reply → Excuse
@@ -74,37 +72,13 @@ module _ (trees : KeepsTrees) (nothing : OthersAcknowledgeNothing) (g : Geometry
   has_file = subst (Has (file, cell)) (sym hand.files) (inl refl)
 
   only_file : (other : ℕ) (c : FileCell) → Has (other, c) l.files → (other ≡ file) × (c ≡ cell)
-  only_file other c (inl is) = (ap (λ (q : ℕ × FileCell). q.0) is, ap (λ (q : ℕ × FileCell). q.1) is)
-  only_file other c (inr is) = absurd is
+  only_file other c = only_here file other cell c
 
   only_pool : (m : ℕ) (s : BlockSet) → Has (m, s) l.pools → m ≡ n
-  only_pool m s (inl is) = ap (λ (q : ℕ × BlockSet). q.0) is
-  only_pool m s (inr is) = absurd is
-
-  -- where the same cell stands again, the parts stay
-  same_by : {A : Type 0} (of : Option FileCell → A) (other : ℕ) (had : A) → (other ≡ file → had ≡ of (Some cell)) → had ≡ cond (leb 1 (count eqb other v.files + count eqb other l.files)) (of (find eqb other l.files)) had
-  same_by {A} of other had is_it = by (one_or_apart other file)
-    where
-      by : (other ≡ file) ⊎ (other ≢ file) → had ≡ cond (leb 1 (count eqb other v.files + count eqb other l.files)) (of (find eqb other l.files)) had
-      by (inl is) =
-          let a = ap (count eqb other) hand.files in let b = one_here file other is cell in
-          let two : count eqb other v.files + count eqb other l.files ≡ 2 = omega (arith, a, b) in
-          let found : eqb other file ≡ true = ap (eqb other) (sym is) ∙ itself other in
-          is_it is ∙ sym (λ i. cond (leb 1 (two i)) (of (cond (found i) (Some cell) None)) had)
-      by (inr not) =
-          let a = ap (count eqb other) hand.files in let b = none_here file other not cell in
-          let zero : count eqb other v.files + count eqb other l.files ≡ 0 = omega (arith, a, b) in
-          sym (ap (λ z. cond (leb 1 z) (of (find eqb other l.files)) had) zero)
+  only_pool m s has = (only_here n m pool s has).0
 
   goes : (p : Parts) → HasCells v p → GoOnBy v.files l.files l.names p p
-  goes p cells =
-      let its = cells.files file cell has_file in
-      record {
-        files_by = λ other. same_by hand_of other (fin.get p.files other) (λ is. ap (fin.get p.files) is ∙ its.file_is);
-        commits_by = λ other. same_by commits_of other (fin.get p.commits other) (λ is. ap (fin.get p.commits) is ∙ its.commits_are);
-        names_by = λ u c h. absurd h;
-        names_stay = λ _. (refl, refl, refl);
-      }
+  goes p cells = same_file_goes v.files file cell cell p.pool p hand.files hand.number (cells.files file cell has_file)
 
   -- ---- from whichever tree, with whichever others
 

@@ -37,7 +37,7 @@ use Rattle.ufs_joint.proofs.FileTurns.{or_none}
 use Rattle.ufs_joint.proofs.Disks.{among, drop_behind}
 use Rattle.ufs_joint.proofs.Kept.{IsLess, less_kept, since_kept}
 use Rattle.ufs_joint.proofs.Meanwhile.{explained_between, may_leave}
-use Rattle.ufs_joint.proofs.OneFile.{durable_is, none_here, one_here, same_file_goes}
+use Rattle.ufs_joint.proofs.OneFile.{durable_is, none_here, one_here, only_here, same_file_goes}
 
 module _ (dirty : DirtyMayBeWritten) (may_next : FilesMayCommitNext) (writes : WritesAreKept) (shows : CommitsShowAll) (staged : StagesAreKept) (tree_bytes : HasTreeBytes) (trees : KeepsTrees) (stands : StandsWhileWritten) (others : StandsBehindWrites) (g : Geometry) (empties : EmptiedIsStored g) (each : ImagesAreExplained g)
     (keeps visible : Bool) (v : View) (file : ℕ) (cell : FileCell) (was left : StoreCell) (passed : List Cells) (told : List ℕ) (form : geometry_of_store (store_of was) ≡ g) (hand : IsSyncHand visible v file cell was) (fails : FailsFile keeps visible was left cell.value passed told) where
@@ -48,11 +48,7 @@ module _ (dirty : DirtyMayBeWritten) (may_next : FilesMayCommitNext) (writes : W
   has_file = subst (Has (file, cell)) (sym hand.files) (inl refl)
 
   only_file : (other : ℕ) (c : FileCell) → Has (other, c) v.files → (other ≡ file) × (c ≡ cell)
-  only_file other c has = by (subst (Has (other, c)) hand.files has)
-    where
-      by : Has {A = ℕ × FileCell} (other, c) ((file, cell) ∷ []) → (other ≡ file) × (c ≡ cell)
-      by (inl is) = (ap (λ (q : ℕ × FileCell). q.0) is, ap (λ (q : ℕ × FileCell). q.1) is)
-      by (inr is) = absurd is
+  only_file other c has = only_here file other cell c (subst (Has (other, c)) hand.files has)
 
   -- ---- whole parts
 
@@ -192,8 +188,7 @@ module _ (dirty : DirtyMayBeWritten) (may_next : FilesMayCommitNext) (writes : W
   }
     where
       same_cell : (other : ℕ) (c : FileCell) → Has (other, c) t.files → (other ≡ file) × (c ≡ cell)
-      same_cell other c (inl is) = (ap (λ (q : ℕ × FileCell). q.0) is, ap (λ (q : ℕ × FileCell). q.1) is)
-      same_cell other c (inr is) = absurd is
+      same_cell other c = only_here file other cell c
 
       by : (other : ℕ) (c : FileCell) → Has (other, c) t.files → (before : FileCell) × Has (other, before) v.files × (c.changed ≡ before.changed) × (visible ≡ true → c.known ≤ was.stamp)
       by other c (inl is) = (

@@ -36,7 +36,7 @@ use Rattle.ufs_model.specs.FileBytes.{bytes_of}
 use Rattle.ufs_on_disk.specs.Fetches.{FetchesAreExplained, FetchesReadTheTree, PartsByFetches, SoundByFetches, with_read}
 use Rattle.ufs_joint.proofs.Disks.{among, drop_behind}
 use Rattle.ufs_joint.proofs.Kept.{IsLess, less_kept, since_kept, kept_on_disk}
-use Rattle.ufs_joint.proofs.OneFile.{durable_is, none_here, one_here, one_file_goes}
+use Rattle.ufs_joint.proofs.OneFile.{durable_is, none_here, one_here, one_file_goes, only_here}
 use Rattle.ufs_files.specs.Files.{AreNumbered}
 use Rattle.ufs_stored.specs.Stored.{ArePartsOf}
 use Rattle.ufs_model.specs.History.{tree_after}
@@ -69,11 +69,7 @@ module _ (reads_tree : FetchesReadTheTree) (by_parts : PartsByFetches) (by_sound
   has_file = subst (Has (file, cell)) (sym hand.files) (inl refl)
 
   only_file : (other : ℕ) (c : FileCell) → Has (other, c) v.files → (other ≡ file) × (c ≡ cell)
-  only_file other c has = by (subst (Has (other, c)) hand.files has)
-    where
-      by : Has {A = ℕ × FileCell} (other, c) ((file, cell) ∷ []) → (other ≡ file) × (c ≡ cell)
-      by (inl is) = (ap (λ (q : ℕ × FileCell). q.0) is, ap (λ (q : ℕ × FileCell). q.1) is)
-      by (inr is) = absurd is
+  only_file other c has = only_here file other cell c (subst (Has (other, c)) hand.files has)
 
   module _ (p : Parts) (cells : HasCells v p) where
     its : HasFileCell p file cell
