@@ -46,9 +46,10 @@ MAY = {
     "ufs_start/src/tables.rt": {"Lack::Unsound": 2},
     "ufs_start/src/used.rt": {"Lack::Unsound": 2},
     "ufs_tree/src/texts.rt": {"Lack::Unsound": 1},
-    # an error of the system, or of the reader of words, carries nothing
+    # the reader of words tells a refused allocation by the kind of its error alone
+    "ufs_words/src/command.rt": {"AllocError": 1},
+    # an error of the system carries nothing
     "ufs_quiet/src/process.rt": {"Lack::Told": 1},
-    "ufs_words/src/command.rt": {"Lack::Told": 1},
 }
 
 NAMES = {

@@ -1,4 +1,3 @@
-pub mod WordLemmas
 pub mod WriteLemmas
 pub mod ListLines
 pub mod PrintLemmas
@@ -7,7 +6,6 @@ pub mod StatusLemmas
 pub mod ServingLemmas
 pub mod LeavingLemmas
 pub mod PlayLemmas
-pub mod OptionLemmas
 pub mod MkfsLemmas
 pub mod ResponseLemmas
 pub mod TextLemmas
@@ -18,3 +16,4 @@ pub mod CheckLemmas
 pub mod RecoveryLemmas
 pub mod ToldLemmas
 pub mod LeftLemmas
+pub mod UnreadLemmas

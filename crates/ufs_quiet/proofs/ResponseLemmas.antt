@@ -4,12 +4,13 @@ use Rattle.std.specs.Prelude.{is_some, if◌then◌else◌}
 use Rattle.std.specs.declared.string.String.{String}
 use Rattle.std.specs.declared.vec.Vec.{Vec}
 use Rattle.ufs_model.specs.declared.data.Entry.{Entry}
-use Rattle.ufs_quiet.specs.declared.words.Command.{Command}
 use Rattle.ufs_quiet.specs.declared.response.WordsFault.{WordsFault}
-use Rattle.ufs_quiet.specs.Commands.{asked, image_word}
+use Rattle.ufs_words.specs.Values.{image_word}
+use Rattle.ufs_quiet.specs.Commands.{asked}
 use Rattle.ufs_quiet.specs.Seen.{Reading, Writing, Formatting}
-use Rattle.ufs_quiet.specs.Endings.{Ends, IsAnswer}
-use Rattle.ufs_quiet.specs.Responses.{Responds, command_for}
+use Rattle.ufs_quiet.specs.Endings.{IsAnswer}
+use Rattle.ufs_quiet.specs.Ends.{Ends}
+use Rattle.ufs_quiet.specs.Responses.{EndsNamed, Responds, command_for}
 
 module _ {Z : Type 0} (words : Result (Vec (String Z) Z) WordsFault) (own : Vec (String Z) Z) (path : List ℕ) (is : words ≡ Ok own) (named : image_word (map string_bytes own.items) ≡ Some path) where
   abbrev good : Result (Vec (String Z) Z) WordsFault
@@ -24,4 +25,4 @@ module _ {Z : Type 0} (words : Result (Vec (String Z) Z) WordsFault) (own : Vec 
   pub answered : (r : Reading) (d : Formatting) (told : List (List Entry)) (w : Writing) (status : ℕ) → IsAnswer (Ends (asked own.items) r d told) w status → IsAnswer (Responds words r d told) w status
   answered r d told w status a =
       subst (λ (x : Result (Vec (String Z) Z) WordsFault). IsAnswer (Responds x r d told) w status) (sym is)
-      (subst (λ (x : Option Command). IsAnswer (Ends x r d told) w status) (sym own_command) a)
+      (subst (λ (o : Option (List ℕ)). IsAnswer (EndsNamed o (asked own.items) r d told) w status) (sym named) a)

@@ -7,7 +7,8 @@ use Rattle.ufs_script.specs.Reading.{LongerIsAlike}
 use Rattle.ufs_quiet.specs.declared.words.Command.{Command}
 use Rattle.ufs_quiet.specs.declared.words.Command.TheVariants as command
 use Rattle.ufs_quiet.specs.Seen.{Reading, Writing, Formatting}
-use Rattle.ufs_quiet.specs.Endings.{Ends, IsAnswer}
+use Rattle.ufs_quiet.specs.Endings.{IsAnswer}
+use Rattle.ufs_quiet.specs.Ends.{EndsCommand}
 use Rattle.ufs_quiet.specs.Told.{Tells}
 use Rattle.ufs_quiet.proofs.PlayLemmas.{play_told}
 use Rattle.ufs_quiet.proofs.MkfsLemmas.{mkfs_told}
@@ -15,7 +16,7 @@ use Rattle.ufs_quiet.proofs.TreeLemmas.{tree_told}
 use Rattle.ufs_quiet.proofs.CheckLemmas.{check_told}
 use Rattle.ufs_quiet.proofs.RecoveryLemmas.{recovery_told}
 
-pub tells : LongerIsAlike → (words : Option Command) (r : Reading) (d : Formatting) (told : List (List Entry)) (w : Writing) (status : ℕ) → AreFaultsOf d.before d.now (joined told) → IsAnswer (Ends words r d told) w status → Tells words r d told w status
+pub tells : LongerIsAlike → (words : Option Command) (r : Reading) (d : Formatting) (told : List (List Entry)) (w : Writing) (status : ℕ) → AreFaultsOf d.before d.now (joined told) → IsAnswer (EndsCommand words r d told) w status → Tells words r d told w status
 tells alike None r d told w status faults a = tt
 tells alike (Some command.NotBuilt) r d told w status faults a = tt
 tells alike (Some (command.Play trace)) r d told w status faults a = play_told trace r d told w status a alike faults

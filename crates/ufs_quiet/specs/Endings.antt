@@ -1,5 +1,5 @@
 -- How a command ends where the sink doesn't fail: why, and what it has written.
-use Rattle.std.specs.Prelude.{ℕ, ◌≡◌, ◌≢◌, ◌<◌, ◌≤◌, ◌⊎◌, Bool, List, [], ◌++◌, length, Option, Some, None, Result, Ok, Err, IsTrue}
+use Rattle.std.specs.Prelude.{ℕ, ◌≡◌, ◌≢◌, ◌<◌, ◌≤◌, ◌⊎◌, Bool, List, [], ◌++◌, length, Some, None, Result, Ok, Err, IsTrue}
 use Rattle.std.specs.Io.KnownBytes.{Appends}
 use Rattle.ufs_base.specs.Wanting.{wanting}
 use Rattle.ufs_base.specs.Faults.{raised}
@@ -28,8 +28,6 @@ use Rattle.ufs_script.specs.declared.fault.ScriptFault.TheVariants as fault
 use Rattle.ufs_script.specs.Script.{IsOutside}
 use Rattle.ufs_quiet.specs.declared.ending.Ending.{Ending}
 use Rattle.ufs_quiet.specs.declared.ending.Ending.TheVariants.{Done, Usage, BadGeometry, NotBuilt, BadScript, TooSmall, NoTree, DeviceFault, OutOfMemory, SourceFault, Damaged}
-use Rattle.ufs_quiet.specs.declared.words.Command.{Command}
-use Rattle.ufs_quiet.specs.declared.words.Command.TheVariants as command
 use Rattle.ufs_quiet.specs.Texts.{IsFront, AreFirstLines, usage_line, bad_geometry_line, not_built_line, break_line, too_small_line, device_line, memory_line, source_line, made_line, recovered_line}
 use Rattle.ufs_quiet.specs.DamageLines.{clean_line, damage_lines}
 use Rattle.ufs_quiet.specs.TreeLines.{tree_lines, refusal_line}
@@ -244,17 +242,7 @@ EndsUnread r _ text = ⊥
 abbrev pub EndsPlay : Bool → Reading → Formatting → List (List Entry) → Ending → List ℕ → Type 0
 EndsPlay trace r d told ending text = ((told ≡ []) × EndsUnread r ending text) ⊎ ((script : Script) × ReadsScript r.left r.rest script × EndsServing trace d script told ending text)
 
--- ---- what any words end with
-
--- What is seen of the source and of the disk and was told to clients allows a command this ending with this text.
-abbrev pub Ends : Option Command → Reading → Formatting → List (List Entry) → Ending → List ℕ → Type 0
-Ends None r d told ending text = IsFixed Usage ending text
-Ends (Some command.NotBuilt) r d told ending text = IsFixed NotBuilt ending text
-Ends (Some (command.Play trace)) r d told ending text = EndsPlay trace r d told ending text
-Ends (Some command.Tree) r d told ending text = EndsTree d ending text
-Ends (Some command.Check) r d told ending text = EndsCheck d ending text
-Ends (Some command.Recover) r d told ending text = EndsRecovery d ending text
-Ends (Some (command.Mkfs blocks inodes journal)) r d told ending text = EndsMkfs (record { blocks = blocks; inodes = inodes; journal = journal }) d ending text
+-- ---- answers
 
 -- A status, and what the sink got: the whole text of an ending that is allowed, or with one fault of the sink a front
 -- of it.

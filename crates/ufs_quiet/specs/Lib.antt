@@ -6,6 +6,7 @@ pub mod Seen
 pub mod TreeLines
 pub mod DamageLines
 pub mod Endings
+pub mod Ends
 pub mod Told
 pub mod Left
 pub mod Laws

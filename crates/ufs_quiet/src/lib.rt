@@ -26,4 +26,5 @@ pub use outcome::Outcome;
 pub use process::process_status;
 pub use response::{WordsFault, image_path, respond};
 pub use top::quiet;
-pub use words::{Command, Options, image_of, read_command};
+pub use ufs_words::image_of;
+pub use words::{Command, read_command};

@@ -11,11 +11,11 @@ use crate::ending::Ending;
 use crate::finish::{finish, out_of_memory};
 use crate::outcome::{Outcome, nothing_told};
 use crate::top::quiet;
-use crate::words::image_of;
 use std::alloc::Global;
 use ufs_base::Lack;
 use ufs_disk::Disk;
 use ufs_io::{Sink, Source};
+use ufs_words::image_of;
 
 /// Why the program has no words.
 #[derive(Clone, Copy, Debug, PartialEq, Eq)]

@@ -1,15 +1,19 @@
-ghost use Rattle.std.specs.Prelude.{◌≡◌, [], Some, false};
+ghost use Rattle.std.specs.Prelude.{◌≡◌, ◌⊎◌, [], Some, false};
 ghost use Rattle.ufs_model.specs.History.{joined};
 ghost use Rattle.ufs_engine.specs.Plays.{AreFaultsOf};
 ghost use Rattle.ufs_quiet.specs.Commands.{asked, is_play};
 ghost use Rattle.ufs_quiet.specs.Seen.{Reading, reading, writing, formatting, course};
-ghost use Rattle.ufs_quiet.specs.Endings.{Ends, IsAnswer};
+ghost use Rattle.ufs_quiet.specs.Endings.{IsAnswer, IsFixed, sink_status, status_of};
+ghost use Rattle.ufs_quiet.specs.Ends.{Ends, EndsCommand};
 ghost use Rattle.ufs_quiet.specs.Left.{LeavesDisk, LeavesSource};
+ghost use Rattle.ufs_quiet.specs.Laws.{StandsAsBegun};
+ghost use Rattle.ufs_quiet.specs.declared.ending.Ending.TheVariants.{OutOfMemory};
 ghost use Rattle.ufs_quiet.specs.Told.{Tells};
 
 use crate::check::check;
 use crate::ending::Ending;
-use crate::finish::finish;
+use crate::finish::{finish, out_of_memory};
+use crate::laws::unserved_law;
 use crate::mkfs::mkfs;
 use crate::outcome::{Outcome, nothing_told};
 use crate::recover::recover;
@@ -17,6 +21,7 @@ use crate::serving::read_and_serve;
 use crate::tree::tree;
 use crate::words::{Command, read_command};
 use std::alloc::Global;
+use ufs_base::{Lack, Memory};
 use ufs_disk::Disk;
 use ufs_io::{Sink, Source};
 use ufs_layout::Geometry;
@@ -25,7 +30,7 @@ use ufs_script::a_longer_text_breaks_alike;
 // The answer to a command that serves nobody.
 fn act<K: Sink, D: Disk>(alloc: Global, which: Command, sink: &mut K, disk: &mut D) -> u8
     requires { is_play (Some which) ≡ false }
-    ensures answer { (r : Reading) → IsAnswer (Ends (Some which) r (formatting D.visible D.size D.moments D.faults disk.old disk.new) []) (writing K.held K.faults sink.old sink.new) result }
+    ensures answer { (r : Reading) → IsAnswer (EndsCommand (Some which) r (formatting D.visible D.size D.moments D.faults disk.old disk.new) []) (writing K.held K.faults sink.old sink.new) result }
     ensures disk { LeavesDisk (Some which) [] result (course D.visible D.keeps D.size D.moments D.faults disk.old disk.new) }
 {
     match which {
@@ -49,22 +54,22 @@ fn act<K: Sink, D: Disk>(alloc: Global, which: Command, sink: &mut K, disk: &mut
     }
 }
 
-// The answer to any words.
+// The answer to a command, or to there being none.
 fn answer<S: Source, K: Sink, D: Disk>(
     alloc: Global,
-    words: &Vec<String>,
+    command: Option<Command>,
     source: &mut S,
     sink: &mut K,
     disk: D,
 ) -> Outcome<D>
-    ensures answer { IsAnswer (Ends (asked words.now.items) (reading S.left S.faults source.old source.new) (formatting D.visible D.size D.moments D.faults disk result.disk) result.told)
+    ensures answer { IsAnswer (EndsCommand command (reading S.left S.faults source.old source.new) (formatting D.visible D.size D.moments D.faults disk result.disk) result.told)
         (writing K.held K.faults sink.old sink.new) result.status }
-    ensures disk { LeavesDisk (asked words.now.items) result.told result.status (course D.visible D.keeps D.size D.moments D.faults disk result.disk) }
-    ensures source { LeavesSource (asked words.now.items) result.status (reading S.left S.faults source.old source.new) }
+    ensures disk { LeavesDisk command result.told result.status (course D.visible D.keeps D.size D.moments D.faults disk result.disk) }
+    ensures source { LeavesSource command result.status (reading S.left S.faults source.old source.new) }
     ensures faults { AreFaultsOf (D.faults disk) (D.faults result.disk) (joined result.told) }
-    ensures served { is_play (asked words.now.items) ≡ false → result.told ≡ [] }
+    ensures served { is_play command ≡ false → result.told ≡ [] }
 {
-    let Some(which) = read_command(words.as_slice()) else {
+    let Some(which) = command else {
         let status = finish(sink, Ending::Usage);
         return Outcome {
             status,
@@ -84,6 +89,23 @@ fn answer<S: Source, K: Sink, D: Disk>(
     }
 }
 
+// Ends where there is no memory for the words. The disk is left as it was.
+fn leave_words<K: Sink, D: Disk>(alloc: Global, sink: &mut K, memory: Memory, disk: D) -> Outcome<D>
+    ensures answer { IsAnswer (IsFixed OutOfMemory) (writing K.held K.faults sink.old sink.new) result.status }
+    ensures status { (result.status ≡ status_of OutOfMemory) ⊎ (result.status ≡ sink_status) }
+    ensures told { result.told ≡ [] }
+    ensures untouched { result.disk ≡ disk }
+    ensures stands { StandsAsBegun (D.size disk) }
+{
+    unserved_law(disk.sectors());
+    let status = out_of_memory(sink, Lack::Memory(memory));
+    Outcome {
+        status,
+        told: nothing_told(alloc),
+        disk,
+    }
+}
+
 /// Serves a command that waits for nobody.
 pub fn quiet<S: Source, K: Sink, D: Disk>(
     alloc: Global,
@@ -93,7 +115,8 @@ pub fn quiet<S: Source, K: Sink, D: Disk>(
     disk: D,
 ) -> Outcome<D>
     // Each status but 7 comes with its cause and its text, and leaves the sink's count of faults. With status 7 that
-    // count rose by one, and the sink got a front of what would have been written.
+    // count rose by one, and the sink got a front of what would have been written. Reading the words takes memory: where an
+    // allocation is refused there, the status is 5, whatever the words are, and nothing is done.
     ensures answer { IsAnswer (Ends (asked words.now.items) (reading S.left S.faults source.old source.new) (formatting D.visible D.size D.moments D.faults disk result.disk) result.told)
         (writing K.held K.faults sink.old sink.new) result.status }
     // What the status says and the sink got, for each command: a history of the script's requests for `play`, in which the
@@ -111,5 +134,8 @@ pub fn quiet<S: Source, K: Sink, D: Disk>(
     ensures served { is_play (asked words.now.items) ≡ false → result.told ≡ [] }
 {
     a_longer_text_breaks_alike();
-    answer(alloc, words, source, sink, disk)
+    match read_command(alloc, words.as_slice()) {
+        Ok(command) => answer(alloc, command, source, sink, disk),
+        Err(memory) => leave_words(alloc, sink, memory, disk),
+    }
 }

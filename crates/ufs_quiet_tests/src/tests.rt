@@ -35,7 +35,7 @@ const SUPERBLOCK: [u8; 41] = [
 ];
 
 // Words, and the status and the text that they get where nothing is read: the first read fails.
-const UNREAD: [(&[&str], u8, &str); 28] = [
+const UNREAD: [(&[&str], u8, &str); 46] = [
     (&[], 1, USAGE),
     (&["frob"], 1, USAGE),
     (&["mkfs"], 1, USAGE),
@@ -50,6 +50,21 @@ const UNREAD: [(&[&str], u8, &str); 28] = [
     (&["recover", "--lease", "1"], 1, USAGE),
     (&["bench", "4294967296"], 1, USAGE),
     (&["run", "1"], 1, USAGE),
+    (&["run", "9"], 1, USAGE),
+    (&["help"], 1, USAGE),
+    (&["play", "--help"], 1, USAGE),
+    (&["play", "--trace=true"], 1, USAGE),
+    (&["play", "--lease=-1"], 1, USAGE),
+    (&["play", "--image", "a", "--image=b"], 1, USAGE),
+    (&["play", "--image="], 1, USAGE),
+    (&["play", "--image", ""], 1, USAGE),
+    (&["--image", "f", "play"], 1, USAGE),
+    (&["mkfs", "+64", "16", "64"], 1, USAGE),
+    (&["mkfs", "-64", "16", "64"], 1, USAGE),
+    (&["mkfs", "00000000064", "16", "64"], 1, USAGE),
+    (&["bench"], 1, USAGE),
+    (&["audit"], 1, USAGE),
+    (&["play", "--mirror", "g"], 1, USAGE),
     (&["tree"], 3, NO_SUPERBLOCK),
     (&["tree", "--trace"], 1, USAGE),
     (&["recover", "--image", "f"], 3, NO_SUPERBLOCK),
@@ -57,13 +72,20 @@ const UNREAD: [(&[&str], u8, &str); 28] = [
     (&["check", "--lease", "1"], 1, USAGE),
     (&["bench", "0000000007", "--lease", "0"], 2, NOT_BUILT),
     (&["play", "--lease", "1000", "--trace"], 2, NOT_BUILT),
-    (&["play", "--trace", "--image", "--trace"], 6, SOURCE_FAULT),
+    (&["play", "--trace", "--image", "--trace"], 1, USAGE),
+    (&["play", "--image=--trace", "--trace"], 6, SOURCE_FAULT),
+    (
+        &["mkfs", "--image=f", "0064", "16", "--", "64"],
+        0,
+        "made 64 16 64 52\n",
+    ),
     (&["mkfs", "64", "16", "64"], 0, "made 64 16 64 52\n"),
     (&["mkfs", "63", "16", "64"], 1, "ufs: bad geometry 1\n"),
     (&["mkfs", "64", "15", "64"], 1, "ufs: bad geometry 2\n"),
     (&["mkfs", "64", "16", "63"], 1, "ufs: bad geometry 3\n"),
     (&["mkfs", "64", "4096", "64"], 1, "ufs: bad geometry 4\n"),
     (&["mkfs", "257", "32", "64"], 3, TOO_SMALL),
+    (&["bench", "1"], 2, NOT_BUILT),
 ];
 
 // Words, the numbers of the reads and of the writes that fail, and the status and the text, over a new image.
@@ -127,11 +149,12 @@ fn names(rt: &impl Abort, words: &Vec<String>, wanted: Option<&str>) {
 
 #[test]
 fn the_image_is_the_word_behind_its_option(rt: HostRuntime) {
-    let rows: [(&[&str], Option<&str>); 5] = [
+    let rows: [(&[&str], Option<&str>); 6] = [
         (&[], None),
         (&["--image"], None),
         (&["mkfs", "--image", "a"], Some("a")),
-        (&["--image", "a", "--image", "b"], Some("a")),
+        (&["--image", "a", "--image=b"], Some("a")),
+        (&["play", "--image=a=b", "--image", "c"], Some("a=b")),
         (&["play", "--image", "--image"], Some("--image")),
     ];
     for (line, wanted) in &rows {

@@ -7,8 +7,8 @@ use crate::grammar::ufs;
 use crate::numbers::{lease_in, word_in, workers_in};
 use clap::error::ErrorKind;
 use clap::{ArgMatches, Error};
-use std::alloc::Global;
-use ufs_base::Lack;
+use std::alloc::{AllocError, Global};
+use ufs_base::Memory;
 
 /// What the words ask for. A lease is in ticks; `None` where the words have none.
 #[derive(Clone, Copy, Debug, PartialEq, Eq)]
@@ -41,8 +41,6 @@ pub enum Command {
     Check,
     /// Print the tree that the image stands for.
     Tree,
-    /// Check a script's printed history against the tree that the image stands for.
-    Audit,
 }
 
 fn mkfs_in(found: &ArgMatches) -> Option<Command>
@@ -104,7 +102,6 @@ fn command_in(name: &str, found: &ArgMatches) -> Option<Command>
         "recover" => Some(Command::Recover),
         "check" => Some(Command::Check),
         "tree" => Some(Command::Tree),
-        "audit" => Some(Command::Audit),
         _ => None,
     }
 }
@@ -126,14 +123,15 @@ fn parsed<'a>(alloc: Global, words: &'a [String]) -> Result<ArgMatches<'a>, Erro
 }
 
 /// The command that the words are, if they are one: `clap` takes them, and each number is in its form and range.
-/// Fails only where `clap` tells want of memory.
-pub fn read_command(alloc: Global, words: &[String]) -> Result<Option<Command>, Lack>
+/// Fails only where an allocation was refused.
+pub fn read_command(alloc: Global, words: &[String]) -> Result<Option<Command>, Memory>
     ensures { IfOk result (λ c. c ≡ command_of (map string_bytes words.now)) }
 {
     match parsed(alloc, words) {
         Ok(matches) => Ok(command_at(&matches)),
         Err(error) => match error.kind() {
-            ErrorKind::OutOfMemory => Err(Lack::Told),
+            // `clap` makes this kind of the error of a refused allocation, which it doesn't keep.
+            ErrorKind::OutOfMemory => Err(Memory::from(AllocError)),
             _ => Ok(None),
         },
     }

@@ -2,7 +2,7 @@
 ghost use Rattle.std.specs.Prelude.{◌≡◌, IfOk, false};
 ghost use Rattle.clap.specs.Words.{app_of, rule_of, with_rule, with_subcommand};
 ghost use Rattle.clap.specs.declared.builder.command.Command.TheViews.{out-Command};
-ghost use Rattle.ufs_words.specs.Grammar.{bare, bench, file, lease, mkfs, plain, play, positional, run, subcommand, trace, ufs, with_files, with_images, with_sessions};
+ghost use Rattle.ufs_words.specs.Grammar.{bare, bench, image, lease, mkfs, plain, play, positional, run, subcommand, trace, ufs, with_image, with_images, with_sessions};
 
 use clap::builder::ValueParser;
 use clap::{Arg, ArgAction, Command};
@@ -31,12 +31,12 @@ fn trace<'a>(alloc: Global) -> Arg<'a>
         .action(ArgAction::SetTrue)
 }
 
-fn file<'a>(alloc: Global, name: &'a str) -> Arg<'a>
-    ensures rule { rule_of result ≡ file name.entry.now }
+fn image<'a>(alloc: Global) -> Arg<'a>
+    ensures rule { rule_of result ≡ image }
     ensures local { result.global ≡ false }
 {
-    Arg::new(alloc, name)
-        .long(name)
+    Arg::new(alloc, "image")
+        .long("image")
         .value_parser(ValueParser::NonEmptyString)
 }
 
@@ -49,13 +49,12 @@ fn with<'a>(command: Command<'a>, arg: Arg<'a>) -> Result<Command<'a>, AllocErro
     command.arg(arg)
 }
 
-// The options that every subcommand takes.
-fn with_files<'a>(alloc: Global, command: Command<'a>) -> Result<Command<'a>, AllocError>
-    ensures app { IfOk result (λ c. app_of c ≡ with_files (app_of command.entry)) }
+// The option that every subcommand takes.
+fn with_image<'a>(alloc: Global, command: Command<'a>) -> Result<Command<'a>, AllocError>
+    ensures app { IfOk result (λ c. app_of c ≡ with_image (app_of command.entry)) }
     ensures local { IfOk result (λ c. (out-Command c).has_globals ≡ (out-Command command.entry).has_globals) }
 {
-    let command = with(command, file(alloc, "image"))?;
-    with(command, file(alloc, "mirror"))
+    with(command, image(alloc))
 }
 
 fn subcommand<'a>(alloc: Global, name: &'a str) -> Command<'a>
@@ -72,7 +71,7 @@ fn mkfs<'a>(alloc: Global) -> Result<Command<'a>, AllocError>
     let command = with(subcommand(alloc, "mkfs"), positional(alloc, "blocks"))?;
     let command = with(command, positional(alloc, "inodes"))?;
     let command = with(command, positional(alloc, "journal"))?;
-    with_files(alloc, command)
+    with_image(alloc, command)
 }
 
 fn play<'a>(alloc: Global) -> Result<Command<'a>, AllocError>
@@ -81,7 +80,7 @@ fn play<'a>(alloc: Global) -> Result<Command<'a>, AllocError>
 {
     let command = with(subcommand(alloc, "play"), lease(alloc))?;
     let command = with(command, trace(alloc))?;
-    with_files(alloc, command)
+    with_image(alloc, command)
 }
 
 fn run<'a>(alloc: Global) -> Result<Command<'a>, AllocError>
@@ -91,7 +90,7 @@ fn run<'a>(alloc: Global) -> Result<Command<'a>, AllocError>
     let command = with(subcommand(alloc, "run"), positional(alloc, "workers"))?;
     let command = with(command, lease(alloc))?;
     let command = with(command, trace(alloc))?;
-    with_files(alloc, command)
+    with_image(alloc, command)
 }
 
 fn bench<'a>(alloc: Global) -> Result<Command<'a>, AllocError>
@@ -100,14 +99,14 @@ fn bench<'a>(alloc: Global) -> Result<Command<'a>, AllocError>
 {
     let command = with(subcommand(alloc, "bench"), positional(alloc, "seed"))?;
     let command = with(command, lease(alloc))?;
-    with_files(alloc, command)
+    with_image(alloc, command)
 }
 
 fn plain<'a>(alloc: Global, name: &'a str) -> Result<Command<'a>, AllocError>
     ensures app { IfOk result (λ c. app_of c ≡ plain name.entry.now) }
     ensures local { IfOk result (λ c. (out-Command c).has_globals ≡ false) }
 {
-    with_files(alloc, subcommand(alloc, name))
+    with_image(alloc, subcommand(alloc, name))
 }
 
 // One more subcommand.
@@ -142,8 +141,7 @@ fn with_images<'a>(alloc: Global, command: Command<'a>) -> Result<Command<'a>, A
 {
     let command = beside(command, plain(alloc, "recover")?)?;
     let command = beside(command, plain(alloc, "check")?)?;
-    let command = beside(command, plain(alloc, "tree")?)?;
-    beside(command, plain(alloc, "audit")?)
+    beside(command, plain(alloc, "tree")?)
 }
 
 /// The whole command.

@@ -1,6 +1,7 @@
 use Rattle.std.proofs.Common.{◌≡◌, Option, Some, ap, sym, subst, ◌∙◌, map, string_bytes}
 use Rattle.ufs_quiet.specs.declared.words.Command.{Command}
-use Rattle.ufs_quiet.specs.Commands.{image_word, is_play}
+use Rattle.ufs_words.specs.Values.{image_word}
+use Rattle.ufs_quiet.specs.Commands.{is_play}
 use Rattle.ufs_quiet.specs.Seen.{reading, writing, formatting, course}
 use Rattle.ufs_quiet.specs.Told.{Tells}
 use Rattle.ufs_quiet.specs.Left.{LeavesDisk, LeavesSource}

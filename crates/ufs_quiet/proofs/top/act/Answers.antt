@@ -2,14 +2,15 @@ use Rattle.std.proofs.Common.{[], Some, ap, sym, subst}
 use Rattle.ufs_quiet.specs.declared.words.Command.{Command}
 use Rattle.ufs_quiet.specs.declared.words.Command.TheVariants as command
 use Rattle.ufs_quiet.specs.Seen.{writing, formatting, course}
-use Rattle.ufs_quiet.specs.Endings.{Ends, IsAnswer}
+use Rattle.ufs_quiet.specs.Endings.{IsAnswer}
+use Rattle.ufs_quiet.specs.Ends.{EndsCommand}
 use Rattle.ufs_quiet.proofs.LeftLemmas.{disk_left}
 use Rattle.ufs_quiet.proofs.top.act.Goals as goal
 
 pub returns-in-Mkfs-clause-answer : goal.returns-in-Mkfs-clause-answer
 returns-in-Mkfs-clause-answer g c r =
     let d = formatting g.D.Disk.visible g.D.Disk.size g.D.Disk.moments g.D.Disk.faults c.args.disk.now c.mkfs.new.disk in
-    subst (λ (x : Command). IsAnswer (Ends (Some x) r d []) (writing g.K.Sink.held g.K.Sink.faults c.args.sink.now c.mkfs.new.sink) c.mkfs.result) (sym c.in-Mkfs.is) c.mkfs.ensures.answer
+    subst (λ (x : Command). IsAnswer (EndsCommand (Some x) r d []) (writing g.K.Sink.held g.K.Sink.faults c.args.sink.now c.mkfs.new.sink) c.mkfs.result) (sym c.in-Mkfs.is) c.mkfs.ensures.answer
 
 pub returns-in-Mkfs-clause-disk : goal.returns-in-Mkfs-clause-disk
 returns-in-Mkfs-clause-disk g c =
@@ -27,7 +28,7 @@ returns-in-Mkfs-clause-disk g c =
 pub returns-in-Tree-clause-answer : goal.returns-in-Tree-clause-answer
 returns-in-Tree-clause-answer g c r =
     let d = formatting g.D.Disk.visible g.D.Disk.size g.D.Disk.moments g.D.Disk.faults c.args.disk.now c.tree.new.disk in
-    subst (λ (x : Command). IsAnswer (Ends (Some x) r d []) (writing g.K.Sink.held g.K.Sink.faults c.args.sink.now c.tree.new.sink) c.tree.result) (sym c.in-Tree.is) c.tree.ensures.answer
+    subst (λ (x : Command). IsAnswer (EndsCommand (Some x) r d []) (writing g.K.Sink.held g.K.Sink.faults c.args.sink.now c.tree.new.sink) c.tree.result) (sym c.in-Tree.is) c.tree.ensures.answer
 
 pub returns-in-Tree-clause-disk : goal.returns-in-Tree-clause-disk
 returns-in-Tree-clause-disk g c =
@@ -38,7 +39,7 @@ returns-in-Tree-clause-disk g c =
 pub returns-in-Check-clause-answer : goal.returns-in-Check-clause-answer
 returns-in-Check-clause-answer g c r =
     let d = formatting g.D.Disk.visible g.D.Disk.size g.D.Disk.moments g.D.Disk.faults c.args.disk.now c.check.new.disk in
-    subst (λ (x : Command). IsAnswer (Ends (Some x) r d []) (writing g.K.Sink.held g.K.Sink.faults c.args.sink.now c.check.new.sink) c.check.result) (sym c.in-Check.is) c.check.ensures.answer
+    subst (λ (x : Command). IsAnswer (EndsCommand (Some x) r d []) (writing g.K.Sink.held g.K.Sink.faults c.args.sink.now c.check.new.sink) c.check.result) (sym c.in-Check.is) c.check.ensures.answer
 
 pub returns-in-Check-clause-disk : goal.returns-in-Check-clause-disk
 returns-in-Check-clause-disk g c =
@@ -49,7 +50,7 @@ returns-in-Check-clause-disk g c =
 pub returns-in-Recover-clause-answer : goal.returns-in-Recover-clause-answer
 returns-in-Recover-clause-answer g c r =
     let d = formatting g.D.Disk.visible g.D.Disk.size g.D.Disk.moments g.D.Disk.faults c.args.disk.now c.recover.new.disk in
-    subst (λ (x : Command). IsAnswer (Ends (Some x) r d []) (writing g.K.Sink.held g.K.Sink.faults c.args.sink.now c.recover.new.sink) c.recover.result) (sym c.in-Recover.is) c.recover.ensures.answer
+    subst (λ (x : Command). IsAnswer (EndsCommand (Some x) r d []) (writing g.K.Sink.held g.K.Sink.faults c.args.sink.now c.recover.new.sink) c.recover.result) (sym c.in-Recover.is) c.recover.ensures.answer
 
 pub returns-in-Recover-clause-disk : goal.returns-in-Recover-clause-disk
 returns-in-Recover-clause-disk g c =

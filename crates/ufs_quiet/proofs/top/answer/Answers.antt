@@ -1,30 +1,31 @@
-use Rattle.std.proofs.Common.{◌≡◌, ◌∙◌, true, false, List, [], Option, Some, ap, sym, subst, map, string_bytes}
+use Rattle.std.proofs.Common.{◌≡◌, ◌∙◌, true, false, List, [], Option, Some, ap, sym, subst}
 use Rattle.ufs_model.specs.declared.data.Entry.{Entry}
 use Rattle.ufs_quiet.specs.declared.words.Command.{Command}
 use Rattle.ufs_quiet.specs.declared.words.Command.TheVariants as command
-use Rattle.ufs_quiet.specs.Commands.{asked, command_of, is_play}
+use Rattle.ufs_quiet.specs.Commands.{is_play}
 use Rattle.ufs_quiet.specs.Seen.{reading, writing, formatting, course}
-use Rattle.ufs_quiet.specs.Endings.{Ends, IsAnswer}
+use Rattle.ufs_quiet.specs.Endings.{IsAnswer}
+use Rattle.ufs_quiet.specs.Ends.{EndsCommand}
 use Rattle.ufs_quiet.proofs.LeftLemmas.{none_faults, played_left}
 use Rattle.ufs_quiet.proofs.top.answer.Goals as goal
 
 pub returns-in-Play-clause-answer : goal.returns-in-Play-clause-answer
 returns-in-Play-clause-answer g c =
-    let is : asked c.args.words.now.items ≡ Some (command.Play c.in-Play.trace) = sym (ap (λ l. command_of (map string_bytes l)) c.as_slice.ensures.value) ∙ sym c.read_command.ensures ∙ c.in-Some.is ∙ ap (λ (x : Command). Some x) c.in-Play.is in
+    let is : c.args.command ≡ Some (command.Play c.in-Play.trace) = c.in-Some.is ∙ ap (λ (x : Command). Some x) c.in-Play.is in
     let r = reading g.S.Source.left g.S.Source.faults c.args.source.now c.read_and_serve.new.source in
     let d = formatting g.D.Disk.visible g.D.Disk.size g.D.Disk.moments g.D.Disk.faults c.args.disk c.read_and_serve.result.disk in
-    subst (λ (x : Option Command). IsAnswer (Ends x r d c.read_and_serve.result.told) (writing g.K.Sink.held g.K.Sink.faults c.args.sink.now c.read_and_serve.new.sink) c.read_and_serve.result.status) (sym is) c.read_and_serve.ensures.answer
+    subst (λ (x : Option Command). IsAnswer (EndsCommand x r d c.read_and_serve.result.told) (writing g.K.Sink.held g.K.Sink.faults c.args.sink.now c.read_and_serve.new.sink) c.read_and_serve.result.status) (sym is) c.read_and_serve.ensures.answer
 
 pub returns-in-Play-clause-disk : goal.returns-in-Play-clause-disk
 returns-in-Play-clause-disk g c =
-    let is : asked c.args.words.now.items ≡ Some (command.Play c.in-Play.trace) = sym (ap (λ l. command_of (map string_bytes l)) c.as_slice.ensures.value) ∙ sym c.read_command.ensures ∙ c.in-Some.is ∙ ap (λ (x : Command). Some x) c.in-Play.is in
-    played_left (asked c.args.words.now.items) c.in-Play.trace is c.read_and_serve.result.told c.read_and_serve.result.status
+    let is : c.args.command ≡ Some (command.Play c.in-Play.trace) = c.in-Some.is ∙ ap (λ (x : Command). Some x) c.in-Play.is in
+    played_left c.args.command c.in-Play.trace is c.read_and_serve.result.told c.read_and_serve.result.status
     (course g.D.Disk.visible g.D.Disk.keeps g.D.Disk.size g.D.Disk.moments g.D.Disk.faults c.args.disk c.read_and_serve.result.disk)
     c.read_and_serve.ensures.acts c.read_and_serve.ensures.size c.read_and_serve.ensures.disk_told
 
 pub returns-in-Play-clause-source : goal.returns-in-Play-clause-source
 returns-in-Play-clause-source g c =
-    let is : asked c.args.words.now.items ≡ Some (command.Play c.in-Play.trace) = sym (ap (λ l. command_of (map string_bytes l)) c.as_slice.ensures.value) ∙ sym c.read_command.ensures ∙ c.in-Some.is ∙ ap (λ (x : Command). Some x) c.in-Play.is in
+    let is : c.args.command ≡ Some (command.Play c.in-Play.trace) = c.in-Some.is ∙ ap (λ (x : Command). Some x) c.in-Play.is in
     record { told = c.read_and_serve.ensures.source_told; unread = λ other. absurd (let played : true ≡ false = sym (ap is_play is) ∙ other in cc) }
 
 pub returns-in_default-clause-faults : goal.returns-in_default-clause-faults
@@ -35,9 +36,9 @@ returns-clause-faults g c = none_faults (g.D.Disk.faults c.args.disk) (g.D.Disk.
 
 pub returns-clause-answer : goal.returns-clause-answer
 returns-clause-answer g c =
-    let is : asked c.args.words.now.items ≡ Some c.in-Some.which = sym (ap (λ l. command_of (map string_bytes l)) c.as_slice.ensures.value) ∙ sym c.read_command.ensures ∙ c.in-Some.is in
+    let is : c.args.command ≡ Some c.in-Some.which = c.in-Some.is in
     let r = reading g.S.Source.left g.S.Source.faults c.args.source.now c.args.source.now in
     let d = formatting g.D.Disk.visible g.D.Disk.size g.D.Disk.moments g.D.Disk.faults c.args.disk c.act-status.new.disk in
     let w = writing g.K.Sink.held g.K.Sink.faults c.args.sink.now c.act-status.new.sink in
-    subst (λ (told : List (List Entry)). IsAnswer (Ends (asked c.args.words.now.items) r d told) w c.act-status.result) (sym c.nothing_told-2.ensures)
-    (subst (λ (x : Option Command). IsAnswer (Ends x r d []) w c.act-status.result) (sym is) (c.act-status.ensures.answer r))
+    subst (λ (told : List (List Entry)). IsAnswer (EndsCommand c.args.command r d told) w c.act-status.result) (sym c.nothing_told-2.ensures)
+    (subst (λ (x : Option Command). IsAnswer (EndsCommand x r d []) w c.act-status.result) (sym is) (c.act-status.ensures.answer r))
