@@ -1,4 +1,5 @@
 pub mod WriteLemmas
+mod PieceLemmas
 pub mod ListLines
 pub mod PrintLemmas
 pub mod AnswerLemmas

@@ -1,10 +1,11 @@
 -- The lines of a list, one after the other, as they are written.
 use Rattle.std.proofs.Common.{◌≡◌, inl, ℕ, ◌+◌, ◌<◌, List, [], ◌∷◌, ◌++◌, Option, ap, sym, subst, refl, ◌∙◌, length, take, drop, get_or, append_assoc, suc}
 use Rattle.std.specs.Prelude.{flat_map}
-use Rattle.std.specs.Io.KnownBytes.{Appends}
 use Rattle.std.proofs.lemmas.List.{append-nil, take_more, take-append-drop}
 use Rattle.std.proofs.Math.Seq.{drop-cons}
-use Rattle.ufs_quiet.proofs.WriteLemmas.{GotFront, GotLines, IsEnded, appends_both, ended_both, got_behind, got_longer, lines_behind, lines_longer, lines_none}
+use Rattle.ufs_quiet.specs.Pieces.{GotFront, IsPassed, PutLines}
+use Rattle.ufs_quiet.proofs.PieceLemmas.{front_more, front_passed, no_lines, passed_both}
+use Rattle.ufs_quiet.proofs.WriteLemmas.{IsEnded, ended_both}
 
 module _ {X : Type 0} (xs : List X) (i : ℕ) (x : X) (below : i < length xs) (is : x ≡ get_or xs i x) where
   -- a list, at a place
@@ -32,19 +33,18 @@ module _ {X : Type 0} (own : X → List ℕ) where
     all_lines : flat_map own xs ≡ (flat_map own (take i xs) ++ own x) ++ flat_map own (drop (suc i) xs)
     all_lines = ap (flat_map own) (split_at xs i x below is) ∙ lines-append (take i xs) (x ∷ drop (suc i) xs) ∙ sym (append_assoc (flat_map own (take i xs)) (own x) (flat_map own (drop (suc i) xs)))
 
-    module _ (old mid new : Option (List ℕ)) (wrote : Appends old mid (flat_map own (take i xs))) where
-      pub more_written : Appends mid new (own x) → Appends old new (flat_map own (take (i + 1) xs))
-      more_written last = subst (Appends old new) (sym with_own) (appends_both old mid new (flat_map own (take i xs)) (own x) wrote last)
+    module _ (old mid new : Option (List ℕ)) (first second third : List ℕ) (wrote : IsPassed old mid second (first ++ flat_map own (take i xs))) where
+      pub more_put : IsPassed mid new third (second ++ own x) → IsPassed old new third (first ++ flat_map own (take (i + 1) xs))
+      more_put last = subst (λ (text : List ℕ). IsPassed old new third (first ++ text)) (sym with_own) (passed_both old mid new first second third (flat_map own (take i xs)) wrote (own x) last)
 
       -- the sink failed in its line
-      pub cut_there : GotFront mid new (own x) → GotFront old new (flat_map own xs)
+      pub cut_there : GotFront mid new (second ++ own x) → GotFront old new (first ++ flat_map own xs)
       cut_there part =
-          subst (GotFront old new) (sym all_lines)
-          (got_longer old new (flat_map own (take i xs) ++ own x) (flat_map own (drop (suc i) xs)) (got_behind old mid new (flat_map own (take i xs)) (own x) wrote part))
+          subst (λ (text : List ℕ). GotFront old new (first ++ text)) (sym all_lines)
+          (front_more old new first (flat_map own (take i xs) ++ own x) (flat_map own (drop (suc i) xs)) (front_passed old mid new first second third (flat_map own (take i xs)) wrote (own x) part))
 
       -- there was no memory for its line
-      pub starved_there : ((y : X) → IsEnded (own y)) → new ≡ mid → GotLines old new (flat_map own xs)
-      starved_there ended kept =
-          subst (GotLines old new) (sym all_lines)
-          (lines_longer old new (flat_map own (take i xs) ++ own x) (flat_map own (drop (suc i) xs))
-          (lines_behind old mid new (flat_map own (take i xs)) (own x) (all_ended ended (take i xs)) wrote (subst (λ (o : Option (List ℕ)). GotLines mid o (own x)) (sym kept) (lines_none mid (own x)))))
+      pub starved_there : ((y : X) → IsEnded (own y)) → new ≡ mid → third ≡ second → PutLines old new third first (flat_map own xs)
+      starved_there ended kept waits =
+          subst (PutLines old new third first) (sym (all_lines ∙ append_assoc (flat_map own (take i xs)) (own x) (flat_map own (drop (suc i) xs))))
+          (no_lines old mid new first second third (flat_map own (take i xs)) (own x ++ flat_map own (drop (suc i) xs)) (all_ended ended (take i xs)) wrote kept waits)

@@ -5,7 +5,7 @@ use Rattle.ufs_client.specs.Played.{IsMerged, transcript}
 use Rattle.ufs_model.specs.History.{joined}
 use Rattle.ufs_model.specs.declared.data.Entry.{Entry}
 use Rattle.std.specs.Fmt.{decimal}
-use Rattle.std.specs.Prelude.{Bool, true, false, codes}
+use Rattle.std.specs.Prelude.{Bool, true, codes}
 use Rattle.ufs_script.specs.Output.{lines_of, reply_text, actor_text, via_text, why_text, output_of}
 use Rattle.ufs_quiet.specs.declared.print.LineKind.{LineKind}
 use Rattle.ufs_quiet.specs.declared.print.LineKind.TheVariants as kind
@@ -53,11 +53,7 @@ entries_ended which h = all_ended (entry_line which) (entry_ended which) h
 pub first_lines : (trace : Bool) (h : List Entry) → session_lines trace h ≡ entry_lines kind.Reply h ++ trace_part trace h
 first_lines trace h = ap (λ l. l ++ trace_part trace h) (lines_are h)
 
--- they are all of it without a trace,
-pub untraced : (trace : Bool) (h : List Entry) → trace ≡ false → session_lines trace h ≡ entry_lines kind.Reply h
-untraced trace h is = ap (λ b. session_lines b h) is ∙ append-nil (lines_of h) ∙ lines_are h
-
--- and with one its lines come behind them
+-- with a trace its lines come behind them
 pub traced : (trace : Bool) (h : List Entry) → trace ≡ true → session_lines trace h ≡ entry_lines kind.Reply h ++ entry_lines kind.Trace h
 traced trace h is = ap (λ b. session_lines b h) is ∙ ap (λ l. l ++ trace_lines h) (lines_are h)
 

@@ -2,7 +2,8 @@
 use Rattle.std.proofs.Common.{◌≡◌, ◌⊎◌, inl, inr, ℕ, List, [], ◌∷◌, ◌++◌, Option, Some, None, ap, sym, subst, refl, ◌∙◌, append_assoc, take, drop}
 use Rattle.std.proofs.lemmas.List.{append-nil, take-append-drop}
 use Rattle.std.specs.Io.KnownBytes.{Appends, Keeps}
-use Rattle.ufs_quiet.specs.Texts.{line, IsFront, AreFirstLines}
+use Rattle.ufs_quiet.specs.Pieces.{GotFront}
+use Rattle.ufs_quiet.specs.Texts.{line, IsFront}
 
 pub appends_both : (a b c : Option (List ℕ)) (xs ys : List ℕ) → Appends a b xs → Appends b c ys → Appends a c (xs ++ ys)
 appends_both None b c xs ys p q = tt
@@ -31,10 +32,6 @@ front_behind before front whole is = (is.0, append_assoc before front is.0 ∙ a
 pub front_longer : (front whole more : List ℕ) → IsFront front whole → IsFront front (whole ++ more)
 front_longer front whole more is = (is.0 ++ more, sym (append_assoc front is.0 more) ∙ ap (λ w. w ++ more) is.1)
 
--- a front of what is written at some place was got, after all before it
-abbrev pub GotFront : Option (List ℕ) → Option (List ℕ) → List ℕ → Type 0
-GotFront old new whole = (front : List ℕ) × IsFront front whole × Appends old new front
-
 pub got_behind : (old mid new : Option (List ℕ)) (before whole : List ℕ) → Appends old mid before → GotFront mid new whole → GotFront old new (before ++ whole)
 got_behind old mid new before whole wrote got = (before ++ got.0, front_behind before got.0 whole got.1, appends_both old mid new before got.0 wrote got.2)
 
@@ -60,18 +57,3 @@ IsEnded text = (text ≡ []) ⊎ ((before : List ℕ) × (text ≡ line before))
 pub ended_both : (xs ys : List ℕ) → IsEnded xs → IsEnded ys → IsEnded (xs ++ ys)
 ended_both xs ys first (inl none) = subst IsEnded (sym (ap (λ (l : List ℕ). xs ++ l) none ∙ append-nil xs)) first
 ended_both xs ys first (inr last) = inr (xs ++ last.0, ap (λ (l : List ℕ). xs ++ l) last.1 ∙ sym (append_assoc xs last.0 (10 ∷ [])))
-
--- the first lines of what is to be written were got
-abbrev pub GotLines : Option (List ℕ) → Option (List ℕ) → List ℕ → Type 0
-GotLines old new whole = (front : List ℕ) × AreFirstLines front whole × Appends old new front
-
-pub lines_behind : (old mid new : Option (List ℕ)) (before whole : List ℕ) → IsEnded before → Appends old mid before → GotLines mid new whole → GotLines old new (before ++ whole)
-lines_behind old mid new before whole ended wrote got =
-    (before ++ got.0, record { front_is = front_behind before got.0 whole got.1.front_is; ended = ended_both before got.0 ended got.1.ended }, appends_both old mid new before got.0 wrote got.2)
-
-pub lines_longer : (old new : Option (List ℕ)) (whole more : List ℕ) → GotLines old new whole → GotLines old new (whole ++ more)
-lines_longer old new whole more got = (got.0, record { front_is = front_longer got.0 whole more got.1.front_is; ended = got.1.ended }, got.2)
-
--- nothing was written
-pub lines_none : (old : Option (List ℕ)) (whole : List ℕ) → GotLines old old whole
-lines_none old whole = ([], record { front_is = front_none whole; ended = inl refl }, appends_none old)

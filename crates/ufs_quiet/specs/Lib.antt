@@ -1,4 +1,5 @@
 pub mod Texts
+pub mod Pieces
 pub mod Commands
 pub mod Served
 pub mod Printed

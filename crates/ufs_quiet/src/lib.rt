@@ -10,6 +10,7 @@ mod image;
 mod laws;
 mod mkfs;
 mod outcome;
+mod pieces;
 mod print;
 mod process;
 mod recover;

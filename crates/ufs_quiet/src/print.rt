@@ -1,14 +1,14 @@
 // Writing the lines of the clients' transcripts: their replies, and their trace.
-ghost use Rattle.std.specs.Prelude.{◌≡◌, ◌≢◌, List, ℕ, OnOk, IfOk};
+ghost use Rattle.std.specs.Prelude.{◌≡◌, ◌≢◌, ◌++◌, OnOk, IfOk};
 ghost use Rattle.std.specs.Io.KnownBytes.{Appends};
 ghost use Rattle.ufs_base.specs.Faults.{raised};
 ghost use Rattle.ufs_base.specs.Wanting.{wanting};
 ghost use Rattle.ufs_model.specs.History.{joined};
 ghost use Rattle.ufs_quiet.specs.Served.{session_lines};
 ghost use Rattle.ufs_quiet.specs.Printed.{entry_line, entry_lines};
-ghost use Rattle.ufs_quiet.specs.Texts.{AreFirstLines, IsFront};
+ghost use Rattle.ufs_quiet.specs.Pieces.{GotFront, GotLines, IsPassed, PutLines};
 
-use crate::write::write_all;
+use crate::pieces::{Waiting, put, write_waiting};
 use std::alloc::Global;
 use ufs_base::Memory;
 use ufs_io::{Failed, Sink};
@@ -60,67 +60,93 @@ fn entry_line(alloc: Global, kind: LineKind, entry: &Entry) -> Result<Bytes, Mem
     }
 }
 
-// Writes the line of an entry, or a front of it where the sink fails. Where there is no memory for
-// it, nothing is written.
+// Puts the line of an entry behind what waits. Where there is no memory for it, nothing is written.
 fn print_entry<K: Sink>(
     alloc: Global,
     sink: &mut K,
+    waiting: &mut Waiting,
     kind: LineKind,
     entry: &Entry,
 ) -> Result<(), PrintFault>
     ensures rose { result ≡ Err PrintFault.Sink → K.faults sink.new ≡ raised (K.faults sink.old) }
     ensures told { result ≢ Err PrintFault.Sink → K.faults sink.new ≡ K.faults sink.old }
-    ensures ok { OnOk result (Appends (K.held sink.old) (K.held sink.new) (entry_line kind entry.now)) }
+    ensures ok { OnOk result (IsPassed (K.held sink.old) (K.held sink.new) waiting.new (waiting.old ++ entry_line kind entry.now)) }
     ensures memory { result ≡ Err (PrintFault.Memory wanting) → sink.new ≡ sink.old }
-    ensures cut { result ≡ Err PrintFault.Sink → (front : List ℕ) × IsFront front (entry_line kind entry.now) × Appends (K.held sink.old) (K.held sink.new) front }
+    ensures waits { result ≡ Err (PrintFault.Memory wanting) → waiting.new ≡ waiting.old }
+    ensures cut { result ≡ Err PrintFault.Sink → GotFront (K.held sink.old) (K.held sink.new) (waiting.old ++ entry_line kind entry.now) }
 {
     let line = entry_line(alloc, kind, entry)?;
-    write_all(sink, line.as_slice())?;
+    put(sink, waiting, line.as_slice())?;
     Ok(())
 }
 
-// Writes the lines of a client's transcript: whole lines, but where the sink fails.
+// Puts the lines of a client's transcript behind what waits: whole lines, but where the sink fails.
 fn print_client<K: Sink>(
     alloc: Global,
     sink: &mut K,
+    waiting: &mut Waiting,
     kind: LineKind,
     entries: &[Entry],
 ) -> Result<(), PrintFault>
     ensures rose { result ≡ Err PrintFault.Sink → K.faults sink.new ≡ raised (K.faults sink.old) }
     ensures told { result ≢ Err PrintFault.Sink → K.faults sink.new ≡ K.faults sink.old }
-    ensures ok { OnOk result (Appends (K.held sink.old) (K.held sink.new) (entry_lines kind entries.now)) }
-    ensures memory { result ≡ Err (PrintFault.Memory wanting) → (front : List ℕ) × AreFirstLines front (entry_lines kind entries.now) × Appends (K.held sink.old) (K.held sink.new) front }
-    ensures cut { result ≡ Err PrintFault.Sink → (front : List ℕ) × IsFront front (entry_lines kind entries.now) × Appends (K.held sink.old) (K.held sink.new) front }
+    ensures ok { OnOk result (IsPassed (K.held sink.old) (K.held sink.new) waiting.new (waiting.old ++ entry_lines kind entries.now)) }
+    ensures memory { result ≡ Err (PrintFault.Memory wanting) → PutLines (K.held sink.old) (K.held sink.new) waiting.new waiting.old (entry_lines kind entries.now) }
+    ensures cut { result ≡ Err PrintFault.Sink → GotFront (K.held sink.old) (K.held sink.new) (waiting.old ++ entry_lines kind entries.now) }
 {
     for entry in entries {
-        print_entry(alloc, sink, kind, entry)?;
+        print_entry(alloc, sink, waiting, kind, entry)?;
     }
     Ok(())
 }
 
-// Writes the lines of the clients' transcripts, one after the other: the first of them, whole, where
-// memory runs out, and a front of them where the sink fails.
+// Puts the lines of the clients' transcripts, one after the other, behind what waits: the first of
+// them, whole, where memory runs out, and a front of them where the sink fails.
 fn print_lists<K: Sink>(
     alloc: Global,
     sink: &mut K,
+    waiting: &mut Waiting,
     kind: LineKind,
     told: &[EntryList],
 ) -> Result<(), PrintFault>
     ensures rose { result ≡ Err PrintFault.Sink → K.faults sink.new ≡ raised (K.faults sink.old) }
     ensures told { result ≢ Err PrintFault.Sink → K.faults sink.new ≡ K.faults sink.old }
-    ensures ok { OnOk result (Appends (K.held sink.old) (K.held sink.new) (entry_lines kind (joined told.now))) }
-    ensures memory { result ≡ Err (PrintFault.Memory wanting) → (front : List ℕ) × AreFirstLines front (entry_lines kind (joined told.now)) × Appends (K.held sink.old) (K.held sink.new) front }
-    ensures cut { result ≡ Err PrintFault.Sink → (front : List ℕ) × IsFront front (entry_lines kind (joined told.now)) × Appends (K.held sink.old) (K.held sink.new) front }
+    ensures ok { OnOk result (IsPassed (K.held sink.old) (K.held sink.new) waiting.new (waiting.old ++ entry_lines kind (joined told.now))) }
+    ensures memory { result ≡ Err (PrintFault.Memory wanting) → PutLines (K.held sink.old) (K.held sink.new) waiting.new waiting.old (entry_lines kind (joined told.now)) }
+    ensures cut { result ≡ Err PrintFault.Sink → GotFront (K.held sink.old) (K.held sink.new) (waiting.old ++ entry_lines kind (joined told.now)) }
 {
     for list in told {
-        print_client(alloc, sink, kind, list.as_slice())?;
+        print_client(alloc, sink, waiting, kind, list.as_slice())?;
     }
+    Ok(())
+}
+
+// Puts the reply lines of the clients' transcripts, and behind them the trace, where it is asked for.
+fn print_session<K: Sink>(
+    alloc: Global,
+    sink: &mut K,
+    waiting: &mut Waiting,
+    told: &[EntryList],
+    trace: bool,
+) -> Result<(), PrintFault>
+    ensures rose { result ≡ Err PrintFault.Sink → K.faults sink.new ≡ raised (K.faults sink.old) }
+    ensures told { result ≢ Err PrintFault.Sink → K.faults sink.new ≡ K.faults sink.old }
+    ensures ok { OnOk result (IsPassed (K.held sink.old) (K.held sink.new) waiting.new (waiting.old ++ session_lines trace (joined told.now))) }
+    ensures memory { result ≡ Err (PrintFault.Memory wanting) → PutLines (K.held sink.old) (K.held sink.new) waiting.new waiting.old (session_lines trace (joined told.now)) }
+    ensures cut { result ≡ Err PrintFault.Sink → GotFront (K.held sink.old) (K.held sink.new) (waiting.old ++ session_lines trace (joined told.now)) }
+{
+    print_lists(alloc, sink, waiting, LineKind::Reply, told)?;
+    if !trace {
+        return Ok(());
+    }
+    // A client's tickets are above those of the clients before it: the transcripts stand by rising ticket.
+    print_lists(alloc, sink, waiting, LineKind::Trace, told)?;
     Ok(())
 }
 
 /// Writes the reply lines of the clients' transcripts, one after the other, and behind them the trace of the
 /// history that the transcripts are one after the other, where it is asked for: the first of these lines, whole,
-/// where memory runs out, and a front of them where the sink fails.
+/// where memory runs out, and a front of them where the sink fails. They go out in pieces of up to 65,536 bytes.
 pub fn print<K: Sink>(
     alloc: Global,
     sink: &mut K,
@@ -130,14 +156,19 @@ pub fn print<K: Sink>(
     ensures rose { result ≡ Err PrintFault.Sink → K.faults sink.new ≡ raised (K.faults sink.old) }
     ensures told { result ≢ Err PrintFault.Sink → K.faults sink.new ≡ K.faults sink.old }
     ensures ok { OnOk result (Appends (K.held sink.old) (K.held sink.new) (session_lines trace (joined told.now))) }
-    ensures memory { result ≡ Err (PrintFault.Memory wanting) → (front : List ℕ) × AreFirstLines front (session_lines trace (joined told.now)) × Appends (K.held sink.old) (K.held sink.new) front }
-    ensures cut { result ≡ Err PrintFault.Sink → (front : List ℕ) × IsFront front (session_lines trace (joined told.now)) × Appends (K.held sink.old) (K.held sink.new) front }
+    ensures memory { result ≡ Err (PrintFault.Memory wanting) → GotLines (K.held sink.old) (K.held sink.new) (session_lines trace (joined told.now)) }
+    ensures cut { result ≡ Err PrintFault.Sink → GotFront (K.held sink.old) (K.held sink.new) (session_lines trace (joined told.now)) }
 {
-    print_lists(alloc, sink, LineKind::Reply, told)?;
-    if !trace {
-        return Ok(());
+    let mut waiting = Waiting::new();
+    match print_session(alloc, sink, &mut waiting, told, trace) {
+        Ok(()) => {
+            write_waiting(sink, &waiting)?;
+            Ok(())
+        }
+        Err(PrintFault::Memory(memory)) => {
+            write_waiting(sink, &waiting)?;
+            Err(PrintFault::Memory(memory))
+        }
+        Err(PrintFault::Sink) => Err(PrintFault::Sink),
     }
-    // A client's tickets are above those of the clients before it: the transcripts stand by rising ticket.
-    print_lists(alloc, sink, LineKind::Trace, told)?;
-    Ok(())
 }

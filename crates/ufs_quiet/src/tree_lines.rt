@@ -1,15 +1,15 @@
 // The lines of the tree that an image stands for.
-ghost use Rattle.std.specs.Prelude.{◌≡◌, ◌≢◌, ◌++◌, List, ℕ, IfOk, OnOk};
+ghost use Rattle.std.specs.Prelude.{◌≡◌, ◌≢◌, ◌++◌, IfOk, OnOk};
 ghost use Rattle.std.specs.Io.KnownBytes.{Appends};
-ghost use Rattle.ufs_base.specs.Wanting.{wanting};
 ghost use Rattle.ufs_base.specs.Faults.{raised};
+ghost use Rattle.ufs_base.specs.Wanting.{wanting};
 ghost use Rattle.ufs_script.specs.Spelling.{data_text};
-ghost use Rattle.ufs_quiet.specs.Texts.{AreFirstLines, IsFront};
+ghost use Rattle.ufs_quiet.specs.Pieces.{GotFront, GotLines, IsPassed, PutLines};
 ghost use Rattle.ufs_opening.specs.declared.head.NodeHead.TheVariants.{Dir, File};
 ghost use Rattle.ufs_quiet.specs.TreeLines.{front_text, head_line, head_lines, node_head_line};
 
+use crate::pieces::{Waiting, put, write_waiting};
 use crate::print::PrintFault;
-use crate::write::write_all;
 use std::alloc::{AllocError, Global};
 use ufs_base::Memory;
 use ufs_io::Sink;
@@ -77,22 +77,47 @@ fn line_of(alloc: Global, head: &PathHead) -> Result<Vec<u8>, Memory>
     }
 }
 
-// Writes the line of a path, or a front of it where the sink fails. Where there is no memory for it,
-// nothing is written.
-fn print_head<K: Sink>(alloc: Global, sink: &mut K, head: &PathHead) -> Result<(), PrintFault>
+// Puts the line of a path behind what waits. Where there is no memory for it, nothing is written.
+fn print_head<K: Sink>(
+    alloc: Global,
+    sink: &mut K,
+    waiting: &mut Waiting,
+    head: &PathHead,
+) -> Result<(), PrintFault>
     ensures rose { result ≡ Err PrintFault.Sink → K.faults sink.new ≡ raised (K.faults sink.old) }
     ensures told { result ≢ Err PrintFault.Sink → K.faults sink.new ≡ K.faults sink.old }
-    ensures ok { OnOk result (Appends (K.held sink.old) (K.held sink.new) (head_line head.now)) }
+    ensures ok { OnOk result (IsPassed (K.held sink.old) (K.held sink.new) waiting.new (waiting.old ++ head_line head.now)) }
     ensures memory { result ≡ Err (PrintFault.Memory wanting) → sink.new ≡ sink.old }
-    ensures cut { result ≡ Err PrintFault.Sink → (front : List ℕ) × IsFront front (head_line head.now) × Appends (K.held sink.old) (K.held sink.new) front }
+    ensures waits { result ≡ Err (PrintFault.Memory wanting) → waiting.new ≡ waiting.old }
+    ensures cut { result ≡ Err PrintFault.Sink → GotFront (K.held sink.old) (K.held sink.new) (waiting.old ++ head_line head.now) }
 {
     let line = line_of(alloc, head)?;
-    write_all(sink, line.as_slice())?;
+    put(sink, waiting, line.as_slice())?;
+    Ok(())
+}
+
+// Puts the lines of what stands at these paths behind what waits: the first of them, whole, where
+// memory runs out, and a front of them where the sink fails.
+fn put_heads<K: Sink>(
+    alloc: Global,
+    sink: &mut K,
+    waiting: &mut Waiting,
+    heads: &[PathHead],
+) -> Result<(), PrintFault>
+    ensures rose { result ≡ Err PrintFault.Sink → K.faults sink.new ≡ raised (K.faults sink.old) }
+    ensures told { result ≢ Err PrintFault.Sink → K.faults sink.new ≡ K.faults sink.old }
+    ensures ok { OnOk result (IsPassed (K.held sink.old) (K.held sink.new) waiting.new (waiting.old ++ head_lines heads.now)) }
+    ensures memory { result ≡ Err (PrintFault.Memory wanting) → PutLines (K.held sink.old) (K.held sink.new) waiting.new waiting.old (head_lines heads.now) }
+    ensures cut { result ≡ Err PrintFault.Sink → GotFront (K.held sink.old) (K.held sink.new) (waiting.old ++ head_lines heads.now) }
+{
+    for head in heads {
+        print_head(alloc, sink, waiting, head)?;
+    }
     Ok(())
 }
 
 /// Writes the lines of what stands at these paths: the first of them, whole, where memory runs out, and a front of
-/// them where the sink fails.
+/// them where the sink fails. They go out in pieces of up to 65,536 bytes.
 pub fn print_heads<K: Sink>(
     alloc: Global,
     sink: &mut K,
@@ -101,11 +126,19 @@ pub fn print_heads<K: Sink>(
     ensures rose { result ≡ Err PrintFault.Sink → K.faults sink.new ≡ raised (K.faults sink.old) }
     ensures told { result ≢ Err PrintFault.Sink → K.faults sink.new ≡ K.faults sink.old }
     ensures ok { OnOk result (Appends (K.held sink.old) (K.held sink.new) (head_lines heads.now)) }
-    ensures memory { result ≡ Err (PrintFault.Memory wanting) → (front : List ℕ) × AreFirstLines front (head_lines heads.now) × Appends (K.held sink.old) (K.held sink.new) front }
-    ensures cut { result ≡ Err PrintFault.Sink → (front : List ℕ) × IsFront front (head_lines heads.now) × Appends (K.held sink.old) (K.held sink.new) front }
+    ensures memory { result ≡ Err (PrintFault.Memory wanting) → GotLines (K.held sink.old) (K.held sink.new) (head_lines heads.now) }
+    ensures cut { result ≡ Err PrintFault.Sink → GotFront (K.held sink.old) (K.held sink.new) (head_lines heads.now) }
 {
-    for head in heads {
-        print_head(alloc, sink, head)?;
+    let mut waiting = Waiting::new();
+    match put_heads(alloc, sink, &mut waiting, heads) {
+        Ok(()) => {
+            write_waiting(sink, &waiting)?;
+            Ok(())
+        }
+        Err(PrintFault::Memory(memory)) => {
+            write_waiting(sink, &waiting)?;
+            Err(PrintFault::Memory(memory))
+        }
+        Err(PrintFault::Sink) => Err(PrintFault::Sink),
     }
-    Ok(())
 }

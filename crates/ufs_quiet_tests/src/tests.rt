@@ -1,12 +1,13 @@
 // The words, the images, and sources, sinks and disks that fail.
 use crate::asserts::{holds, same};
 use crate::calls::{Call, bytes, calm, check_new, check_over, memory_disk, words};
+use crate::rows::repeated;
 use std::alloc::AllocGlobal;
 use std::process::Abort;
 use ufs_base::SECTOR;
 use ufs_disk::{Disk, FILE_SECTORS, FileDisk};
 use ufs_io::{MemorySink, PlainSource};
-use ufs_quiet::{WordsFault, image_of, respond};
+use ufs_quiet::{WordsFault, image_of, quiet, respond};
 
 const FIRST: &str =
     "client 0\nmkdir /d\nopen /f rw creat\nopen /d rw creat\nwrite 3 6162\nopen /f r creat\nread 4 9\nwrite 4 61\nclose 3\nread 3 1\nmkdir /f\nend\n";
@@ -88,16 +89,17 @@ const UNREAD: [(&[&str], u8, &str); 46] = [
     (&["bench", "1"], 2, NOT_BUILT),
 ];
 
-// Words, the numbers of the reads and of the writes that fail, and the status and the text, over a new image.
+// Words, the numbers of the reads and of the writes that fail, and the status and the text, over a new image. Lines that fill
+// no piece go out by one write.
 const FAULTS: [(&[&str], &[u64], &[u64], u8, &str); 10] = [
     (&["play"], &[], &[], 0, FIRST_REPLIES),
     (&["play", "--image", "f"], &[], &[], 0, FIRST_REPLIES),
     (&["play"], &[0], &[], 6, SOURCE_FAULT),
     (&["play"], &[1], &[], 6, SOURCE_FAULT),
     (&["play"], &[], &[0], 7, ""),
-    (&["play"], &[], &[2], 7, "0.0 ok\n0.1 fd 3\n"),
+    (&["play"], &[], &[1], 0, FIRST_REPLIES),
     (&["play"], &[0], &[0], 7, ""),
-    (&["play", "--trace"], &[], &[10], 7, FIRST_REPLIES),
+    (&["play", "--trace"], &[], &[0], 7, ""),
     (MKFS, &[], &[0], 7, ""),
     (&["frob"], &[0], &[0], 7, ""),
 ];
@@ -227,5 +229,74 @@ fn no_file_is_made_where_none_is_touched(rt: HostRuntime) {
         let outcome = respond(rt.alloc(), &words, &mut source, &mut sink, disk);
         same(&rt, outcome.status, *status);
         holds(&rt, std::fs::metadata(&rt, NO_FILE).is_err());
+    }
+}
+
+// 65,000 requests, whose lines are 14 bytes and less.
+const MANY: &[(&str, u32)] = &[("client 0\n", 1), ("stat /\n", 65_000), ("end\n", 1)];
+
+// Replies of 9 and 12 bytes, and two of 80,010, which are longer than a piece.
+const LONG: &[(&str, u32)] = &[
+    ("client 0\nopen /f rw creat\nwrite 3 40000*61\n", 1),
+    ("pread 3 40000 0\n", 2),
+    ("end\n", 1),
+];
+
+// Scripts, the numbers of the writes that fail, the status, how many bytes the sink got, and by how many writes.
+type Row = (
+    &'static [(&'static str, u32)],
+    &'static [u64],
+    u8,
+    usize,
+    u64,
+);
+
+const WRITES: [Row; 8] = [
+    (MANY, &[], 0, 898_890, 14),
+    (MANY, &[7], 7, 458_730, 8),
+    (MANY, &[13], 7, 851_934, 14),
+    (LONG, &[], 0, 160_041, 5),
+    (LONG, &[0], 7, 0, 1),
+    (LONG, &[1], 7, 21, 2),
+    (LONG, &[2], 7, 65_557, 3),
+    (LONG, &[4], 7, 145_567, 5),
+];
+
+// What a sink got of a script that was played over a new image.
+#[derive(Drop)]
+struct Got {
+    status: u8,
+    bytes: Vec<u8>,
+    writes: u64,
+}
+
+fn play<R: Abort + AllocGlobal>(rt: &R, script: &str, fails: &[u64]) -> Got {
+    let disk = check_new(rt, 2_048, &[making(0, MADE)]);
+    let words = words(rt, &["play"]);
+    let mut source = PlainSource::new(bytes(rt, script));
+    let fails = fails.to_vec(rt.alloc()).expect(rt, "memory");
+    let mut sink = MemorySink::new(rt.alloc(), fails);
+    let outcome = quiet(rt.alloc(), &words, &mut source, &mut sink, disk);
+    Got {
+        status: outcome.status,
+        bytes: sink.bytes().to_vec(rt.alloc()).expect(rt, "memory"),
+        writes: sink.calls(),
+    }
+}
+
+// Plays a script where no write fails, and where some do: what the sink has then is a front of what it has else.
+fn check_writes<R: Abort + AllocGlobal>(rt: &R, script: &str, fails: &[u64]) -> (u8, usize, u64) {
+    let whole = play(rt, script, &[]);
+    let got = play(rt, script, fails);
+    holds(rt, whole.bytes.starts_with(got.bytes.as_slice()));
+    (got.status, got.bytes.len(), got.writes)
+}
+
+#[test]
+fn lines_go_out_in_pieces(rt: HostRuntime) {
+    for (texts, fails, status, bytes, writes) in &WRITES {
+        let script = repeated(&rt, texts);
+        let got = check_writes(&rt, script.as_str(), fails);
+        same(&rt, got, (*status, *bytes, *writes));
     }
 }

@@ -6,7 +6,7 @@ use Rattle.ufs_quiet.specs.Seen.{writing}
 use Rattle.ufs_quiet.specs.Endings.{EndsListing}
 use Rattle.ufs_quiet.specs.declared.ending.Ending.TheVariants.{Done, Damaged}
 use Rattle.ufs_quiet.proofs.AnswerLemmas.{answer_line}
-use Rattle.ufs_quiet.proofs.WriteLemmas.{GotFront}
+use Rattle.ufs_quiet.specs.Pieces.{GotFront}
 use Rattle.ufs_quiet.proofs.DamageLemmas.{none_told, some_told}
 use Rattle.ufs_quiet.proofs.check.print_list.Goals as goal
 

@@ -1,5 +1,6 @@
 use Rattle.std.proofs.Common.{rules, ℕ, List, take, drop, suc, ◌∙◌, sym, subst}
-use Rattle.ufs_quiet.proofs.WriteLemmas.{GotFront, got_behind, got_longer}
+use Rattle.ufs_quiet.specs.Pieces.{GotFront}
+use Rattle.ufs_quiet.proofs.WriteLemmas.{got_behind, got_longer}
 use Rattle.ufs_quiet.proofs.DamageLemmas.{told_lines, line_of_one}
 use Rattle.ufs_quiet.proofs.damage_lines.print_damage.Goals as goal
 

@@ -7,7 +7,8 @@ use Rattle.ufs_quiet.specs.Texts.{device_line, memory_line}
 use Rattle.ufs_quiet.specs.Endings.{EndsBehind}
 use Rattle.ufs_quiet.specs.declared.ending.Ending.TheVariants.{DeviceFault, OutOfMemory}
 use Rattle.ufs_quiet.proofs.AnswerLemmas.{answer_after}
-use Rattle.ufs_quiet.proofs.WriteLemmas.{GotFront, GotLines, front_longer}
+use Rattle.ufs_quiet.specs.Pieces.{GotFront, GotLines}
+use Rattle.ufs_quiet.proofs.WriteLemmas.{front_longer}
 use Rattle.ufs_quiet.proofs.serving.print_behind.Goals as goal
 
 pub returns-in-Ok : goal.returns-in-Ok

@@ -7,7 +7,7 @@ use Rattle.ufs_quiet.specs.Texts.{memory_line}
 use Rattle.ufs_quiet.specs.Endings.{EndsPrinting}
 use Rattle.ufs_quiet.specs.declared.ending.Ending.TheVariants.{Done, OutOfMemory}
 use Rattle.ufs_quiet.proofs.AnswerLemmas.{answer_after}
-use Rattle.ufs_quiet.proofs.WriteLemmas.{GotFront, GotLines}
+use Rattle.ufs_quiet.specs.Pieces.{GotFront, GotLines}
 use Rattle.ufs_quiet.proofs.serving.print_told.Goals as goal
 
 pub returns-in-Err-Memory : goal.returns-in-Err-Memory

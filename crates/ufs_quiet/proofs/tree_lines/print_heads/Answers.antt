@@ -1,26 +1,16 @@
-use Rattle.std.proofs.Common.{ap, rules, ◌∙◌}
-use Rattle.ufs_quiet.specs.TreeLines.{head_line}
-use Rattle.ufs_quiet.proofs.ListLines.{cut_there, more_written, starved_there}
-use Rattle.ufs_quiet.proofs.TextLemmas.{head_ended}
+use Rattle.std.proofs.Common.{Err, ap}
+use Rattle.ufs_quiet.specs.TreeLines.{head_lines}
+use Rattle.ufs_quiet.proofs.PieceLemmas.{front_of_lines_out, front_out}
 use Rattle.ufs_quiet.proofs.tree_lines.print_heads.Goals as goal
 
-pub returns-in_err-print_head-clause-memory : goal.returns-in_err-print_head-clause-memory
-returns-in_err-print_head-clause-memory g c is =
+pub returns-in_err-write_waiting-in-Ok-clause-cut : goal.returns-in_err-write_waiting-in-Ok-clause-cut
+returns-in_err-write_waiting-in-Ok-clause-cut g c is =
     let held = g.K.Sink.held in
-    starved_there head_line c.args.heads.now c.loop-head.head-index c.head-item.result c.loop-head-test.true c.head-item.is
-    (held c.args.sink.now) (held c.loop-head.sink) (held c.print_head.new.sink) c.loop-head.invariant.written head_ended (ap held (c.in_err-print_head.ensures.memory (search rules)))
+    front_out (held c.args.sink.now) (held c.put_heads.new.sink) (held c.write_waiting.new.sink) c.new-waiting.result c.put_heads.new.waiting (head_lines c.args.heads.now) c.new-waiting.ensures
+    c.in-Ok.ensures.ok c.in_err-write_waiting-in-Ok.ensures.err
 
-pub returns-in_err-print_head-clause-cut : goal.returns-in_err-print_head-clause-cut
-returns-in_err-print_head-clause-cut g c is =
+pub returns-in_err-write_waiting-in-Err-Memory-clause-cut : goal.returns-in_err-write_waiting-in-Err-Memory-clause-cut
+returns-in_err-write_waiting-in-Err-Memory-clause-cut g c is =
     let held = g.K.Sink.held in
-    cut_there head_line c.args.heads.now c.loop-head.head-index c.head-item.result c.loop-head-test.true c.head-item.is
-    (held c.args.sink.now) (held c.loop-head.sink) (held c.print_head.new.sink) c.loop-head.invariant.written (c.in_err-print_head.ensures.cut (search rules))
-
-pub loop-head-preserved : goal.loop-head-preserved
-loop-head-preserved g c =
-    let held = g.K.Sink.held in
-    record {
-      same = c.in_ok-print_head.ensures.told (λ x. cc) ∙ c.loop-head.invariant.same;
-      written = more_written head_line c.args.heads.now c.loop-head.head-index c.head-item.result c.loop-head-test.true c.head-item.is
-          (held c.args.sink.now) (held c.loop-head.sink) (held c.print_head.new.sink) c.loop-head.invariant.written c.in_ok-print_head.ensures.ok;
-    }
+    front_of_lines_out (held c.args.sink.now) (held c.put_heads.new.sink) (held c.write_waiting-in-Err-Memory.new.sink) c.new-waiting.result c.put_heads.new.waiting (head_lines c.args.heads.now) c.new-waiting.ensures
+    (c.in-Err-Memory.ensures.memory (ap Err c.in-Err-Memory.field-0-is)) c.in_err-write_waiting-in-Err-Memory.ensures.err

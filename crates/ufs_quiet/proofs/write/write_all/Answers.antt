@@ -1,6 +1,5 @@
-use Rattle.std.proofs.Common.{ℕ, List, arith, take, drop, sym, subst, length, length-drop, ◌≤◌, ◌∙◌}
+use Rattle.std.proofs.Common.{ℕ, List, arith, take, drop, sym, subst, ◌∙◌}
 use Rattle.std.proofs.Math.Seq.{take-add}
-use Rattle.std.proofs.lemmas.List.{take_rest}
 use Rattle.std.specs.Io.KnownBytes.{Appends}
 use Rattle.ufs_quiet.proofs.WriteLemmas.{appends_both, appends_kept, front_taken}
 use Rattle.ufs_quiet.proofs.write.write_all.Goals as goal
@@ -11,12 +10,12 @@ loop-at-preserved g c =
     let count = c.in-Ok.count in
     let text = c.args.text.now in
     let held = g.K.Sink.held in
-    let piece = take_rest text at in
-    let bytes = subst (λ (p : List ℕ). Appends (held c.loop-at.sink) (held c.write.new.self) (take count p)) piece c.in-Ok.ensures.bytes in
+    let count-fits = c.in-Ok.ensures.bound in
+    let bytes = subst (λ (p : List ℕ). Appends (held c.loop-at.sink) (held c.write.new.self) p) (c.next_piece.ensures.first count count-fits) c.in-Ok.ensures.bytes in
     let both = appends_both (held c.args.sink.now) (held c.loop-at.sink) (held c.write.new.self) (take at text) (take count (drop at text)) c.loop-at.invariant.written bytes in
-    let more = subst (λ (p : List ℕ). count ≤ length p) piece c.in-Ok.ensures.bound in
+    let within = c.next_piece.ensures.within in
     record {
-      within = omega (arith, length-drop at text, more);
+      within = omega (arith, count-fits, within, c.loop-at.invariant.within);
       same = c.in-Ok.ensures.cause.passed ∙ c.loop-at.invariant.same;
       written = subst (λ (xs : List ℕ). Appends (held c.args.sink.now) (held c.write.new.self) xs) (sym (take-add at count text)) both;
     }
