@@ -1,11 +1,12 @@
 #!/usr/bin/env bash
-# A session is killed while it writes and syncs, and its image is recovered: every byte that was synced is there.
+# A session is killed while it writes and syncs, and its image is recovered.
 #
 #     examples/kill.sh [SECONDS]
 #
 # The session appends one byte after another to /log, each with an fsync. It is killed by signal 9 after so many seconds,
-# 2 where none are given. `recovered N` counts the transactions since the last checkpoint: where the journal was full before
-# the kill there are more appends than that.
+# 2 where none are given. It has printed nothing by then, since replies come behind the closing; how far it came is what `tree`
+# shows of /log. `recovered N` counts the transactions since the last checkpoint, one of the names and one for each append: where
+# the journal was full before the kill, there are more appends than that.
 set -u
 cd "$(dirname "$0")/.." || exit 1
 folder="$(mktemp -d)"

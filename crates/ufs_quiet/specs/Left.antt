@@ -60,11 +60,12 @@ pub record Plays {D : Type 0} (told : List (List Entry)) (status : ℕ) (c : Cou
   -- and the first of each file, among them each that an acknowledged `fsync` or `sync` waited for.
   pub crash : MayPlay c.visible c.sectors c.from.state → (start : PosixTree) → BeginsWith c.sectors (reads c.from) start → Leaves (OpensExplained c.sectors start (joined told)) c.to.state
   pub proper : MayPlay c.visible c.sectors c.from.state → Leaves (IsProperImage c.sectors) c.to.state
-  -- So it is at each moment before: what a crash leaves there opens to a tree that the entries explain that were answered by
-  -- then, and is proper.
+  -- So it is at each moment before: to each entry belongs some moment, in the history's order, and what a crash leaves opens to
+  -- a tree that the entries explain whose moments have passed, and is proper. That an entry's moment is the one in which its
+  -- reply was made isn't said.
   pub always : MayPlay c.visible c.sectors c.from.state → (start : PosixTree) → BeginsWith c.sectors (reads c.from) start → IsExplainedThroughout c.keeps c.sectors start [] (joined told) c.from c.to
-  -- The hand of the session stamped each state in which the disk was while it was served, and what a crash leaves in it is
-  -- explained by the first entries, for each number of them from one stamp to another.
+  -- From some moment to a later one, what a crash leaves in each state of the disk is explained by the first entries, for each
+  -- number of them from one stamp of the session's hand to another. As it stands here it follows from `always`.
   pub stamped : IsTrue c.keeps → MayPlay c.visible c.sectors c.from.state → (start : PosixTree) → BeginsWith c.sectors (reads c.from) start → IsStampedThroughout c.keeps c.sectors start (joined told) c.from c.to
   -- Status 0: the disk is proper and clean, nothing is pending, and it stands for the tree behind the history.
   pub clean : MayPlay c.visible c.sectors c.from.state → status ≡ 0 → IsCleanDisk c.sectors c.to.state

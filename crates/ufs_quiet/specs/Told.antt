@@ -43,7 +43,7 @@ pub record TellsPlay (trace : Bool) (r : Reading) (d : Formatting) (told : List 
   -- that begins as the tree of the disk's image, gives every reply or the reply is an excuse that fits, and which holds
   -- each request of the script once in its client's order. The sink got the lines of that history's replies, behind them,
   -- where a trace is asked for, those of that history's entries by their tickets, 0, 1, 2 and so on, and nothing else. Replies
-  -- may tell reads of the disk that failed, and none tells that the store stopped; where none tells a fault, the disk's
+  -- may tell faults of the disk, and none tells that the store stopped; where none tells a fault, the disk's
   -- count of faults is as it was, or stands at its type's end.
   pub done : status ≡ 0 → (script : Script) × ReadsScript r.left r.rest script × IsSessionOf d script told × EndsSession d told (Ok tt) × Appends w.held w.holds (session_text trace script (joined told))
   -- Status 3: no session begins with the image, and the sink got the line of the cause, and nothing else.
@@ -59,8 +59,8 @@ pub record TellsPlay (trace : Bool) (r : Reading) (d : Formatting) (told : List 
   -- may be several, as a read that fails stops nothing. The replies that tell where the store stopped all tell one fault, of this
   -- call too.
   pub faults : AreFaultsOf d.before d.now (joined told)
-  -- Over a visible source, a script is served, unless memory runs out, a count of faults rises, or no session
-  -- begins with the image.
+  -- Over a visible source, a script has status 0 or 5, or 3 and then no session begins with the image, unless a count of faults
+  -- rises, or the disk's stands at its type's end.
   pub complete : (text : List ℕ) (script : Script) → r.left ≡ Some text → script_of text ≡ Ok script → r.now ≢ raised r.before → AreCalmThroughout d w
       → (status ≡ 0) ⊎ ((status ≡ 3) ⊎ (status ≡ 5))
   -- A text that is no script is told with the line and the cause of its first break.
