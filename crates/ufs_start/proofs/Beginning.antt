@@ -85,7 +85,7 @@ lack_calm (Lack _) is count = refl
 
 pub refused_file : (v : FoldedVolume) (sectors : ℕ) (disk : images.Image) → IsVolumeOf sectors disk (volume_in v disk) (catalog_under v.superblock disk) → (fault : StartFault) → IsRefusedFile (form_at v.superblock.geometry (image_under v.superblock disk)) fault
     → NamesFile (IsInode v.superblock.geometry) fault → TellsNoStart sectors disk fault
-refused_file v sectors disk standing (Image fault) is named = outside_why sectors disk fault is
+refused_file v sectors disk standing (Image fault) is named = outside_why sectors disk fault (lack_outside fault is)
 refused_file v sectors disk standing (Unreached inode) is named = absurd is
 refused_file v sectors disk standing (Unnamed inode) is named = absurd is
 refused_file v sectors disk standing (ExtraBlocks inode) is named = (volume_in v disk, standing, (named, is))

@@ -1,20 +1,30 @@
 -- The slots of a directory that is made of what was read.
 use Rattle.std.proofs.Common.{◌≡◌, ◌≢◌, ℕ, zero, suc, ◌+◌, ◌*◌, ◌/◌, ◌%◌, ◌<◌, ◌≤◌, Bool, true, false, List, [], ◌∷◌, ◌++◌, length, Option, Some, None, get_or, set, take, map, replicate, refl, ap, sym, ◌∙◌, subst, arith, ⊎_elim, eqb}
-use Rattle.std.specs.Prelude.{flat_map, if◌then◌else◌, nat_le, ◌==◌, ◌&&◌, ◌||◌}
-use Rattle.std.specs.List.{slice_get, range_with_len, position_or_len}
+use Rattle.std.specs.Prelude.{flat_map, if◌then◌else◌, nat_eq, nat_le, ◌==◌, ◌&&◌, ◌||◌, IsTrue}
+use Rattle.std.specs.List.{All, IsDistinct, slice_get, range_with_len, position_or_len}
 use Rattle.std.proofs.lemmas.Bool.{and_parts, cases_lt}
 use Rattle.std.proofs.lemmas.Bool.Decides.{eqb_tells, nat_tests}
-use Rattle.std.proofs.lemmas.Option.{get_or_from_slice_get, slice_get_within}
-use Rattle.std.proofs.lemmas.List.{ext_get_or, get_or-set_same, get_or-set_other, get_or-replicate, length-replicate, length-set, length-map, set-get_or}
+use Rattle.std.proofs.lemmas.Option.{get_or_from_slice_get, slice_get_within, slice_get-get_or}
+use Rattle.std.proofs.lemmas.List.{ext_get_or, get_or-set_same, get_or-set_other, get_or-replicate, get_or-take, length-replicate, length-set, length-map, length-take-le, set-get_or}
+use Rattle.std.proofs.lemmas.List.Elements.{All-get_or, All-from_get_or}
+use Rattle.std.proofs.lemmas.List.Folds.{list_any_none}
+use Rattle.std.proofs.lemmas.Map.Keys.{apart_from_distinct}
 use Rattle.ufs_extent.specs.Runs as runs
 use Rattle.ufs_extent.specs.Runs.{blocks_from}
 use Rattle.ufs_layout.specs.DentryForm.{DentryForm, free_slot, is_dentry, is_named}
 use Rattle.ufs_layout.specs.declared.inode.Extent.{Extent}
-use Rattle.ufs_dirs.specs.Directory.{Directory, IsDirectory}
+use Rattle.ufs_dirs.specs.Directory.{Directory, IsDirectory, entry_of, has_block, has_name}
 use Rattle.ufs_dirs.specs.Changes.{place_of}
 use Rattle.ufs_dirs.specs.declared.Slot.{Slot}
-use Rattle.ufs_dirs.proofs.BlockLemmas.{position-distinct}
+use Rattle.ufs_dirs.proofs.BlockLemmas.{length-distinct, position-distinct}
+use Rattle.ufs_dirs.proofs.NameLemmas.{entry_of-none}
+use Rattle.ufs_model.proofs.Facts.Lookups.{same_some}
+use Rattle.ufs_names.proofs.AllowedLemmas.{bytes_differ}
 use Rattle.ufs_start.specs.Extents.{run_of}
+use Rattle.ufs_start.specs.Tables.{IsWholeDir}
+
+pub never_none : {X : Type 0} (o : Option X) (x : X) → o ≡ Some x → o ≡ None → ⊥
+never_none o x some none = let no : None ≡ Some x = sym none ∙ some in cc
 
 -- ---- where the blocks lie
 
@@ -34,7 +44,25 @@ take_suc (y ∷ xs) (suc k) x e = ap (λ l. y ∷ l) (take_suc xs k x e)
 pub take_next : (xs : List ℕ) (k x : ℕ) → slice_get xs k ≡ Some x → take (k + 1) xs ≡ take k xs ++ x ∷ []
 take_next xs k x e = let next : k + 1 ≡ suc k = omega arith in ap (λ n. take n xs) next ∙ take_suc xs k x e
 
+pub below_at : (xs : List ℕ) (k b : ℕ) → All (λ x. x < 65536) xs → slice_get xs k ≡ Some b → b < 65536
+below_at xs k b all there = subst (λ n. n < 65536) (get_or_from_slice_get xs k b 0 there) (All-get_or (λ x. x < 65536) xs k 0 (slice_get_within xs k b there) all)
+
+-- none of different blocks stands among those before it
+pub absent_before : (xs : List ℕ) (k b : ℕ) → IsDistinct nat_eq xs → slice_get xs k ≡ Some b → has_block (take k xs) b ≡ false
+absent_before xs k b distinct there =
+    let within = slice_get_within xs k b there in
+    let is : get_or xs k 0 ≡ b = get_or_from_slice_get xs k b 0 there in
+    let short : length (take k xs) ≡ k = length-take-le k xs (omega (arith, within)) in
+    list_any_none (λ x. x == b) (take k xs) (All-from_get_or (λ x. (x == b) ≡ false) (take k xs) 0 (λ i less.
+    let under : i < k = omega (arith, less, short) in
+    ap (λ n. n == b) (get_or-take k xs i 0 under) ∙ ap (λ n. get_or xs i 0 == n) (sym is) ∙ apart_from_distinct nat_eq xs i k 0 distinct under within))
+
 -- ---- slots
+
+mapped : (xs : List DentryForm) (k : ℕ) → k < length xs → Some (get_or xs k free_slot) ≡ get_or (map Some xs) k None
+mapped [] k less = absurd (omega (arith, less))
+mapped (x ∷ xs) zero less = refl
+mapped (x ∷ xs) (suc k) less = mapped xs k (omega (arith, less))
 
 -- The first so many slots are what was read, and the others are free.
 pub record AreFilled (read : List (Option DentryForm)) (end : ℕ) (slots : List DentryForm) : Type 0 where
@@ -99,11 +127,53 @@ pub all_filled : (read : List (Option DentryForm)) (end : ℕ) (slots : List Den
 all_filled read end slots long so_far =
     ext_get_or None read (map Some slots) (sym so_far.counted ∙ sym (length-map slots Some))
     (λ k inside. so_far.filled k (omega (arith, inside, long)) inside ∙ mapped slots k (let counted = so_far.counted in omega (arith, counted, inside)))
-  where
-    mapped : (xs : List DentryForm) (k : ℕ) → k < length xs → Some (get_or xs k free_slot) ≡ get_or (map Some xs) k None
-    mapped [] k less = absurd (omega (arith, less))
-    mapped (x ∷ xs) zero less = refl
-    mapped (x ∷ xs) (suc k) less = mapped xs k (omega (arith, less))
+
+-- ---- what was read makes a directory
+
+and_no : (b : Bool) → (b && false) ≡ false
+and_no true = refl
+and_no false = refl
+
+module _ (blocks : List ℕ) (read : List (Option DentryForm)) (is : IsWholeDir blocks read) where
+  pub slots_counted : length read ≡ 64 * length blocks
+  slots_counted = ap length is.all ∙ length-map is.slots Some ∙ is.whole.sized
+
+  pub few_slots : length read ≤ 64 * 65536
+  few_slots = let all = slots_counted in let few = length-distinct 65536 blocks is.whole.blocks_once is.whole.blocks_below in omega (arith, all, few)
+
+  within : (k : ℕ) → k < length read → k < length is.slots
+  within k less = let same : length read ≡ length is.slots = ap length is.all ∙ length-map is.slots Some in omega (arith, same, less)
+
+  pub slot_read : (k : ℕ) → k < length read → get_or read k None ≡ Some (get_or is.slots k free_slot)
+  slot_read k less = ap (λ (l : List (Option DentryForm)). get_or l k None) is.all ∙ sym (mapped is.slots k (within k less))
+
+  slot_is : (k : ℕ) (d : DentryForm) → k < length read → get_or read k None ≡ Some d → get_or is.slots k free_slot ≡ d
+  slot_is k d less there = same_some (get_or is.slots k free_slot) d (sym (slot_read k less) ∙ there)
+
+  pub form_read : (k : ℕ) (d : DentryForm) → k < length read → get_or read k None ≡ Some d → is_dentry d ≡ true
+  form_read k d less there = subst (λ (e : DentryForm). is_dentry e ≡ true) (slot_is k d less there) (All-get_or (λ (e : DentryForm). IsTrue (is_dentry e)) is.slots k free_slot (within k less) is.whole.forms)
+
+  pub block_read : (k : ℕ) → k < length read → slice_get blocks (k / 64) ≡ Some (get_or blocks (k / 64) 0)
+  block_read k less = let all = slots_counted in slice_get-get_or blocks (k / 64) 0 (omega (arith, all, less))
+
+  -- its names differ from those before it
+  pub name_absent : (end : ℕ) (slots : List DentryForm) (d : DentryForm) → AreFilled read end slots → end < length read → get_or read end None ≡ Some d → is_named d ≡ true → entry_of slots d.name ≡ None
+  name_absent end slots d so_far inside there named = entry_of-none slots d.name (λ k less. ⊎_elim (λ (under : k < end). other k under) (λ (from : end ≤ k). rest k from less) (cases_lt k end))
+    where
+      here : get_or is.slots end free_slot ≡ d
+      here = slot_is end d inside there
+
+      other : (k : ℕ) → k < end → has_name d.name (get_or slots k free_slot) ≡ false
+      other k under =
+          let less : k < length read = omega (arith, under, inside) in
+          let same : get_or is.slots k free_slot ≡ get_or slots k free_slot = slot_is k (get_or slots k free_slot) less (so_far.filled k under less) in
+          let differ = is.whole.names_once k end under (within end inside) (ap is_named here ∙ named) in
+          ap (λ b. is_named (get_or slots k free_slot) && b)
+          (bytes_differ (get_or slots k free_slot).name d.name (λ e. differ (ap (λ (x : DentryForm). x.name) same ∙ e ∙ sym (ap (λ (x : DentryForm). x.name) here))))
+          ∙ and_no (is_named (get_or slots k free_slot))
+
+      rest : (k : ℕ) → end ≤ k → k < length slots → has_name d.name (get_or slots k free_slot) ≡ false
+      rest k from less = let counted = so_far.counted in ap (has_name d.name) (so_far.rest k from (omega (arith, less, counted)))
 
 -- ---- a slot by its place
 

@@ -1,9 +1,9 @@
 -- Files that come to others, and the forms that were read.
-use Rattle.std.proofs.Common.{◌≡◌, ◌≢◌, ℕ, zero, suc, ◌+◌, ◌<◌, ◌≤◌, ◌⊎◌, inl, inr, List, [], ◌∷◌, Bool, true, false, Option, None, Some, length, get_or, slice_index_or, ap, sym, ◌∙◌, subst, arith}
-use Rattle.std.specs.Prelude.{IsSome, slice_get, unwrap_or}
+use Rattle.std.proofs.Common.{◌≡◌, ◌≢◌, ℕ, zero, suc, ◌+◌, ◌-◌, ◌<◌, ◌≤◌, ◌⊎◌, inl, inr, List, [], ◌∷◌, Bool, true, false, Option, None, Some, length, get_or, slice_index_or, refl, ap, sym, ◌∙◌, subst, arith}
+use Rattle.std.specs.Prelude.{IsSome, is_some, slice_get, unwrap_or}
 use Rattle.std.specs.Ordering.{nat_cmp}
 use Rattle.std.specs.FinMap as fin
-use Rattle.std.proofs.lemmas.List.{length-replicate}
+use Rattle.std.proofs.lemmas.List.{get_or_default, length-replicate}
 use Rattle.std.proofs.lemmas.List.FromFn.{get_or-map-range_with_len, length-map-range_with_len}
 use Rattle.ufs_base.specs.Images as images
 use Rattle.ufs_file.specs.Content.{Content, IsContentOf, block_count, unread}
@@ -18,8 +18,9 @@ use Rattle.ufs_model.proofs.Facts.Lookups.{same_some}
 use Rattle.ufs_names.specs.NamesPart.{NamesPart}
 use Rattle.ufs_names_image.specs.Loaded.{IsRead, AreRead}
 use Rattle.ufs_walk.proofs.Marked.{get_replicate}
-use Rattle.ufs_start.specs.Files.{AreFormsOf, AreLaid, AreUnread, IsLaid}
+use Rattle.ufs_start.specs.Files.{AreFormsOf, AreLaid, AreUnread, IsLaid, IsSoundFile}
 use Rattle.ufs_start.specs.Refused.{NamesFile}
+use Rattle.ufs_start.specs.Tables.{form_in}
 use Rattle.ufs_start.specs.declared.fault.StartFault.{StartFault}
 use Rattle.ufs_start.specs.declared.fault.StartFault.TheVariants.{Image, Unreached, Unnamed, ExtraBlocks}
 
@@ -33,6 +34,19 @@ module _ (g : Geometry) (image : images.Image) (forms : List (Option InodeForm))
 
   pub form_there : (form : InodeForm) → Some form ≡ get_or forms at (Some form) → form_at g image inode ≡ form
   form_there form is = ap (λ (o : Option InodeForm). unwrap_or o (free_inode 0)) (inode_there (Some form) is)
+
+module _ (forms : List (Option InodeForm)) (inode at : ℕ) (place : at + 1 ≡ inode) (within : inode ≤ length forms) (o : Option InodeForm) (is : o ≡ get_or forms at o) where
+  form_at_place : form_in forms inode ≡ o
+  form_at_place =
+      let same : inode - 1 ≡ at = omega (arith, place) in
+      ap (λ k. get_or forms k None) same ∙ get_or_default forms at None o (omega (arith, place, within)) ∙ sym is
+
+  -- it was read
+  pub no_form : (f : InodeForm) → form_in forms inode ≡ Some f → o ≡ Some f
+  no_form f there = sym form_at_place ∙ there
+
+  pub sound_form : (f form : InodeForm) → form_in forms inode ≡ Some f → o ≡ Some form → IsSoundFile f → IsSoundFile form
+  sound_form f form there some sound = subst IsSoundFile (same_some f form (sym there ∙ form_at_place ∙ some)) sound
 
 pub inode_within : (g : Geometry) (image : images.Image) (forms : List (Option InodeForm)) → AreFormsOf g image forms → (inode : ℕ) → 1 ≤ inode → inode ≤ length forms → IsInode g inode
 inode_within g image forms are inode from within = let count : length forms ≡ g.inodes = ap length are ∙ length-map-range_with_len (inode_at g image) 1 g.inodes in record { from_one = from; within = omega (arith, within, count) }
@@ -94,6 +108,13 @@ module _ (files : Files) (file : ℕ) (s : FileState) where
   pub here_with : IsSome (fin.get (fin.insert files file s) file)
   here_with = is_here (fin.insert files file s) file s (put_here files file s)
 
+  -- and no other is new
+  pub alone_with : (other : ℕ) → IsSome (fin.get (fin.insert files file s) other) → IsSome (fin.get files other) ⊎ (other ≡ file)
+  alone_with other now = elim (one_or_apart other file) [
+    | inl is ↦ inr is
+    | inr not ↦ inl (subst IsSome (put_else files file s other not) now)
+  ]
+
   pub kept_with : (other : ℕ) → IsSome (fin.get files other) → IsSome (fin.get (fin.insert files file s) other)
   kept_with other was = elim (one_or_apart other file) [
     | inl is ↦ subst (λ f. IsSome (fin.get (fin.insert files file s) f)) (sym is) here_with
@@ -110,6 +131,13 @@ none_unread c files none file s there = let empty = fin.get-empty {X = FileState
 
 pub none_laid : (c : Catalog) (files : Files) → files ≡ fin.empty → AreLaid c files
 none_laid c files none file s there = let empty = fin.get-empty {X = FileState} nat_cmp file in let was = ap (λ (fs : Files). fin.get fs file) none in cc
+
+pub none_told : (files : Files) (file : ℕ) → files ≡ fin.empty → IsSome (fin.get files file) → ⊥
+none_told files file none some = let empty = fin.get-empty {X = FileState} nat_cmp file in let was = ap (λ (fs : Files). fin.get fs file) none in let no : true ≡ false = sym some ∙ ap is_some (was ∙ empty) in absurd cc
+
+pub none_here : (o : Option FileState) → (IsSome o → ⊥) → o ≡ None
+none_here None not = refl
+none_here (Some s) not = absurd (not refl)
 
 -- ---- numbers by inode
 

@@ -15,6 +15,9 @@ mod Copies
 mod FirstSector
 mod FileLemmas
 mod Beginning
+mod Rising
+mod SoundRead
+mod SoundFiles
 mod TableLemmas
 mod Tabled
 mod Reaching

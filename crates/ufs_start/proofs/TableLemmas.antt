@@ -1,48 +1,14 @@
 -- A table of directories that is made of what was read.
-use Rattle.std.proofs.Common.{◌≡◌, ℕ, zero, suc, ◌+◌, ◌<◌, ◌≤◌, List, [], ◌∷◌, ◌++◌, true, length, Option, Some, None, get_or, refl, ap, sym, ◌∙◌, subst, arith, ⊎_elim}
-use Rattle.std.specs.Prelude.{filter, ◌==◌}
-use Rattle.std.specs.List.{slice_get, enumerate_from}
+use Rattle.std.proofs.Common.{◌≡◌, ◌≢◌, ℕ, zero, suc, ◌+◌, ◌<◌, ◌≤◌, List, [], ◌∷◌, ◌++◌, length, Option, Some, get_or, refl, ap, sym, ◌∙◌, subst, arith, ⊎_elim}
+use Rattle.std.specs.List.{slice_get}
 use Rattle.std.proofs.lemmas.Bool.{cases_lt}
+use Rattle.std.proofs.lemmas.Option.{slice_get-get_or, slice_get_within}
 use Rattle.std.proofs.lemmas.List.{get_or_past, get_or_append_left, length-append}
-use Rattle.ufs_base.specs.Images.{Image}
-use Rattle.ufs_layout.specs.Words.{pieces}
-use Rattle.ufs_layout.specs.Areas.{sectors_of_block}
 use Rattle.ufs_layout.specs.InodeForm.{InodeForm}
-use Rattle.ufs_layout.specs.DentryForm.{DentryForm, dentry_fields, dentry_bytes, dentry_of, is_dentry}
-use Rattle.ufs_layout.specs.declared.geometry.Geometry.{Geometry}
-use Rattle.ufs_damage.specs.Findings.{CatalogRead, AreFindingsOf}
-use Rattle.ufs_image.specs.Nodes.{Dir, Node, ReadSlot, blocks_of, read_block, read_sector, slots_of, sound_nodes}
-use Rattle.ufs_image.proofs.Holders.{on_form}
-use Rattle.ufs_image.proofs.Listed.{in_at_place}
-use Rattle.ufs_image.proofs.Lists.{IsIn, from_enumerated, from_flat_map, from_map}
+use Rattle.ufs_image.specs.Nodes.{Dir}
 use Rattle.ufs_dirs.specs.Directory.{Directory}
 use Rattle.ufs_dir_tree.specs.DirTable.{no_dir}
-use Rattle.ufs_start.specs.Tables.{AreReadIn, AreSlotForms, IsAsRead, form_in}
-
--- ---- slots
-
--- a slot that was read, with its place
-placed : (n : ℕ) (slots : List (Option DentryForm)) (k : ℕ) (d : DentryForm) → get_or slots k None ≡ Some d → (place : ℕ) × (slice_get (enumerate_from n slots) k ≡ Some (place, Some d))
-placed n [] k d e = absurd cc
-placed n (s ∷ slots) zero d e = (n, ap (λ (o : Option DentryForm). Some (n, o)) e)
-placed n (s ∷ slots) (suc k) d e = placed (n + 1) slots k d e
-
-pub form_of : (read : List ReadSlot) (slots : List (Option DentryForm)) → AreSlotForms read → enumerate_from 0 slots ≡ read → (k : ℕ) (d : DentryForm) → get_or slots k None ≡ Some d → is_dentry d ≡ true
-form_of read slots forms are k d e = let at = placed 0 slots k d e in forms k at.0 d (ap (λ (l : List ReadSlot). slice_get l k) (sym are) ∙ at.1)
-
--- what stands in the slots of an image is on its form
-slot_forms : (image : Image) (form : InodeForm) → AreSlotForms (slots_of image form)
-slot_forms image form k place d there =
-    let at = from_enumerated 0 _ place (Some d) (in_at_place (place, Some d) (slots_of image form) k there) in
-    let block = from_flat_map (read_block image) (blocks_of form) (Some d) (in_at_place (Some d) _ at.0 at.2) in
-    let sector = from_flat_map (λ s. read_sector (image s)) (sectors_of_block block.0) (Some d) block.2 in
-    let piece = from_map dentry_of (pieces 8 64 (image sector.0)) (Some d) sector.2 in
-    on_form dentry_fields dentry_bytes is_dentry piece.0 d (sym piece.2)
-
-pub read_forms : (g : Geometry) (image : Image) (f : CatalogRead) → AreFindingsOf g image f → (p : ℕ) (d : Dir) → slice_get f.dirs p ≡ Some d → AreSlotForms d.slots
-read_forms g image f found p d there =
-    let mapped = from_map {Y = Dir} (λ (n : Node). record { inode = n.0; slots = slots_of image n.1 }) (filter (λ (n : Node). n.1.kind == 2) (sound_nodes g image)) d (subst (IsIn d) found.dirs (in_at_place d f.dirs p there)) in
-    subst AreSlotForms (sym (ap (λ (x : Dir). x.slots) mapped.2)) (slot_forms image mapped.0.1)
+use Rattle.ufs_start.specs.Tables.{AreFrom, AreReadIn, AreSoundDirs, IsAsRead, form_in}
 
 -- ---- a longer table
 
@@ -108,3 +74,40 @@ module _ (forms : List (Option InodeForm)) (read : List Dir) (next : ℕ) (table
           (cases_lt p next);
       others = λ i none. others_of table d i (λ same. absurd (none next n (omega arith) this (at ∙ sym same))) (so_far.others i (λ p r less there. none p r (omega (arith, less)) there));
     })
+
+-- ---- none is left
+
+pub all_from : (forms : List (Option InodeForm)) (read : List Dir) → AreSoundDirs forms read → AreFrom read 0 1
+all_from forms read sound p d from there = sound.from_one p d there
+
+pub next_from : (read : List Dir) (next inode : ℕ) → AreFrom read next inode → ((d : Dir) → slice_get read next ≡ Some d → d.inode ≢ inode) → ((p q : ℕ) (d e : Dir) → p < q → slice_get read p ≡ Some d → slice_get read q ≡ Some e → d.inode < e.inode) → AreFrom read next (inode + 1)
+next_from read next inode above other rising p d from there =
+    let least = above p d from there in
+    ⊎_elim (λ (less : inode < d.inode). omega (arith, less)) (λ (most : d.inode ≤ inode). absurd (by (omega (arith, least, most)))) (cases_lt inode d.inode)
+  where
+    -- it isn't the next one, and so the next one has a lower inode
+    by : d.inode ≡ inode → ⊥
+    by same = ⊎_elim
+        (λ (behind : next < p).
+        let first = slice_get-get_or read next d (let within = slice_get_within read p d there in omega (arith, behind, within)) in
+        let less = rising next p (get_or read next d) d behind first there in
+        let low = above next (get_or read next d) (omega arith) first in
+        omega (arith, less, low, same))
+        (λ (here : p ≤ next). let at : next ≡ p = omega (arith, from, here) in other d (ap (slice_get read) at ∙ there) same)
+        (cases_lt next p)
+
+pub passed_from : (read : List Dir) (next inode : ℕ) (n : Dir) → slice_get read next ≡ Some n → n.inode ≡ inode → ((p q : ℕ) (d e : Dir) → p < q → slice_get read p ≡ Some d → slice_get read q ≡ Some e → d.inode < e.inode) → AreFrom read (next + 1) (inode + 1)
+passed_from read next inode n this at rising p d from there = let less = rising next p n d (omega (arith, from)) this there in omega (arith, less, at)
+
+-- all are in the table where none of the image's inodes is left
+pub all_read : (forms : List (Option InodeForm)) (read : List Dir) (next : ℕ) (table : List Directory) → AreSoundDirs forms read → AreFrom read next (length forms + 1) → AreReadIn forms read next table → AreReadIn forms read (length read) table
+all_read forms read next table sound from are = record {
+  within = λ p d less there. are.within p d (before p d there) there;
+  each = λ p d less there. are.each p d (before p d there) there;
+  others = λ i none. are.others i (λ p d less there. none p d (slice_get_within read p d there) there);
+}
+  where
+    before : (p : ℕ) (d : Dir) → slice_get read p ≡ Some d → p < next
+    before p d there = ⊎_elim (λ (less : p < next). less)
+        (λ (behind : next ≤ p). let low = from p d behind there in let most = sound.within p d there in absurd (omega (arith, low, most)))
+        (cases_lt p next)

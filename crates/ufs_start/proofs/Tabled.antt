@@ -37,6 +37,19 @@ same_first x y xs ys e = cc
 same_rest : {X : Type 0} (x y : X) (xs ys : List X) → x ∷ xs ≡ y ∷ ys → xs ≡ ys
 same_rest x y xs ys e = cc
 
+abbrev read_slot : ℕ → Option DentryForm → ReadSlot
+read_slot n o = (n, o)
+
+-- what was read is told by its places
+pub same_placed : (n : ℕ) (xs ys : List (Option DentryForm)) → enumerate_from n xs ≡ enumerate_from n ys → xs ≡ ys
+same_placed n [] [] e = refl
+same_placed n [] (y ∷ ys) e = cc
+same_placed n (x ∷ xs) [] e = cc
+same_placed n (x ∷ xs) (y ∷ ys) e =
+    let first : x ≡ y = ap {B = Option DentryForm} (λ (s : ReadSlot). s.1) (same_first (read_slot n x) (read_slot n y) (enumerate_from (n + 1) xs) (enumerate_from (n + 1) ys) e) in
+    let rest = same_placed (n + 1) xs ys (same_rest (read_slot n x) (read_slot n y) (enumerate_from (n + 1) xs) (enumerate_from (n + 1) ys) e) in
+    λ i. first i ∷ rest i
+
 abbrev slot : ℕ → DentryForm → ReadSlot
 slot n x = (n, Some x)
 

@@ -50,6 +50,12 @@ number_of bytes None has e = cc
 number_of bytes (Some Dir) has e = cc
 number_of bytes (Some (File file)) has e = (file, refl)
 
+-- where a file stands in a tree, no directory does
+no_dir : (b : Bool) (o : Option (List ℕ)) (bytes : List ℕ) → option_map path_node.File o ≡ Some (path_node_of (if b then None else Some bytes)) → b ≡ false
+no_dir false o bytes e = refl
+no_dir true None bytes e = cc
+no_dir true (Some has) bytes e = cc
+
 pub forms_counted : (g : Geometry) (image : Image) (f : CatalogRead) → AreFindingsOf g image f → length f.forms ≡ g.inodes
 forms_counted g image f found = ap length found.forms ∙ length-map-range_with_len (inode_at g image) 1 g.inodes
 
@@ -93,6 +99,12 @@ module _ (g : Geometry) (image : Image) (f : CatalogRead) (geometry : IsGeometry
       let no_dir : ((form_at g image i).kind == 2) ≡ false = ap (λ k. k == 2) kind in
       let file = number_of start.bytes (fin.get start.paths (path_text names)) bytes (stands_there names i met ∙ ap (λ b. Some (path_node_of (if b then None else Some bytes))) no_dir) in
       (file.0, are.each i file.0 (record { names = names; met = met; stands = file.1 }))
+
+  -- what has one is no directory
+  pub numbered_file : AreNumbersOf g image files → (i file : ℕ) → get_or files i None ≡ Some file → ((form_at g image i).kind == 2) ≡ false
+  numbered_file are i file number =
+      let at = are.only i file number in
+      no_dir ((form_at g image i).kind == 2) (fin.get start.bytes file) (file_bytes image (form_at g image i)) (sym (ap (content_of start.bytes) at.stands) ∙ stands_there at.names i at.met)
 
   pub unnamed_file : AreNumbersOf g image files → (i : ℕ) → IsInode g i → is_unnamed_in f.forms files i ≡ true → IsUnnamedFile g c i
   unnamed_file are i inside unnamed =

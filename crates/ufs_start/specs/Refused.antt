@@ -1,7 +1,7 @@
 -- Why a server can't begin with an image.
 use Rattle.std.specs.Prelude.{ℕ, ◌≡◌, ◌<◌, length}
 use Rattle.ufs_base.specs.Images as images
-use Rattle.ufs_catalog.specs.Faults.{HasFaultCause, IsOutside}
+use Rattle.ufs_catalog.specs.Faults.{HasFaultCause}
 use Rattle.ufs_catalog.specs.declared.fault.RecoverFault.{RecoverFault}
 use Rattle.ufs_catalog.specs.declared.fault.RecoverFault.TheVariants.{Lack}
 use Rattle.ufs_damage.specs.Findings.{CatalogRead}
@@ -17,6 +17,7 @@ use Rattle.ufs_layout.specs.DentryForm.{DentryForm}
 use Rattle.ufs_layout.specs.declared.geometry.Geometry.{Geometry}
 use Rattle.ufs_layout.specs.InodeForm.{InodeForm}
 use Rattle.ufs_opening.specs.Told.{TellsWhy}
+use Rattle.ufs_start.specs.Lacks.{IsOfNumbers}
 use Rattle.ufs_start.specs.Starts.{IsUndamaged}
 use Rattle.ufs_start.specs.declared.fault.StartFault.{StartFault}
 use Rattle.ufs_start.specs.declared.fault.StartFault.TheVariants.{Image, Unreached, Unnamed, ExtraBlocks}
@@ -51,20 +52,20 @@ HasUnnamedAlone g c inode = IsUnnamedFile g c inode × HasNoneCutOff g c
 
 -- It is for want of memory, or of a number.
 abbrev pub IsLack : RecoverFault → Type 0
-IsLack (Lack _) = Unit {0}
+IsLack (Lack why) = IsOfNumbers why
 IsLack _ = ⊥
 
 -- Why there are no names: a directory of each image of which this was read is cut off, a file of each has no name where
--- no directory is cut off, or memory is wanted.
+-- no directory is cut off, or memory or a number is wanted.
 abbrev pub IsNamesFault : Geometry → CatalogRead → StartFault → Type 0
 IsNamesFault g f (Image fault) = IsLack fault
 IsNamesFault g f (Unreached inode) = (image : images.Image) → IsUndamaged g image f → IsCutOff g (catalog_at g image) inode
 IsNamesFault g f (Unnamed inode) = (image : images.Image) → IsUndamaged g image f → HasUnnamedAlone g (catalog_at g image) inode
 IsNamesFault g f (ExtraBlocks inode) = ⊥
 
--- Why a file is refused: it has more blocks than its size wants. Other faults come from outside.
+-- Why there is no file: it has more blocks than its size wants, or memory or a number is wanted.
 abbrev pub IsRefusedFile : (ℕ → InodeForm) → StartFault → Type 0
-IsRefusedFile forms (Image fault) = IsOutside fault
+IsRefusedFile forms (Image fault) = IsLack fault
 IsRefusedFile forms (Unreached inode) = ⊥
 IsRefusedFile forms (Unnamed inode) = ⊥
 IsRefusedFile forms (ExtraBlocks inode) = ((forms inode).kind ≡ 1) × (block_count (forms inode).size < length (blocks_of (forms inode)))

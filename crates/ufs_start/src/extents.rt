@@ -1,17 +1,18 @@
 // Where an inode's blocks lie.
 ghost use Rattle.std.specs.Prelude.{◌≡◌, ◌++◌, ◌∷◌, [], map, IfOk, OnOk};
 ghost use Rattle.ufs_extent.specs.Runs as runs;
+ghost use Rattle.ufs_extent.specs.Runs.{IsRun};
 ghost use Rattle.ufs_image.specs.Nodes as nodes;
-ghost use Rattle.ufs_start.specs.Extents.{run_of};
+ghost use Rattle.ufs_start.specs.Extents.{HasRuns, run_of};
 
 use std::alloc::Global;
-use ufs_base::{Lack, MAX_EXTENTS};
+use ufs_base::Memory;
 use ufs_extent::{Extents, Run, Runs};
 use ufs_layout::{Extent, Inode};
 
-/// The blocks of an inode, in the order of its bytes. An extent that leaves every image counts as want of memory: no
-/// sound image has one.
-pub(crate) fn extents_in(alloc: Global, form: &Inode) -> Result<Extents, Lack>
+/// The blocks of an inode, in the order of its bytes.
+pub(crate) fn extents_in(alloc: Global, form: &Inode) -> Result<Extents, Memory>
+    requires { HasRuns form.now }
     ensures runs { IfOk result (λ e. e ≡ map run_of form.now.extents) }
     ensures blocks { IfOk result (λ e. runs.blocks_of e ≡ nodes.blocks_of form.now) }
 {
@@ -19,21 +20,15 @@ pub(crate) fn extents_in(alloc: Global, form: &Inode) -> Result<Extents, Lack>
     for extent in form.used_extents() {
         push_run(&mut runs, extent)?;
     }
-    if runs.as_slice().len() > MAX_EXTENTS {
-        return Err(Lack::Unsound);
-    }
-    Ok(Extents::from_runs(alloc, runs.as_slice())?)
+    Extents::from_runs(alloc, runs.as_slice())
 }
 
-fn push_run(runs: &mut Runs, extent: &Extent) -> Result<(), Lack>
+fn push_run(runs: &mut Runs, extent: &Extent) -> Result<(), Memory>
+    requires { IsRun (run_of extent.now) }
     ensures { OnOk result (runs.new ≡ runs.old ++ run_of extent.now ∷ []) }
 {
-    let run = Run {
+    runs.push(Run {
         start: extent.start,
         length: extent.length,
-    };
-    if !run.is_valid() {
-        return Err(Lack::Unsound);
-    }
-    Ok(runs.push(run)?)
+    })
 }

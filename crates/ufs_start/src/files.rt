@@ -1,11 +1,10 @@
-// The files of an image, of which nothing is read. What no sound image has counts as want of memory here.
-ghost use Rattle.std.specs.Prelude.{ℕ, ◌≡◌, ◌≤◌, ◌<◌, ◌+◌, length, map as mapped, None, Some, IsSome, slice_index_or, IfOk, IfErr, OnOk};
+// The files of an image, of which nothing is read.
+ghost use Rattle.std.specs.Prelude.{ℕ, ◌≡◌, ◌≤◌, ◌<◌, ◌+◌, ◌⊎◌, length, map as mapped, None, Some, IsSome, slice_index_or, IfOk, IfErr, OnOk};
 ghost use Rattle.std.specs.FinMap as map;
 ghost use Rattle.ufs_base.specs.Images.{Image};
 ghost use Rattle.ufs_damage.specs.Findings.{AreFindingsOf};
 ghost use Rattle.ufs_extent.specs.Runs as runs;
 ghost use Rattle.ufs_file.specs.Content.{block_count, unread};
-ghost use Rattle.ufs_file.specs.Table.{max_held};
 ghost use Rattle.ufs_image.specs.Catalog.{IsInode, catalog_at};
 ghost use Rattle.ufs_image.specs.Images.{form_at};
 ghost use Rattle.ufs_image.specs.Nodes as nodes;
@@ -14,30 +13,23 @@ ghost use Rattle.ufs_layout.specs.declared.geometry.Geometry.{Geometry};
 ghost use Rattle.ufs_names.specs.NamesPart.{NamesPart};
 ghost use Rattle.ufs_names_image.specs.Loaded.{AreRead};
 ghost use Rattle.ufs_start.specs.Extents.{run_of};
-ghost use Rattle.ufs_start.specs.Files.{AreFormsOf, AreLaid, AreSized, AreUnread, HasNumbers};
+ghost use Rattle.ufs_start.specs.Files.{AreFormsOf, AreLaid, AreSized, AreSoundFiles, AreUnread, HasNumbers, IsSoundFile};
 ghost use Rattle.ufs_start.specs.Refused.{HasStartCause, IsRefusedFile, NamesFile};
+ghost use Rattle.ufs_start.specs.Tables.{form_in};
 
 use crate::extents::extents_in;
 use crate::fault::StartFault;
 use std::alloc::Global;
-use ufs_base::{BLOCK, Lack};
-use ufs_catalog::RecoverFault;
+use ufs_base::BLOCK;
 use ufs_damage::Findings;
 use ufs_extent::Extents;
-use ufs_file::{FileHand, MAX_HELD};
+use ufs_file::FileHand;
 use ufs_files::FileHands;
 use ufs_layout::Inode;
 
-const UNSOUND: StartFault = StartFault::Image(RecoverFault::Lack(Lack::Unsound));
-
-// the kind of a file's inode
-const FILE: u8 = 1;
-
-// The blocks of a file, unless a server can't hold it. What is no file, or has more bytes than an image has blocks for, counts
-// as want of memory: no sound image names it as a file.
+// The blocks of a file, unless it has more than its size wants.
 fn file_extents(alloc: Global, form: &Inode, inode: u32) -> Result<Extents, StartFault>
-    ensures kind { OnOk result (form.now.kind ≡ 1) }
-    ensures size { OnOk result (form.now.size ≤ max_held) }
+    requires { IsSoundFile form.now }
     ensures runs { IfOk result (λ e. e ≡ mapped run_of form.now.extents) }
     ensures blocks { IfOk result (λ e. runs.blocks_of e ≡ nodes.blocks_of form.now) }
     ensures count { IfOk result (λ e. length (runs.blocks_of e) ≡ block_count form.now.size) }
@@ -45,23 +37,16 @@ fn file_extents(alloc: Global, form: &Inode, inode: u32) -> Result<Extents, Star
     ensures refused { IfErr result (λ f. (forms : ℕ → InodeForm) → forms inode ≡ form.now → IsRefusedFile forms f) }
     ensures named { IfErr result (NamesFile (λ i. i ≡ inode)) }
 {
-    if form.kind != FILE || form.size > MAX_HELD {
-        return Err(UNSOUND);
-    }
     let extents = extents_in(alloc, form)?;
-    let wanted = form.size.div_ceil(BLOCK as u64);
-    if u64::from(extents.block_count()) > wanted {
+    if u64::from(extents.block_count()) > form.size.div_ceil(BLOCK as u64) {
         return Err(StartFault::ExtraBlocks { inode });
-    }
-    if u64::from(extents.block_count()) < wanted {
-        return Err(UNSOUND);
     }
     Ok(extents)
 }
 
 // A file with its blocks and its size, and this number.
 fn file_in(alloc: Global, form: &Inode, inode: u32, file: u32) -> Result<FileHand, StartFault>
-    ensures kind { OnOk result (form.now.kind ≡ 1) }
+    requires { IsSoundFile form.now }
     ensures file { IfOk result (λ h. h.file ≡ file) }
     ensures inode { IfOk result (λ h. h.inode ≡ inode) }
     ensures runs { IfOk result (λ h. h.extents ≡ mapped run_of form.now.extents) }
@@ -88,7 +73,10 @@ fn add_file(
     requires from_one { 1 ≤ inode }
     requires form { inode ≤ length forms.now }
     requires number { inode < length numbers.now }
+    requires sound { (file : ℕ) → slice_index_or numbers.now inode None ≡ Some file → (f : InodeForm) × (form_in forms.now inode ≡ Some f) × IsSoundFile f }
+    requires absent { (file : ℕ) → slice_index_or numbers.now inode None ≡ Some file → map.get files.old file ≡ None }
     ensures kept { OnOk result ((file : ℕ) → IsSome (map.get files.old file) → IsSome (map.get files.new file)) }
+    ensures alone { OnOk result ((file : ℕ) → IsSome (map.get files.new file) → IsSome (map.get files.old file) ⊎ (slice_index_or numbers.now inode None ≡ Some file)) }
     ensures here { OnOk result ((file : ℕ) → slice_index_or numbers.now inode None ≡ Some file → IsSome (map.get files.new file)) }
     ensures read { (g : Geometry) (image : Image) (n : NamesPart) → AreFormsOf g image forms.now → HasNumbers n.tree numbers.now → AreSized g image
         → AreRead image (catalog_at g image) n files.old → OnOk result (AreRead image (catalog_at g image) n files.new) }
@@ -102,11 +90,8 @@ fn add_file(
         return Ok(());
     };
     let Some(form) = &forms[inode as usize - 1] else {
-        return Err(UNSOUND);
+        unreachable!()
     };
-    if files.get(file).is_some() {
-        return Err(UNSOUND);
-    }
     let hand = file_in(alloc, form, inode, file)?;
     files.insert(hand)?;
     Ok(())
@@ -120,6 +105,8 @@ pub fn files_of(
     numbers: &[Option<u32>],
 ) -> Result<FileHands, StartFault>
     requires counted { length numbers.now ≡ length findings.now.forms + 1 }
+    requires few { length findings.now.forms < 4294967295 }
+    requires sound { AreSoundFiles findings.now.forms numbers.now }
     ensures read { (g : Geometry) (image : Image) (n : NamesPart) → AreFindingsOf g image findings.now → HasNumbers n.tree numbers.now → AreSized g image → IfOk result (AreRead image (catalog_at g image) n) }
     ensures here { (inode file : ℕ) → 1 ≤ inode → slice_index_or numbers.now inode None ≡ Some file → IfOk result (λ files. IsSome (map.get files file)) }
     ensures unread { (g : Geometry) (image : Image) → AreFindingsOf g image findings.now → IfOk result (AreUnread (catalog_at g image)) }
@@ -129,9 +116,6 @@ pub fn files_of(
     ensures named { (g : Geometry) (image : Image) → AreFindingsOf g image findings.now → IfErr result (NamesFile (IsInode g)) }
 {
     let forms = findings.forms();
-    if forms.len() >= u32::MAX as usize {
-        return Err(StartFault::from(Lack::AtEnd));
-    }
     let mut files = FileHands::new(alloc);
     for place in 0..forms.len() {
         let inode = place as u32 + 1;

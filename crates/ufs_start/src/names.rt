@@ -73,9 +73,9 @@ fn names_of(
 }
 
 /// The namespace of an image that stands for a tree: its files are numbered from 0 by rising path, and nothing is open.
-/// The time goes by inodes, slots and paths, and at each name by the blocks and names of its directory. What no sound
-/// image has counts as want of memory, as do more names than there are numbers. An image is refused of which a directory
-/// has a name and isn't reached from the root, and then one of which a file has no name.
+/// The time goes by inodes, slots and paths, and at each name by the blocks and names of its directory. An image is
+/// refused of which a directory has a name and isn't reached from the root, and then one of which a file has no name;
+/// else it fails for want of memory, or where there are more names than numbers.
 pub fn names_in(
     alloc: Global,
     geometry: &Geometry,

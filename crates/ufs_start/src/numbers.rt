@@ -1,9 +1,10 @@
 // The numbers of files, by rising path.
-ghost use Rattle.std.specs.Prelude.{ℕ, ◌≡◌, ◌≤◌, ◌<◌, ◌+◌, ◌^◌, None, Some, length, replicate, IfOk};
+ghost use Rattle.std.specs.Prelude.{ℕ, ◌≡◌, ◌≤◌, ◌<◌, ◌+◌, ◌^◌, None, Some, length, replicate, IfOk, IfErr};
 ghost use Rattle.ufs_layout.specs.Areas.{IsGeometry};
 ghost use Rattle.ufs_walk.specs.Walked.{AreInodes, pairs_of};
 ghost use Rattle.ufs_base.specs.Images.{Image};
 ghost use Rattle.ufs_names_image.specs.Starts.{image_start};
+ghost use Rattle.ufs_start.specs.Lacks.{IsOfNumbers};
 ghost use Rattle.ufs_start.specs.Starts.{AreNumbersOf, IsUndamaged, tree_in};
 ghost use Rattle.ufs_start.specs.Numbers.{after, is_dir_in, next_number, noted, numbers_from};
 
@@ -52,7 +53,7 @@ fn give_number(files: &mut Vec<Option<u32>>, is_dir: bool, inode: u32, next: u32
     next + 1
 }
 
-// Gives the files at these places numbers from 0 on. More places than numbers count as want of memory.
+// Gives the files at these places numbers from 0 on, unless there are more places than numbers.
 fn number_places(
     alloc: Global,
     geometry: &Geometry,
@@ -65,6 +66,7 @@ fn number_places(
     ensures files { IfOk result (λ n. n.files.items ≡ numbers_from (is_dir_in forms.now) 0 (pairs_of places.now) (replicate (geometry.now.inodes + 1) None)) }
     ensures next { IfOk result (λ n. n.next ≡ next_number (is_dir_in forms.now) 0 (pairs_of places.now)) }
     ensures few { IfOk result (λ n. n.next ≤ 2 ^ 30) }
+    ensures lack { IfErr result IsOfNumbers }
 {
     if places.len() > MOST {
         return Err(Lack::AtEnd);
@@ -79,7 +81,7 @@ fn number_places(
 }
 
 /// Gives the files of an undamaged image numbers from 0 on, by rising path. Takes time that is linear in the names,
-/// with a logarithm. More names than numbers count as want of memory.
+/// with a logarithm. Fails for want of memory, or where there are more names than numbers.
 pub fn numbers_of(alloc: Global, geometry: &Geometry, findings: &Findings) -> Result<Numbers, Lack>
     requires geometry { IsGeometry geometry.now }
     requires sound { (image : Image) × IsUndamaged geometry.now image findings.now }
@@ -87,6 +89,7 @@ pub fn numbers_of(alloc: Global, geometry: &Geometry, findings: &Findings) -> Re
     ensures numbers { IfOk result (λ n. (image : Image) → IsUndamaged geometry.now image findings.now → AreNumbersOf geometry.now image n.files.items) }
     ensures next { IfOk result (λ n. (image : Image) → IsUndamaged geometry.now image findings.now → n.next ≡ (image_start (tree_in geometry.now image)).next) }
     ensures few { IfOk result (λ n. n.next ≤ 2 ^ 30) }
+    ensures lack { IfErr result IsOfNumbers }
 {
     damage_law(geometry);
     let places = places_of(alloc, findings, geometry)?;

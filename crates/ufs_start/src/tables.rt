@@ -1,20 +1,19 @@
-// The table of an image's directories. What no sound image has counts as want of memory here.
-ghost use Rattle.std.specs.Prelude.{ℕ, ◌≡◌, ◌<◌, ◌≤◌, ◌+◌, Some, length, slice_get, IfOk, IfErr, OnOk};
+// The table of an image's directories.
+ghost use Rattle.std.specs.Prelude.{◌≡◌, ◌≤◌, ◌+◌, length, IfOk, IfErr, OnOk};
 ghost use Rattle.ufs_base.specs.Images.{Image};
 ghost use Rattle.ufs_image.specs.Catalog.{catalog_at};
-ghost use Rattle.ufs_image.specs.Nodes.{Dir};
 ghost use Rattle.ufs_layout.specs.Areas.{IsGeometry};
 ghost use Rattle.ufs_dir_tree.specs.DirTable.{IsReached};
 ghost use Rattle.ufs_start.specs.Refused.{HasNoneCutOff, IsNamesFault};
 ghost use Rattle.ufs_start.specs.Starts.{AreDirsOf, IsOfSome, IsUndamaged};
-ghost use Rattle.ufs_start.specs.Tables.{AreReadIn, AreSlotForms, IsAsRead, form_in};
+ghost use Rattle.ufs_start.specs.Tables.{AreFrom, AreReadIn, AreSoundDirs, IsAsRead, IsSoundDir};
 
 use crate::dirs::dir_of;
 use crate::fault::StartFault;
 use crate::free::free_inodes;
 use crate::reached::unreached;
 use std::alloc::Global;
-use ufs_base::Lack;
+use ufs_base::Memory;
 use ufs_damage::{Findings, ReadDir};
 use ufs_dir_image::dir_table_law;
 use ufs_dir_tree::DirTree;
@@ -24,13 +23,11 @@ use ufs_layout::{Geometry, Inode};
 use ufs_walk::reached_inodes;
 
 // The directory that was read of an inode with this form.
-fn read_of(alloc: Global, form: &Option<Inode>, read: &ReadDir) -> Result<DirBlocks, Lack>
-    requires forms { AreSlotForms read.now.slots }
+fn read_of(alloc: Global, form: &Option<Inode>, read: &ReadDir) -> Result<DirBlocks, Memory>
+    requires { IsSoundDir form.now read.now.slots }
     ensures { IfOk result (IsAsRead form.now read.now.slots) }
 {
-    let Some(form) = form else {
-        return Err(Lack::Unsound);
-    };
+    let Some(form) = form else { unreachable!() };
     dir_of(alloc, form, read.slots())
 }
 
@@ -42,14 +39,16 @@ fn put_next(
     findings: &Findings,
     inode: u32,
     next: usize,
-) -> Result<usize, Lack>
+) -> Result<usize, Memory>
     requires from_one { 1 ≤ inode }
     requires within { inode ≤ length findings.now.forms }
     requires behind { inode ≡ length table.old.items }
-    requires forms { (p : ℕ) (d : Dir) → slice_get findings.now.dirs p ≡ Some d → AreSlotForms d.slots }
+    requires sound { AreSoundDirs findings.now.forms findings.now.dirs }
+    requires from { AreFrom findings.now.dirs next inode }
     requires so_far { AreReadIn findings.now.forms findings.now.dirs next table.old.items }
     ensures counted { OnOk result (length table.new.items ≡ length table.old.items + 1) }
     ensures so_far { IfOk result (λ n. AreReadIn findings.now.forms findings.now.dirs n table.new.items) }
+    ensures from { IfOk result (λ n. AreFrom findings.now.dirs n (inode + 1)) }
 {
     let read = findings.dirs();
     if next >= read.len() || read[next].inode() != inode {
@@ -63,10 +62,14 @@ fn put_next(
 }
 
 // The directories that were read, by inode from 0.
-fn all_dirs(alloc: Global, geometry: &Geometry, findings: &Findings) -> Result<Vec<DirBlocks>, Lack>
+fn all_dirs(
+    alloc: Global,
+    geometry: &Geometry,
+    findings: &Findings,
+) -> Result<Vec<DirBlocks>, Memory>
     requires geometry { IsGeometry geometry.now }
     requires counted { length findings.now.forms ≡ geometry.now.inodes }
-    requires forms { (p : ℕ) (d : Dir) → slice_get findings.now.dirs p ≡ Some d → AreSlotForms d.slots }
+    requires sound { AreSoundDirs findings.now.forms findings.now.dirs }
     ensures counted { IfOk result (λ t. length t.items ≡ geometry.now.inodes + 1) }
     ensures read { IfOk result (λ t. AreReadIn findings.now.forms findings.now.dirs (length findings.now.dirs) t.items) }
 {
@@ -75,9 +78,6 @@ fn all_dirs(alloc: Global, geometry: &Geometry, findings: &Findings) -> Result<V
     let mut next = 0;
     for inode in 1..geometry.inodes + 1 {
         next = put_next(alloc, &mut table, findings, inode, next)?;
-    }
-    if next != findings.dirs().len() {
-        return Err(Lack::Unsound);
     }
     Ok(table)
 }

@@ -1,6 +1,8 @@
 // How far the directories of an image use its data area.
-ghost use Rattle.std.specs.Prelude.{ℕ, ◌≡◌, ◌≤◌, ◌<◌, ◌*◌, Ok, IfOk, OnOk};
+ghost use Rattle.std.specs.Prelude.{ℕ, ◌≡◌, ◌≤◌, ◌<◌, ◌*◌, Ok, IfOk, IfErr, OnOk};
 ghost use Rattle.ufs_disk.specs.Bytes.{image_of};
+ghost use Rattle.ufs_catalog.specs.Faults.{HasFaultCause, IsOutside};
+ghost use Rattle.ufs_catalog.specs.declared.fault.RecoverFault.TheVariants as cause;
 ghost use Rattle.ufs_image.specs.Agree.{IsOfDir};
 ghost use Rattle.ufs_image.specs.Catalog.{catalog_at};
 ghost use Rattle.ufs_image.specs.Volume.{Volume, superblock_of, volume};
@@ -53,24 +55,31 @@ fn end_of_forms(forms: &[Option<Inode>]) -> u32
         .unwrap_or(0)
 }
 
-// Where the data ends that is read of an image without a volume, by why there is none: no data is read.
+// Where the data ends that is read of an image without a volume, by why there is none: no data is read. No call of the
+// disk that it is read of ever fails.
 fn end_without(geometry: &Geometry, fault: RecoverFault) -> Result<u32, Lack>
-    requires { IsGeometry geometry.now }
+    requires geometry { IsGeometry geometry.now }
+    requires calm { HasFaultCause 0 0 fault }
     ensures end { IfOk result (λ end. end ≡ first_of_data geometry.now) }
     ensures refused { OnOk result (IsOfImage fault) }
+    ensures told { IfErr result (λ lack. fault ≡ cause.Lack lack) }
 {
     match fault {
         RecoverFault::Lack(lack) => Err(lack),
-        RecoverFault::Device { .. } => Err(Lack::Unsound),
+        RecoverFault::Device { .. } => unreachable!(),
         _ => Ok(geometry.first_of_data()),
     }
 }
 
-// For want of what a copy in memory isn't read.
-fn lack_of(fault: RecoverFault) -> Lack {
+// For want of what an image isn't read of a disk no call of which ever fails.
+fn lack_of(fault: RecoverFault) -> Lack
+    requires outside { IsOutside fault }
+    requires calm { HasFaultCause 0 0 fault }
+    ensures { fault ≡ cause.Lack result }
+{
     match fault {
         RecoverFault::Lack(lack) => lack,
-        _ => Lack::Unsound,
+        _ => unreachable!(),
     }
 }
 

@@ -1,39 +1,29 @@
-// The size and the blocks of a file that an image has: inode 2 of a new image, in the blocks from 20 on. Nothing is read of it.
-use crate::images::{SECOND, file, new_disk, set_sector};
+// The size and the blocks of a file that an image has: `/f` is inode 2 of a new image whose root lies in block 40, in the blocks
+// from 20 on. Nothing is read of it.
+use crate::images::{ROOT, SECOND, file, inode, name, new_disk, set_sector};
 use std::alloc::Global;
 use std::test::Fail;
 use ufs_base::SECTOR;
-use ufs_damage::Findings;
+use ufs_disk::PlainDisk;
 use ufs_files::FileHands;
-use ufs_opening::open;
-use ufs_start::{StartFault, files_of};
+use ufs_start::{Start, StartFault, start_of};
 
 // The number of the file.
-const FILE: u32 = 7;
+const FILE: u32 = 0;
 
-// The file of inode 2 alone, or why there is none.
-fn second_file(alloc: Global, findings: &Findings) -> Option<Result<FileHands, StartFault>> {
-    let count = findings.forms().len();
-    if count < 2 || count > 16 {
-        return None;
-    }
-    let Ok(mut numbers) = vec![in alloc; None; count + 1] else {
-        return None;
-    };
-    numbers[2] = Some(FILE);
-    Some(files_of(alloc, findings, &numbers))
+fn set_file(disk: &mut PlainDisk, form: &[u8; SECTOR]) -> bool {
+    set_sector(disk, 320, &name(2, 1, b'f'))
+        && set_sector(disk, ROOT, &inode(2, 40, 1, 4096))
+        && set_sector(disk, SECOND, form)
 }
 
-// The same of an image in which inode 2 is this file; none where the image isn't opened.
-fn files_with(alloc: Global, form: &[u8; SECTOR]) -> Option<Result<FileHands, StartFault>> {
+// What a server begins with where inode 2 is this file, or why with nothing.
+fn start_with(alloc: Global, form: &[u8; SECTOR]) -> Option<Result<Start, StartFault>> {
     let mut disk = new_disk(alloc)?;
-    if !set_sector(&mut disk, SECOND, form) {
+    if !set_file(&mut disk, form) {
         return None;
     }
-    match open(alloc, &mut disk) {
-        Ok(opened) => second_file(alloc, &opened.findings),
-        Err(_) => None,
-    }
+    Some(start_of(alloc, &mut disk))
 }
 
 // Its inode and size, and the number of its second block.
@@ -49,22 +39,22 @@ fn marks(files: &FileHands, place: usize) -> Option<(bool, bool)> {
 }
 
 fn laid_with(alloc: Global, form: &[u8; SECTOR]) -> Option<(u32, u64, u32)> {
-    match files_with(alloc, form)? {
-        Ok(files) => laid(&files),
+    match start_with(alloc, form)? {
+        Ok(start) => laid(&start.files),
         Err(_) => None,
     }
 }
 
 fn marks_with(alloc: Global, form: &[u8; SECTOR], place: usize) -> Option<(bool, bool)> {
-    match files_with(alloc, form)? {
-        Ok(files) => marks(&files, place),
+    match start_with(alloc, form)? {
+        Ok(start) => marks(&start.files, place),
         Err(_) => None,
     }
 }
 
 fn fault_with(alloc: Global, form: &[u8; SECTOR]) -> Option<StartFault> {
-    match files_with(alloc, form)? {
-        Ok(_files) => None,
+    match start_with(alloc, form)? {
+        Ok(_start) => None,
         Err(fault) => Some(fault),
     }
 }

@@ -1,4 +1,4 @@
-use Rattle.std.proofs.Common.{◌≡◌, ◌+◌, ◌-◌, ℕ, Option, None, Some, get_or, length, slice_index_or, refl, rules, ap, sym, ◌∙◌, subst, arith}
+use Rattle.std.proofs.Common.{◌≡◌, ◌+◌, ◌-◌, ℕ, Option, None, Some, inl, inr, get_or, length, slice_index_or, refl, rules, ap, sym, ◌∙◌, subst, arith}
 use Rattle.std.specs.Prelude.{IsSome, map as list_map}
 use Rattle.std.specs.FinMap as map
 use Rattle.std.proofs.lemmas.Result.{err_from_is_err_and}
@@ -14,7 +14,7 @@ use Rattle.ufs_name_tree.specs.NameTable.{file_at}
 use Rattle.ufs_names_image.specs.Loaded.{AreRead}
 use Rattle.ufs_start.specs.Extents.{run_of}
 use Rattle.ufs_start.specs.Files.{AreLaid, AreUnread}
-use Rattle.ufs_start.proofs.FileLemmas.{form_there, here_with, inode_within, kept_with, laid_with, marks_of, may_be, read_with, unread_with}
+use Rattle.ufs_start.proofs.FileLemmas.{alone_with, form_there, here_with, inode_within, kept_with, laid_with, marks_of, may_be, read_with, sound_form, unread_with}
 use Rattle.ufs_start.proofs.files.add_file.Goals as goal
 
 pub returns-in_err-hand-clause-refused : goal.returns-in_err-hand-clause-refused
@@ -25,6 +25,29 @@ returns-in_err-hand-clause-refused c geometry image are =
     rw (p.1, p.2) (c.in_err-hand.ensures.refused (form_at geometry image)
     (form_there geometry image c.args.forms.now are inode (inode - 1) at c.requires.form c.in-Some-forms.form
     (sym c.in-Some-forms.is ∙ c.index-forms-inode.is ∙ ap (λ (o : Option InodeForm). get_or c.args.forms.now (inode - 1) o) c.in-Some-forms.is)))
+
+pub file_in-requires : goal.file_in-requires
+file_in-requires c =
+    let inode = c.args.inode in
+    let at : inode - 1 + 1 ≡ inode = let from = c.requires.from_one in omega (arith, from) in
+    let given : slice_index_or c.args.numbers.now inode None ≡ Some c.in-Some.file = search (rules, c.in-Some.is) in
+    let s = c.requires.sound c.in-Some.file given in
+    sound_form c.args.forms.now inode (inode - 1) at c.requires.form c.index-forms-inode.result c.index-forms-inode.is s.0 c.in-Some-forms.form s.1 c.in-Some-forms.is s.2
+
+pub insert-requires : goal.insert-requires
+insert-requires c =
+    let given : slice_index_or c.args.numbers.now c.args.inode None ≡ Some c.in-Some.file = search (rules, c.in-Some.is) in
+    subst (λ (f : ℕ). map.get c.args.files.now f ≡ None) (sym c.in_ok-hand.ensures.file) (c.requires.absent c.in-Some.file given)
+
+pub returns-clause-alone : goal.returns-clause-alone
+returns-clause-alone c file now =
+    let files : Files = c.args.files.now in
+    let h = c.in_ok-hand.hand in
+    let given : slice_index_or c.args.numbers.now c.args.inode None ≡ Some c.in-Some.file = search (rules, c.in-Some.is) in
+    elim (alone_with files h.file h file (subst (λ (fs : Files). IsSome (map.get fs file)) c.in_ok-insert.ensures.ok now)) [
+      | inl was ↦ inl was
+      | inr is ↦ inr (given ∙ ap {B = Option ℕ} Some (sym (is ∙ c.in_ok-hand.ensures.file)))
+    ]
 
 pub returns-clause-kept : goal.returns-clause-kept
 returns-clause-kept c file was =
@@ -52,7 +75,9 @@ returns-clause-read c geometry image n are numbered sized before =
     let form : form_at geometry image inode ≡ c.in-Some-forms.form = form_there geometry image c.args.forms.now are inode (inode - 1) at c.requires.form c.in-Some-forms.form
     (sym c.in-Some-forms.is ∙ c.index-forms-inode.is ∙ ap (λ (o : Option InodeForm). get_or c.args.forms.now (inode - 1) o) c.in-Some-forms.is) in
     let here : c.in-Some-forms.form ≡ form_at geometry image h.inode = sym form ∙ ap (form_at geometry image) (sym e.inode) in
-    let long = sized inode (inode_within geometry image c.args.forms.now are inode c.requires.from_one c.requires.form) (ap (λ (f : InodeForm). f.kind) form ∙ e.kind) in
+    let s = c.requires.sound c.in-Some.file given in
+    let sound = sound_form c.args.forms.now inode (inode - 1) at c.requires.form c.index-forms-inode.result c.index-forms-inode.is s.0 c.in-Some-forms.form s.1 c.in-Some-forms.is s.2 in
+    let long = sized inode (inode_within geometry image c.args.forms.now are inode c.requires.from_one c.requires.form) (ap (λ (f : InodeForm). f.kind) form ∙ sound.kind) in
     subst (λ (fs : Files). AreRead image (catalog_at geometry image) n fs) (sym c.in_ok-insert.ensures.ok)
     (read_with files h.file h image (catalog_at geometry image) n before (record {
       number = refl;

@@ -14,6 +14,7 @@ abbrev pub invariant-loop-place : goal.invariant-loop-place
 invariant-loop-place l = record {
   read : (geometry : Geometry) (image : Image) (n : NamesPart) → AreFindingsOf geometry image l.findings → HasNumbers n.tree l.numbers → AreSized geometry image → AreRead image (catalog_at geometry image) n l.files;
   here : (inode file : ℕ) → 1 ≤ inode → inode ≤ l.place → slice_index_or l.numbers inode None ≡ Some file → IsSome (map.get l.files file);
+  told : (file : ℕ) → IsSome (map.get l.files file) → (inode : ℕ) × (1 ≤ inode) × (inode ≤ l.place) × (slice_index_or l.numbers inode None ≡ Some file);
   unread : (geometry : Geometry) (image : Image) → AreFindingsOf geometry image l.findings → AreUnread (catalog_at geometry image) l.files;
   laid : (geometry : Geometry) (image : Image) → AreFindingsOf geometry image l.findings → AreLaid (catalog_at geometry image) l.files;
 }

@@ -1,4 +1,5 @@
 use Rattle.std.proofs.Common.{◌≡◌, ◌≤◌, List, Option, length, ap, sym, ◌∙◌, subst, arith}
+use Rattle.std.proofs.lemmas.Result.{err_from_is_err_and}
 use Rattle.ufs_image.specs.Catalog.{catalog_at}
 use Rattle.ufs_layout.specs.InodeForm.{InodeForm}
 use Rattle.ufs_start.specs.Numbers.{is_unnamed_in}
@@ -37,3 +38,8 @@ returns-in-Some-clause-fault c image u =
           (sym (λ i. is_unnamed_in (c.forms.ensures i) (c.deref.ensures.value i) c.in-Some.inode) ∙ c.in-Some.ensures.unnamed),
       c.requires.whole image u,
     )
+
+pub returns-in_err-numbers-clause-fault : goal.returns-in_err-numbers-clause-fault
+returns-in_err-numbers-clause-fault c =
+    let p = err_from_is_err_and c.from_residual.result c.from_residual.ensures.1 in
+    rw (p.1, p.2) c.in_err-numbers.ensures.lack

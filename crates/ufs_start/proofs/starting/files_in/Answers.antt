@@ -1,10 +1,11 @@
-use Rattle.std.proofs.Common.{◌≡◌, ℕ, ◌+◌, List, Option, None, length, slice_index_or, ap, sym, ◌∙◌, subst}
-use Rattle.std.proofs.lemmas.List.FromFn.{length-map-range_with_len}
+use Rattle.std.proofs.Common.{ℕ, ◌+◌, List, Option, None, length, slice_index_or, ap, sym, ◌∙◌, subst, arith}
+use Rattle.std.proofs.lemmas.Result.{err_from_is_err_and}
 use Rattle.ufs_image.specs.Catalog.{catalog_at}
-use Rattle.ufs_image.specs.Images.{inode_at}
-use Rattle.ufs_start.specs.Files.{HasNumbers}
+use Rattle.ufs_start.specs.Files.{AreSoundFiles, HasNumbers}
 use Rattle.ufs_start.specs.Starts.{IsUndamaged}
 use Rattle.ufs_start.proofs.Beginning.{number_there}
+use Rattle.ufs_start.proofs.SoundFiles.{sound_files}
+use Rattle.ufs_start.proofs.Unnumbered.{forms_counted}
 use Rattle.ufs_start.proofs.starting.files_in.Goals as goal
 
 pub numbers_of-requires-clause-sound : goal.numbers_of-requires-clause-sound
@@ -14,12 +15,33 @@ numbers_of-requires-clause-sound c =
     let l = b.4 in
     (image, record { found = l.found; whole = (c.damage_law.ensures.whole image (catalog_at c.args.geometry.now image) l.standing.catalog l.standing.sound).1 })
 
-pub files_of-requires : goal.files_of-requires
-files_of-requires c =
+pub files_of-requires-clause-counted : goal.files_of-requires-clause-counted
+files_of-requires-clause-counted c =
     let g = c.args.geometry.now in
     let b = c.requires.begun in
-    let forms : length c.args.findings.now.forms ≡ g.inodes = ap length b.4.found.forms ∙ length-map-range_with_len (inode_at g b.3) 1 g.inodes in
-    record { counted = ap length c.deref.ensures.value ∙ c.in_ok-numbers.ensures.counted ∙ ap (λ n. n + 1) (sym forms) }
+    ap length c.deref.ensures.value ∙ c.in_ok-numbers.ensures.counted ∙ ap (λ n. n + 1) (sym (forms_counted g b.3 c.args.findings.now b.4.found))
+
+pub files_of-requires-clause-few : goal.files_of-requires-clause-few
+files_of-requires-clause-few c =
+    let b = c.requires.begun in
+    let forms = forms_counted c.args.geometry.now b.3 c.args.findings.now b.4.found in
+    let most = c.requires.geometry.most_inodes in
+    omega (arith, forms, most)
+
+pub files_of-requires-clause-sound : goal.files_of-requires-clause-sound
+files_of-requires-clause-sound c =
+    let g = c.args.geometry.now in
+    let b = c.requires.begun in
+    let image = b.3 in
+    let l = b.4 in
+    let undamaged : IsUndamaged g image c.args.findings.now = record { found = l.found; whole = (c.damage_law.ensures.whole image (catalog_at g image) l.standing.catalog l.standing.sound).1 } in
+    subst (λ (ns : List (Option ℕ)). AreSoundFiles c.args.findings.now.forms ns) (sym c.deref.ensures.value)
+    (sound_files g image c.args.findings.now c.requires.geometry undamaged l.standing.catalog l.standing.sound c.args.names.now.tree.dirs b.5.names.dirs c.in_ok-numbers.numbers.files.items (c.in_ok-numbers.ensures.numbers image undamaged))
+
+pub returns-in_err-numbers-clause-refused : goal.returns-in_err-numbers-clause-refused
+returns-in_err-numbers-clause-refused c image found =
+    let p = err_from_is_err_and c.from_residual.result c.from_residual.ensures.1 in
+    rw (p.1, p.2) c.in_err-numbers.ensures.lack
 
 pub returns-clause-read : goal.returns-clause-read
 returns-clause-read c sectors disk superblock image l start sized =

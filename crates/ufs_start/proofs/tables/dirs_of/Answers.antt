@@ -14,7 +14,7 @@ use Rattle.ufs_dir_tree.specs.DirEdits.{dir_in}
 use Rattle.ufs_dir_image.specs.Tables.{IsTableOf}
 use Rattle.ufs_start.specs.Starts.{IsUndamaged}
 use Rattle.ufs_start.proofs.Tabled.{is_table}
-use Rattle.ufs_start.proofs.TableLemmas.{read_forms}
+use Rattle.ufs_start.proofs.SoundRead.{sound_dirs}
 use Rattle.ufs_start.proofs.Reaching.{all_reached, cut_off, none_cut}
 use Rattle.ufs_start.proofs.tables.dirs_of.Goals as goal
 
@@ -28,10 +28,16 @@ free_inodes-requires-clause-counted c =
     let l = c.requires.loaded in
     ap length (c.forms.ensures ∙ l.4.found.forms) ∙ length-map-range_with_len (inode_at c.args.geometry.now l.3) 1 c.args.geometry.now.inodes
 
-pub all_dirs-requires-clause-forms : goal.all_dirs-requires-clause-forms
-all_dirs-requires-clause-forms c =
+pub all_dirs-requires-clause-sound : goal.all_dirs-requires-clause-sound
+all_dirs-requires-clause-sound c =
     let l = c.requires.loaded in
-    read_forms c.args.geometry.now l.3 c.args.findings.now l.4.found
+    let g = c.args.geometry.now in
+    let image = l.3 in
+    let is = l.4.standing.catalog in
+    let sound = l.4.standing.sound in
+    let undamaged : IsUndamaged g image c.args.findings.now = record { found = l.4.found; whole = (c.damage_law.ensures.whole image (catalog_at g image) is sound).1 } in
+    let made = c.dir_table_law.ensures.made (catalog_at g image) in
+    sound_dirs g image c.args.findings.now c.requires.geometry undamaged is sound made.0 made.1
 
 pub unreached-requires-clause-counted : goal.unreached-requires-clause-counted
 unreached-requires-clause-counted c =
