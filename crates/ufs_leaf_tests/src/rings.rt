@@ -7,7 +7,7 @@ use std::thread::join;
 use ufs_ring::{PlainRing, Ring, RuledRing, SharedRing, shared_ring};
 
 // How many items go from one thread to the other.
-const SENT: u32 = 500;
+const SENT: u32 = 100_000;
 
 // Asserts that a new ring of one item gives the second back.
 fn gives_the_second_back<R: Abort, G: Ring<u32>>(rt: &R, ring: &mut G) {
@@ -63,9 +63,52 @@ fn a_walk_agrees_with_a_plain_list(rt: HostRuntime) {
     }
 }
 
+// Fills a new ring of 16, empties it, and asserts that the items come in order and that no room is lost.
+fn fills_and_empties<R: Abort, G: Ring<u32>>(rt: &R, ring: &mut G) {
+    for round in 0..3u32 {
+        for item in 0..16u32 {
+            same(rt, ring.put(round * 16 + item), Ok(()));
+        }
+        same(rt, ring.put(99), Err(99));
+        for item in 0..16u32 {
+            same(rt, ring.take(), Some(round * 16 + item));
+        }
+        same(rt, ring.take(), None);
+    }
+}
+
+#[test]
+fn a_ring_is_filled_and_emptied_again(rt: HostRuntime) {
+    let mut ring = PlainRing::make(rt.alloc(), 16).expect(&rt, "memory");
+    fills_and_empties(&rt, &mut ring);
+    let queue = shared_ring(rt.alloc(), 16).expect(&rt, "memory");
+    let mut end = RuledRing::new(&rt, &queue);
+    fills_and_empties(&rt, &mut end);
+}
+
+// What one end puts another takes.
+#[test]
+fn the_ends_share_one_ring(rt: HostRuntime) {
+    let queue = shared_ring(rt.alloc(), 2).expect(&rt, "memory");
+    let mut one = RuledRing::new(&rt, &queue);
+    let mut other = RuledRing::new(&rt, &queue);
+    same(&rt, one.put(1), Ok(()));
+    same(&rt, other.put(2), Ok(()));
+    same(&rt, one.put(3), Err(3));
+    same(&rt, other.take(), Some(1));
+    same(&rt, one.take(), Some(2));
+    same(&rt, other.take(), None);
+}
+
+#[test]
+fn a_ring_that_holds_nothing_ends(rt: HostRuntime) {
+    let ring: PlainRing<u32> = PlainRing::make(rt.alloc(), 16).expect(&rt, "memory");
+    ring.end();
+}
+
 #[test]
 fn items_pass_between_threads_in_order(rt: HostRuntime) {
-    let queue = shared_ring(rt.alloc(), 4).expect(&rt, "memory");
+    let queue = shared_ring(rt.alloc(), 16).expect(&rt, "memory");
     let ((), in_order) = join(&rt, || send(&rt, &queue), || receive(&rt, &queue));
     holds(&rt, in_order);
 }

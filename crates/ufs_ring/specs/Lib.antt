@@ -1,3 +1,4 @@
+pub mod Buffers
 pub mod Ends
 pub mod Orders
 pub mod Runs

@@ -14,11 +14,8 @@ pub trait Ring<T> {
     /// The ring is as it was, with the item behind all that it held.
     ghost gains: { Self → T → Self → Type 0 };
 
-    /// The item stood in front, and is gone.
+    /// The item stood in front, and is gone; all else is as it was.
     ghost loses: { Self → T → Self → Type 0 };
-
-    /// Nothing came and nothing went.
-    ghost same: { Self → Self → Type 0 };
 
     /// Where a put may be refused.
     ghost was_full: { Self → Type 0 };
@@ -26,11 +23,12 @@ pub trait Ring<T> {
     /// Where a take may find nothing.
     ghost was_empty: { Self → Type 0 };
 
-    /// Puts the item behind all others, or gives it back where the ring was full at a moment of the call.
+    /// Puts the item behind all others, or gives it back where the ring was full at a moment of the call; then nothing came and
+    /// nothing went.
     fn put(&mut self, item: T) -> Result<(), T>
-        ensures { MatchResult result (λ _. gains self.old item self.new) (λ x. (x ≡ item) × same self.old self.new × was_full self.old) };
+        ensures { MatchResult result (λ _. gains self.old item self.new) (λ x. (x ≡ item) × (self.new ≡ self.old) × was_full self.old) };
 
-    /// Takes the front item; `None` only where the ring was empty at a moment of the call.
+    /// Takes the front item; `None` only where the ring was empty at a moment of the call, and then nothing came and nothing went.
     fn take(&mut self) -> Option<T>
-        ensures { MatchOption result (same self.old self.new × was_empty self.old) (λ x. loses self.old x self.new) };
+        ensures { MatchOption result ((self.new ≡ self.old) × was_empty self.old) (λ x. loses self.old x self.new) };
 }

@@ -45,18 +45,15 @@ impl<T> PlainRing<T> {
 
 // A put is refused exactly where the ring is full, and a take exactly where it is empty.
 impl<T> Ring<T> for PlainRing<T> {
-    ghost use Rattle.std.specs.Prelude.{◌≡◌, ◌<◌, ◌≤◌, [], ◌∷◌, ◌++◌, length};
-    ghost use Rattle.circular_buffer.specs.Buffer.{buffer};
+    ghost use Rattle.ufs_ring.specs.Buffers.{HasGained, HasLost, IsEmpty, IsFull};
 
-    ghost gains = { λ s x t. (length s.items < s.capacity) × (t ≡ buffer (s.items ++ x ∷ []) s.capacity) };
+    ghost gains = { HasGained };
 
-    ghost loses = { λ s x t. (s.items ≡ x ∷ t.items) × (t.capacity ≡ s.capacity) };
+    ghost loses = { HasLost };
 
-    ghost same = { λ s t. t ≡ s };
+    ghost was_full = { IsFull };
 
-    ghost was_full = { λ s. s.capacity ≤ length s.items };
-
-    ghost was_empty = { λ s. s.items ≡ [] };
+    ghost was_empty = { IsEmpty };
 
     fn put(&mut self, item: T) -> Result<(), T> {
         self.held.try_push_back(item)

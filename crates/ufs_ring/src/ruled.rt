@@ -109,20 +109,15 @@ impl<'a, T, R: Wait> RuledRing<'a, T, R> {
 }
 
 impl<'a, T, R: Wait> Ring<T> for RuledRing<'a, T, R> {
-    ghost use Rattle.std.specs.Prelude.{◌≡◌, [], ◌∷◌, ◌++◌};
-    ghost use Rattle.crossbeam_queue.specs.Fifo.{Held};
-    ghost use Rattle.ufs_ring.specs.Orders.{trail, Seen};
-    ghost use Rattle.ufs_ring.specs.Ends.{end};
+    ghost use Rattle.ufs_ring.specs.Ends.{HasPut, HasTaken, WasEmpty, WasFull};
 
-    ghost gains = { λ s x t. t ≡ end (s.put ++ x ∷ []) s.taken s.capacity };
+    ghost gains = { HasPut };
 
-    ghost loses = { λ s x t. t ≡ end s.put (s.taken ++ x ∷ []) s.capacity };
+    ghost loses = { HasTaken };
 
-    ghost same = { λ s t. t ≡ s };
+    ghost was_full = { WasFull };
 
-    ghost was_full = { λ s. Held s.capacity (Seen (trail s.put s.taken)) };
-
-    ghost was_empty = { λ s. Held 0 (Seen (trail s.put s.taken)) };
+    ghost was_empty = { WasEmpty };
 
     fn put(&mut self, item: T) -> Result<(), T> {
         self.queue.push_as::<Puts, R>(self.rt, &mut self.pass, item)
