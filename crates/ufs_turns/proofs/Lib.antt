@@ -3,3 +3,4 @@ pub mod Turning
 pub mod Syncing
 pub mod Emptying
 pub mod Pools
+mod FreeBlocks

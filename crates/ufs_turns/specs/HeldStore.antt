@@ -38,11 +38,6 @@ abbrev pub counted_in : List (Unit {0} × StoreCell) → ℕ
 counted_in [] = 0
 counted_in (c ∷ cs) = c.1.counted
 
--- how many places of the store's journal are given out
-abbrev pub used_in : List (Unit {0} × StoreCell) → ℕ
-used_in [] = 0
-used_in (c ∷ cs) = c.1.journal.used
-
 -- a stretch has this state
 abbrev pub IsPassed : Cells → List Stretch → Type 0
 IsPassed x past = (y : Stretch) × Has y past × Has x y.states

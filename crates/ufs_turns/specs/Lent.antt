@@ -1,9 +1,9 @@
 -- What a turn of the store says of the hand that is lent to it.
-use Rattle.std.specs.Prelude.{ℕ, ◌≡◌, ◌+◌, ◌≤◌, ◌<◌, Bool, true, [], ◌∷◌}
+use Rattle.std.specs.Prelude.{ℕ, ◌≡◌, ◌+◌, ◌≤◌, ◌<◌, Bool, true, List, [], ◌∷◌, Option, Some}
 use Rattle.std.specs.FinSet as set
 use Rattle.ufs_bitmap.specs.Blocks.{BlockSet}
 use Rattle.ufs_durable.specs.State.{DurableState}
-use Rattle.ufs_joint.specs.Cells.{FileCell, View}
+use Rattle.ufs_joint.specs.Cells.{FileCell, StoreCell, View}
 use Rattle.ufs_store.specs.Blocks.{AreApart, MovesLowest}
 use Rattle.ufs_store.specs.declared.fault.StoreFault.{StoreFault}
 use Rattle.ufs_store.specs.declared.fault.StoreFault.TheVariants as refusal
@@ -54,16 +54,31 @@ pub record IsBesidePools (v w : View) : Type 0 where
   pub faults : w.faults ≡ v.faults
   pub seen : v.seen ≤ w.seen
 
--- There were so many unassigned blocks at least, none of the pool's, and it got the lowest of them, and 64 more where there were so many.
-pub record GainsBlocks (missing : ℕ) (old new : BlockSet) : Type 0 where
-  pub had : BlockSet
-  pub kept : BlockSet
+-- Of these unassigned blocks, none of them the pool's, as many as are missing or more, it got the lowest, and 64 more where there were so
+-- many; the others are left.
+pub record GainsBlocks (missing : ℕ) (had left old new : BlockSet) : Type 0 where
   pub apart : AreApart old had
   pub enough : missing ≤ set.len had
-  pub moved : MovesLowest (missing + 64) had kept old new
+  pub moved : MovesLowest (missing + 64) had left old new
 
--- There were fewer.
-pub record LacksBlocks (missing : ℕ) (fault : StoreFault) : Type 0 where
-  pub had : ℕ
+-- There were so many, which is fewer.
+pub record LacksBlocks (missing had : ℕ) (fault : StoreFault) : Type 0 where
   pub fewer : had < missing
   pub told : fault ≡ refusal.NoSpace missing had
+
+-- ---- where a way to the store tells of its cell
+
+-- the unassigned blocks
+abbrev pub free_in : List (Unit {0} × StoreCell) → BlockSet
+free_in [] = set.empty
+free_in (c ∷ cs) = c.1.unassigned.free
+
+-- how many places of the journal are given out
+abbrev pub used_in : List (Unit {0} × StoreCell) → ℕ
+used_in [] = 0
+used_in (c ∷ cs) = c.1.journal.used
+
+-- So it is with the unassigned blocks before a turn and behind it, where they are told.
+abbrev pub AreTold : Option View → Option View → (BlockSet → BlockSet → Type 0) → Type 0
+AreTold (Some v) (Some w) so = so (free_in v.store) (free_in w.store)
+AreTold _ _ so = Unit {0}

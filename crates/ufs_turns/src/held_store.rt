@@ -1,6 +1,7 @@
 // The store, and the hand of the store's cell.
-ghost use Rattle.std.specs.Prelude.{ℕ, ◌≡◌, ◌≤◌, ◌∷◌, ◌++◌, [], true, false, Err, Some, IfErr, IsTrue, OnOk, OnErr, length};
+ghost use Rattle.std.specs.Prelude.{ℕ, ◌≡◌, ◌≤◌, ◌∷◌, ◌++◌, [], true, false, Ok, Err, Some, IfErr, IsTrue, OnOk, OnErr, length};
 ghost use Rattle.std.specs.FinSet as set;
+ghost use Rattle.ufs_bitmap.specs.Taking.{set_of};
 ghost use Rattle.ufs_layout.specs.Areas.{IsGeometry};
 ghost use Rattle.ufs_file.specs.Hand.{HasNeeded};
 ghost use Rattle.ufs_durable.specs.Fetching.{IsReadOn};
@@ -10,8 +11,8 @@ ghost use Rattle.ufs_joint.specs.Known.{Knows};
 ghost use Rattle.ufs_joint.specs.Turns.{MayEndTurn};
 ghost use Rattle.ufs_store.specs.Refusals.{fault_in, is_no_space, is_own};
 ghost use Rattle.ufs_store.specs.declared.fault.StoreFault.TheVariants as refusal;
-ghost use Rattle.ufs_turns.specs.HeldStore.{HasNothing, HasStoreAlone, IsHeldStore, IsStoreIn, begun_view, ended_view, sync_turn, used_in};
-ghost use Rattle.ufs_turns.specs.Lent.{GainsBlocks, HasCommitted, IsBare, IsBeside, IsBesidePools, IsFileIn, LacksBlocks, LendsFile, LendsPool};
+ghost use Rattle.ufs_turns.specs.HeldStore.{HasNothing, HasStoreAlone, IsHeldStore, IsStoreIn, begun_view, ended_view, sync_turn};
+ghost use Rattle.ufs_turns.specs.Lent.{GainsBlocks, HasCommitted, IsBare, IsBeside, IsBesidePools, IsFileIn, LacksBlocks, LendsFile, LendsPool, free_in, used_in};
 ghost use Rattle.ufs_turns.specs.Told.{fault_told, told_list};
 
 use crate::space::{checkpoint_lent, give_lent, take_lent};
@@ -82,6 +83,8 @@ impl<N: Naming, D: Door> HeldStore<N, D> {
         ensures beside { IsBeside hand.old hand.new }
         ensures committed { OnOk result (state_of file.new commits.new ≡ file_committed (state_of file.old commits.old)) }
         ensures kept { OnErr result (state_of file.new commits.new ≡ state_of file.old commits.old) }
+        ensures freed { OnOk result (free_in self.new.store ≡ set.union (free_in self.old.store) (set_of commits.old.dropped)) }
+        ensures unfreed { OnErr result (free_in self.new.store ≡ free_in self.old.store) }
         ensures faults { hand.new.faults ≡ told_list (fault_told (fault_in result)) ++ hand.old.faults }
         ensures stop { (fault : ℕ) → result ≡ Err (refusal.Stopped fault) → hand.new.stop ≡ Some fault }
         ensures refused { IfErr result (λ fault. is_no_space fault ≡ false) }
@@ -108,6 +111,8 @@ impl<N: Naming, D: Door> HeldStore<N, D> {
         ensures there { OnOk result (HasNeeded file.new.content desc op.now) }
         ensures read { IsReadOn file.old file.new }
         ensures still { length file.new.content.bytes ≡ length file.old.content.bytes }
+        ensures nothing { HasNeeded file.old.content desc op.now → (file.new ≡ file.old) × (result ≡ Ok tt) }
+        ensures free { free_in self.new.store ≡ free_in self.old.store }
         ensures beside { IsBeside hand.old hand.new }
         ensures faults { hand.new.faults ≡ told_list (fault_told (fault_in result)) ++ hand.old.faults }
         ensures refused { IfErr result (λ fault. IsTrue (is_own fault)) }
@@ -130,9 +135,10 @@ impl<N: Naming, D: Door> HeldStore<N, D> {
         requires lent { (name : ℕ) × LendsPool name pool.old hand.old }
         ensures lent { (name : ℕ) → LendsPool name pool.old hand.old → LendsPool name pool.new hand.new }
         ensures beside { IsBesidePools hand.old hand.new }
-        ensures given { OnOk result (GainsBlocks missing pool.old pool.new) }
-        ensures lacks { IfErr result (LacksBlocks missing) }
+        ensures given { OnOk result (GainsBlocks missing (free_in self.old.store) (free_in self.new.store) pool.old pool.new) }
+        ensures lacks { IfErr result (LacksBlocks missing (set.len (free_in self.old.store))) }
         ensures kept { OnErr result (pool.new ≡ pool.old) }
+        ensures same { OnErr result (free_in self.new.store ≡ free_in self.old.store) }
     {
         let HeldStore { hand: own, store } = self;
         lend(table, own, hand);
@@ -146,6 +152,7 @@ impl<N: Naming, D: Door> HeldStore<N, D> {
         requires lent { (name : ℕ) × LendsPool name pool.old hand.old }
         ensures lent { (name : ℕ) → LendsPool name pool.old hand.old → LendsPool name pool.new hand.new }
         ensures beside { IsBesidePools hand.old hand.new }
+        ensures back { free_in self.new.store ≡ set.union (free_in self.old.store) pool.old }
         ensures none { pool.new ≡ set.empty }
     {
         let HeldStore { hand: own, store } = self;
@@ -158,6 +165,7 @@ impl<N: Naming, D: Door> HeldStore<N, D> {
     pub fn checkpoint(&mut self, table: &HandTable<N>, hand: &mut Hand<N>) -> Result<(), StoreFault>
         requires bare { IsBare hand.old }
         ensures emptied { OnOk result (used_in self.new.store ≡ 0) }
+        ensures free { free_in self.new.store ≡ free_in self.old.store }
         ensures bare { IsBare hand.new }
         ensures beside { IsBeside hand.old hand.new }
         ensures faults { hand.new.faults ≡ told_list (fault_told (fault_in result)) ++ hand.old.faults }
@@ -189,6 +197,8 @@ fn fetch_lent<N: Naming, D: Door>(
     ensures there { OnOk result (HasNeeded file.new.content desc op.now) }
     ensures read { IsReadOn file.old file.new }
     ensures still { length file.new.content.bytes ≡ length file.old.content.bytes }
+    ensures nothing { HasNeeded file.old.content desc op.now → (file.new ≡ file.old) × (result ≡ Ok tt) }
+    ensures free { (D.store store.new).unassigned.free ≡ (D.store store.old).unassigned.free }
     ensures beside { IsBeside hand.old hand.new }
     ensures faults { hand.new.faults ≡ told_list (fault_told (fault_in result)) ++ hand.old.faults }
     ensures refused { IfErr result (λ fault. IsTrue (is_own fault)) }
@@ -222,6 +232,8 @@ fn sync_lent<N: Naming, D: Door>(
     ensures beside { IsBeside hand.old hand.new }
     ensures committed { OnOk result (state_of file.new commits.new ≡ file_committed (state_of file.old commits.old)) }
     ensures kept { OnErr result (state_of file.new commits.new ≡ state_of file.old commits.old) }
+    ensures freed { OnOk result ((D.store store.new).unassigned.free ≡ set.union (D.store store.old).unassigned.free (set_of commits.old.dropped)) }
+    ensures unfreed { OnErr result ((D.store store.new).unassigned.free ≡ (D.store store.old).unassigned.free) }
     ensures faults { hand.new.faults ≡ told_list (fault_told (fault_in result)) ++ hand.old.faults }
     ensures stop { (fault : ℕ) → result ≡ Err (refusal.Stopped fault) → hand.new.stop ≡ Some fault }
     ensures refused { IfErr result (λ fault. is_no_space fault ≡ false) }

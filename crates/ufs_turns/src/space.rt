@@ -32,6 +32,7 @@ pub(crate) fn checkpoint_lent<N: Naming, D: Door>(
     requires names { hand.old.names ≡ [] }
     ensures store { IsStoreIn N.start D.visible D.keeps hand.new (D.store store.new) }
     ensures room { OnOk result ((D.store store.new).journal.used ≡ 0) }
+    ensures free { (D.store store.new).unassigned.free ≡ (D.store store.old).unassigned.free }
     ensures files { hand.new.files ≡ [] }
     ensures names { hand.new.names ≡ [] }
     ensures beside { IsBeside hand.old hand.new }
@@ -82,9 +83,10 @@ pub(crate) fn give_lent<N: Naming, D: Door>(
     ensures store { IsStoreIn N.start D.visible D.keeps hand.new (D.store store.new) }
     ensures pool { (name : ℕ) → hand.old.pools ≡ (name, pool.old) ∷ [] → hand.new.pools ≡ (name, pool.new) ∷ [] }
     ensures beside { IsBesidePools hand.old hand.new }
-    ensures given { OnOk result (GainsBlocks missing pool.old pool.new) }
-    ensures lacks { IfErr result (LacksBlocks missing) }
+    ensures given { OnOk result (GainsBlocks missing (D.store store.old).unassigned.free (D.store store.new).unassigned.free pool.old pool.new) }
+    ensures lacks { IfErr result (LacksBlocks missing (set.len (D.store store.old).unassigned.free)) }
     ensures kept { OnErr result (pool.new ≡ pool.old) }
+    ensures same { OnErr result ((D.store store.new).unassigned.free ≡ (D.store store.old).unassigned.free) }
 {
     let geometry = store.geometry();
     hand.look(table);
@@ -105,6 +107,7 @@ pub(crate) fn take_lent<N: Naming, D: Door>(
     ensures store { IsStoreIn N.start D.visible D.keeps hand.new (D.store store.new) }
     ensures pool { (name : ℕ) → hand.old.pools ≡ (name, pool.old) ∷ [] → hand.new.pools ≡ (name, pool.new) ∷ [] }
     ensures beside { IsBesidePools hand.old hand.new }
+    ensures back { (D.store store.new).unassigned.free ≡ set.union (D.store store.old).unassigned.free pool.old }
     ensures none { pool.new ≡ set.empty }
 {
     let geometry = store.geometry();

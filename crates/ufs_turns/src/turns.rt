@@ -1,12 +1,14 @@
-ghost use Rattle.std.specs.Prelude.{ℕ, ◌≡◌, ◌++◌, [], true, false, Err, Some, IfErr, IsTrue, OnOk, OnErr, length};
+ghost use Rattle.std.specs.Prelude.{ℕ, ◌≡◌, ◌++◌, [], true, false, Ok, Err, Option, Some, IfErr, IfSome, IsTrue, OnOk, OnErr, is_some, length};
 ghost use Rattle.std.specs.FinSet as set;
+ghost use Rattle.ufs_bitmap.specs.Blocks.{BlockSet};
+ghost use Rattle.ufs_bitmap.specs.Taking.{set_of};
 ghost use Rattle.ufs_file.specs.Hand.{HasNeeded};
 ghost use Rattle.ufs_durable.specs.Fetching.{IsReadOn};
 ghost use Rattle.ufs_durable.specs.State.{file_committed, state_of};
-ghost use Rattle.ufs_joint.specs.Cells.{FileCell};
+ghost use Rattle.ufs_joint.specs.Cells.{FileCell, View};
 ghost use Rattle.ufs_store.specs.Refusals.{fault_in, is_no_space, is_own};
 ghost use Rattle.ufs_store.specs.declared.fault.StoreFault.TheVariants as refusal;
-ghost use Rattle.ufs_turns.specs.Lent.{GainsBlocks, HasCommitted, IsBare, IsBeside, IsBesidePools, LacksBlocks, LendsFile, LendsPool};
+ghost use Rattle.ufs_turns.specs.Lent.{AreTold, GainsBlocks, HasCommitted, IsBare, IsBeside, IsBesidePools, LacksBlocks, LendsFile, LendsPool, used_in};
 ghost use Rattle.ufs_turns.specs.Told.{fault_told, told_list};
 
 use ufs_bitmap::Pool;
@@ -17,8 +19,12 @@ use ufs_model::{Desc, Op};
 use ufs_store::StoreFault;
 
 /// A way to the store of session `N`. Each call is a turn: nobody else comes to the store meanwhile. What its contracts say
-/// is of the hand that is lent and of the answer, since others change the store between two turns.
+/// is of the hand that is lent and of the answer, since others may change the store between two turns; and of the store's cell by a
+/// way that tells it.
 pub trait Turns<N: Naming> {
+    /// The store's own hand, where nobody else comes to the store between two turns.
+    ghost tells: { Self → Option View };
+
     /// Commits a file whose birth is known as committed: the whole of its `fsync`. Where it passes, all that changed of the file is
     /// known as committed; else the hand has what it had, and was told the fault by which it failed, or that the store has stopped.
     fn sync_file(
@@ -34,6 +40,9 @@ pub trait Turns<N: Naming> {
         ensures beside { IsBeside hand.old hand.new }
         ensures committed { OnOk result (state_of file.new commits.new ≡ file_committed (state_of file.old commits.old)) }
         ensures kept { OnErr result (state_of file.new commits.new ≡ state_of file.old commits.old) }
+        ensures freed { OnOk result (AreTold (tells self.old) (tells self.new) (λ had has. has ≡ set.union had (set_of commits.old.dropped))) }
+        ensures unfreed { OnErr result (AreTold (tells self.old) (tells self.new) (λ had has. has ≡ had)) }
+        ensures telling { is_some (tells self.new) ≡ is_some (tells self.old) }
         ensures faults { hand.new.faults ≡ told_list (fault_told (fault_in result)) ++ hand.old.faults }
         ensures stop { (fault : ℕ) → result ≡ Err (refusal.Stopped fault) → hand.new.stop ≡ Some fault }
         ensures refused { IfErr result (λ fault. is_no_space fault ≡ false) };
@@ -53,6 +62,9 @@ pub trait Turns<N: Naming> {
         ensures there { OnOk result (HasNeeded file.new.content desc op.now) }
         ensures read { IsReadOn file.old file.new }
         ensures still { length file.new.content.bytes ≡ length file.old.content.bytes }
+        ensures nothing { HasNeeded file.old.content desc op.now → (file.new ≡ file.old) × (result ≡ Ok tt) }
+        ensures free { AreTold (tells self.old) (tells self.new) (λ had has. has ≡ had) }
+        ensures telling { is_some (tells self.new) ≡ is_some (tells self.old) }
         ensures beside { IsBeside hand.old hand.new }
         ensures faults { hand.new.faults ≡ told_list (fault_told (fault_in result)) ++ hand.old.faults }
         ensures refused { IfErr result (λ fault. IsTrue (is_own fault)) };
@@ -68,21 +80,29 @@ pub trait Turns<N: Naming> {
         requires lent { (name : ℕ) × LendsPool name pool.old hand.old }
         ensures lent { (name : ℕ) → LendsPool name pool.old hand.old → LendsPool name pool.new hand.new }
         ensures beside { IsBesidePools hand.old hand.new }
-        ensures given { OnOk result (GainsBlocks missing pool.old pool.new) }
-        ensures lacks { IfErr result (LacksBlocks missing) }
-        ensures kept { OnErr result (pool.new ≡ pool.old) };
+        ensures given { OnOk result ((had : BlockSet) × (left : BlockSet) × GainsBlocks missing had left pool.old pool.new) }
+        ensures lacks { IfErr result (λ fault. (had : ℕ) × LacksBlocks missing had fault) }
+        ensures kept { OnErr result (pool.new ≡ pool.old) }
+        ensures lowest { OnOk result (AreTold (tells self.old) (tells self.new) (λ had left. GainsBlocks missing had left pool.old pool.new)) }
+        ensures fewer { IfErr result (λ fault. AreTold (tells self.old) (tells self.new) (λ had left. LacksBlocks missing (set.len had) fault × (left ≡ had))) }
+        ensures telling { is_some (tells self.new) ≡ is_some (tells self.old) };
 
     /// Every block of a pool is unassigned again. No call of the disk.
     fn take_back(&mut self, hand: &mut Hand<N>, pool: &mut Pool)
         requires lent { (name : ℕ) × LendsPool name pool.old hand.old }
         ensures lent { (name : ℕ) → LendsPool name pool.old hand.old → LendsPool name pool.new hand.new }
         ensures beside { IsBesidePools hand.old hand.new }
-        ensures none { pool.new ≡ set.empty };
+        ensures none { pool.new ≡ set.empty }
+        ensures back { AreTold (tells self.old) (tells self.new) (λ had has. has ≡ set.union had pool.old) }
+        ensures telling { is_some (tells self.new) ≡ is_some (tells self.old) };
 
     /// Writes home all that is committed, and begins the next epoch with the whole journal. The hand that is lent has no file; it was
     /// told the fault where the disk failed, or that the store has stopped.
     fn checkpoint(&mut self, hand: &mut Hand<N>) -> Result<(), StoreFault>
         requires bare { IsBare hand.old }
+        ensures emptied { OnOk result (IfSome (tells self.new) (λ v. used_in v.store ≡ 0)) }
+        ensures free { AreTold (tells self.old) (tells self.new) (λ had has. has ≡ had) }
+        ensures telling { is_some (tells self.new) ≡ is_some (tells self.old) }
         ensures bare { IsBare hand.new }
         ensures beside { IsBeside hand.old hand.new }
         ensures faults { hand.new.faults ≡ told_list (fault_told (fault_in result)) ++ hand.old.faults }

@@ -16,6 +16,10 @@ pub struct Direct<'a, N: Naming, D: Door> {
 }
 
 impl<'a, N: Naming, D: Door> Turns<N> for Direct<'a, N, D> {
+    ghost use Rattle.std.specs.Prelude.{Some};
+
+    ghost tells = { λ d. Some d.held.now };
+
     fn sync_file(
         &mut self,
         hand: &mut Hand<N>,
@@ -63,6 +67,10 @@ pub struct Locked<'a, N: Naming, D: Door, R: Wait> {
 }
 
 impl<'a, N: Naming, D: Door, R: Wait> Turns<N> for Locked<'a, N, D, R> {
+    ghost use Rattle.std.specs.Prelude.{None};
+
+    ghost tells = { λ d. None };
+
     fn sync_file(
         &mut self,
         hand: &mut Hand<N>,

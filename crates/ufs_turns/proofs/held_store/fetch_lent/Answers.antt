@@ -78,3 +78,9 @@ returns-clause-faults g c =
     let f = c.requires.file in
     faults_then g.N.Naming.start g.D.Door.visible g.D.Door.keeps c.begin_turn.result c.args.hand.now c.begin_turn.new.hand (g.D.Door.store c.args.store.now) (g.D.Door.store c.fetch-read.new.door) c.begin_turn.ensures.knows f.0 f.1 f.2 c.requires.store c.begin_turn.ensures.begun false c.told_by-told.result (state_of c.fetch-read.new.hand c.args.commits.now) c.end_turn.result c.end_turn.new.hand c.end_turn.ensures.ended
     ∙ ap (λ (q : Option ℕ). told_list q ++ c.args.hand.now.faults) (told_is_same c.told_by-told.result (fault_in c.fetch-read.result) c.told_by-told.ensures.some c.told_by-told.ensures.none)
+
+pub returns-clause-nothing : goal.returns-clause-nothing
+returns-clause-nothing g c there = (let e = c.fetch-read.ensures.nothing there in (e.0, e.2))
+
+pub returns-clause-free : goal.returns-clause-free
+returns-clause-free g c = ap (λ (q : StoreState). q.unassigned.free) c.fetch-read.ensures.store

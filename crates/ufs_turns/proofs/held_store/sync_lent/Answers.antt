@@ -1,5 +1,6 @@
 use Rattle.std.proofs.Common.{◌≡◌, ◌++◌, ℕ, Option, None, [], ◌∷◌, true, false, sym, subst, ap, inl, refl, ◌∙◌}
 use Rattle.std.specs.Prelude.{All}
+use Rattle.ufs_bitmap.specs.Space.{Space}
 use Rattle.ufs_extent.specs.Runs.{IsRun}
 use Rattle.ufs_durable.specs.State.{DurableState, IsNoted, state_of}
 use Rattle.ufs_joint.specs.Cells.{FileCell, View}
@@ -128,3 +129,9 @@ returns-in-Err-clause-stop g c fault is =
     let f = c.requires.file in
     stop_then g.N.Naming.start g.D.Door.visible g.D.Door.keeps c.begin_turn.result c.args.hand.now c.begin_turn.new.hand (g.D.Door.store c.args.store.now) (g.D.Door.store c.sync_store.new.store) c.begin_turn.ensures.knows f.0 f.1 f.2 c.requires.store c.begin_turn.ensures.begun false c.told_of-told.result (state_of c.sync_store.new.file c.sync_store.new.commits) c.end_turn-in-Err.result c.end_turn-in-Err.new.hand c.end_turn-in-Err.ensures.ended
     ∙ c.sync_store.ensures.stopped fault (c.in-Err.is ∙ is)
+
+pub returns-in-Ok-clause-freed : goal.returns-in-Ok-clause-freed
+returns-in-Ok-clause-freed g c = c.in-Ok.ensures.ok.freed
+
+pub returns-in-Err-clause-unfreed : goal.returns-in-Err-clause-unfreed
+returns-in-Err-clause-unfreed g c = ap (λ (q : Space). q.free) (c.sync_store.ensures.err c.in-Err.fault c.in-Err.is).unfreed

@@ -1,4 +1,5 @@
 use Rattle.std.proofs.Common.{◌≡◌, ◌++◌, ℕ, Option, sym, subst, ap, ◌∙◌}
+use Rattle.ufs_bitmap.specs.Space.{Space}
 use Rattle.ufs_joint.specs.Checkpoints.{CheckpointsGoOn, CheckpointsMayEnd}
 use Rattle.ufs_joint.specs.Turns.{MayEndTurn}
 use Rattle.ufs_store.specs.Refusals.{fault_in}
@@ -43,3 +44,6 @@ pub returns-clause-stop : goal.returns-clause-stop
 returns-clause-stop g c fault is =
     stop_then g.N.Naming.start g.D.Door.visible g.D.Door.keeps c.begin_turn.result c.args.hand.now c.begin_turn.new.hand (g.D.Door.store c.args.store.now) (g.D.Door.store c.checkpoint_store-made.new.store) c.begin_turn.ensures.knows c.requires.store c.begin_turn.ensures.begun c.told_by-told.result c.end_bare.result c.end_bare.new.hand c.end_bare.ensures.ended
     ∙ c.checkpoint_store-made.ensures.stopped fault is
+
+pub returns-clause-free : goal.returns-clause-free
+returns-clause-free g c = ap (λ (q : Space). q.free) c.checkpoint_store-made.ensures.made.unassigned

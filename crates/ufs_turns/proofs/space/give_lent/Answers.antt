@@ -52,9 +52,9 @@ returns-clause-pool g c name pools = pools_then g.N.Naming.start g.D.Door.visibl
 pub returns-clause-beside : goal.returns-clause-beside
 returns-clause-beside g c = beside_then g.N.Naming.start g.D.Door.visible g.D.Door.keeps c.look.result c.args.hand.now c.look.new.self c.move_blocks.new.hand (g.D.Door.store c.args.store.now) (g.D.Door.store c.give_pool-given.new.self) c.requires.store c.look.ensures.cells c.requires.pool.0 c.args.pool.now c.give_pool-given.new.pool c.requires.pool.1 c.give_pool-given.ensures.rest c.move_blocks.ensures c.look.ensures.later
 
-gains : (r : Result (Unit {0}) StoreFault) (missing had : ℕ) (old new from kept : BlockSet) → set.len from ≡ had → AreApart old from → ((had < missing) → r ≡ Err (refusal.NoSpace missing had)) → OnOk r (MovesLowest (missing + 64) from kept old new) → OnOk r (GainsBlocks missing old new)
-gains (Err x) missing had old new from kept is apart lacks ok = tt
-gains (Ok x) missing had old new from kept is apart lacks ok = record { had = from; kept = kept; apart = apart; enough = by (cases_lt had missing); moved = ok }
+gains : (r : Result (Unit {0}) StoreFault) (missing had : ℕ) (old new from left : BlockSet) → set.len from ≡ had → AreApart old from → ((had < missing) → r ≡ Err (refusal.NoSpace missing had)) → OnOk r (MovesLowest (missing + 64) from left old new) → OnOk r (GainsBlocks missing from left old new)
+gains (Err x) missing had old new from left is apart lacks ok = tt
+gains (Ok x) missing had old new from left is apart lacks ok = record { apart = apart; enough = by (cases_lt had missing); moved = ok }
   where
     by : (had < missing) ⊎ (missing ≤ had) → missing ≤ set.len from
     by (inl less) = (let clash = lacks less in absurd cc)
@@ -66,9 +66,16 @@ returns-clause-given g c =
     let t = g.D.Door.store c.give_pool-given.new.self in
     gains c.give_pool-given.result c.args.missing (set.len s.unassigned.free) c.args.pool.now c.give_pool-given.new.pool s.unassigned.free t.unassigned.free refl (pool_apart g.N.Naming.start c.look.result c.args.hand.now c.look.ensures.knows (cell_of c.requires.store.stamp c.requires.store.past (g.D.Door.store c.args.store.now)) c.requires.store.has c.requires.pool.0 c.args.pool.now c.requires.pool.1) c.give_pool-given.ensures.no_space.0 c.give_pool-given.ensures.ok
 
-lacking : (r : Result (Unit {0}) StoreFault) (missing had : ℕ) → (r ≡ Err (refusal.NoSpace missing had) → had < missing) → IfErr r (λ fault. fault ≡ refusal.NoSpace missing had) → IfErr r (LacksBlocks missing)
+lacking : (r : Result (Unit {0}) StoreFault) (missing had : ℕ) → (r ≡ Err (refusal.NoSpace missing had) → had < missing) → IfErr r (λ fault. fault ≡ refusal.NoSpace missing had) → IfErr r (LacksBlocks missing had)
 lacking (Ok x) missing had fewer told = tt
-lacking (Err x) missing had fewer told = record { had = had; fewer = fewer (ap Err told); told = told }
+lacking (Err x) missing had fewer told = record { fewer = fewer (ap Err told); told = told }
 
 pub returns-clause-lacks : goal.returns-clause-lacks
 returns-clause-lacks g c = lacking c.give_pool-given.result c.args.missing (set.len (g.D.Door.store c.args.store.now).unassigned.free) c.give_pool-given.ensures.no_space.1 c.give_pool-given.ensures.told
+
+unmoved : (r : Result (Unit {0}) StoreFault) (s t : StoreState) (old new : BlockSet) → OnErr r ((t ≡ s) × (new ≡ old)) → OnErr r (t.unassigned.free ≡ s.unassigned.free)
+unmoved (Ok x) s t old new kept = tt
+unmoved (Err x) s t old new kept = ap (λ (q : StoreState). q.unassigned.free) kept.0
+
+pub returns-clause-same : goal.returns-clause-same
+returns-clause-same g c = unmoved c.give_pool-given.result (g.D.Door.store c.args.store.now) (g.D.Door.store c.give_pool-given.new.self) c.args.pool.now c.give_pool-given.new.pool c.give_pool-given.ensures.kept

@@ -1,7 +1,9 @@
-use Rattle.std.proofs.Common.{ℕ, ◌∙◌, ◌++◌, List, ap}
+use Rattle.ufs_bitmap.specs.Blocks.{BlockSet}
+use Rattle.std.proofs.Common.{◌≡◌, ℕ, ◌∙◌, ◌++◌, List, ap}
 use Rattle.ufs_joint.specs.Disks.{cell_of}
 use Rattle.ufs_store.specs.Refusals.{fault_in}
 use Rattle.ufs_turns.specs.Told.{fault_told, told_list}
+use Rattle.ufs_turns.proofs.FreeBlocks.{in_cells}
 use Rattle.ufs_turns.proofs.held_store.HeldStore.fetch.Goals as goal
 
 pub invariant_of-self : goal.invariant_of-self
@@ -13,3 +15,11 @@ invariant_of-self g c =
 
 pub returns-clause-faults : goal.returns-clause-faults
 returns-clause-faults g c = c.give_back.ensures.faults ∙ c.fetch_lent-read.ensures.faults ∙ ap (λ (xs : List ℕ). told_list (fault_told (fault_in c.fetch_lent-read.result)) ++ xs) c.lend.ensures.faults
+
+pub returns-clause-free : goal.returns-clause-free
+returns-clause-free g c =
+    let t = g.D.Door.store c.fetch_lent-read.new.store in
+    let st = c.fetch_lent-read.ensures.store in
+    let alone = c.give_back.ensures.home (cell_of st.stamp st.past t) st.has in
+    in_cells g.N.Naming.start g.D.Door.visible g.D.Door.keeps c.self.inside.hand c.give_back.new.own c.args.self.now (g.D.Door.store c.self.inside.store) c.self.invariant.1 c.self.view_is (cell_of st.stamp st.past t) alone
+    (λ (had has : BlockSet). has ≡ had) c.fetch_lent-read.ensures.free

@@ -1,9 +1,13 @@
-use Rattle.std.proofs.Common.{ℕ, ◌∙◌, ◌++◌, List, ap}
-use Rattle.std.specs.Prelude.{OnOk, Result, Ok, Err}
+use Rattle.ufs_bitmap.specs.Taking.{set_of}
+use Rattle.ufs_bitmap.specs.Blocks.{BlockSet}
+use Rattle.std.specs.FinSet as set
+use Rattle.std.specs.Prelude.{OnErr, OnOk, Result, Ok, Err}
+use Rattle.std.proofs.Common.{◌≡◌, ℕ, ◌∙◌, ◌++◌, List, ap}
 use Rattle.ufs_joint.specs.Disks.{cell_of}
 use Rattle.ufs_store.specs.declared.fault.StoreFault.{StoreFault}
 use Rattle.ufs_store.specs.Refusals.{fault_in}
 use Rattle.ufs_turns.specs.Told.{fault_told, told_list}
+use Rattle.ufs_turns.proofs.FreeBlocks.{in_cells}
 use Rattle.ufs_turns.proofs.held_store.HeldStore.sync_file.Goals as goal
 
 pub invariant_of-self : goal.invariant_of-self
@@ -29,3 +33,19 @@ returns-clause-faults g c = c.give_back.ensures.faults ∙ c.sync_lent-synced.en
 
 pub returns-clause-stop : goal.returns-clause-stop
 returns-clause-stop g c fault is = c.give_back.ensures.stop ∙ c.sync_lent-synced.ensures.stop fault is
+
+pub returns-clause-freed : goal.returns-clause-freed
+returns-clause-freed g c =
+    let t = g.D.Door.store c.sync_lent-synced.new.store in
+    let st = c.sync_lent-synced.ensures.store in
+    let alone = c.give_back.ensures.home (cell_of st.stamp st.past t) st.has in
+    in_cells g.N.Naming.start g.D.Door.visible g.D.Door.keeps c.self.inside.hand c.give_back.new.own c.args.self.now (g.D.Door.store c.self.inside.store) c.self.invariant.1 c.self.view_is (cell_of st.stamp st.past t) alone
+    (λ (had has : BlockSet). OnOk c.sync_lent-synced.result (has ≡ set.union had (set_of c.args.commits.now.dropped))) c.sync_lent-synced.ensures.freed
+
+pub returns-clause-unfreed : goal.returns-clause-unfreed
+returns-clause-unfreed g c =
+    let t = g.D.Door.store c.sync_lent-synced.new.store in
+    let st = c.sync_lent-synced.ensures.store in
+    let alone = c.give_back.ensures.home (cell_of st.stamp st.past t) st.has in
+    in_cells g.N.Naming.start g.D.Door.visible g.D.Door.keeps c.self.inside.hand c.give_back.new.own c.args.self.now (g.D.Door.store c.self.inside.store) c.self.invariant.1 c.self.view_is (cell_of st.stamp st.past t) alone
+    (λ (had has : BlockSet). OnErr c.sync_lent-synced.result (has ≡ had)) c.sync_lent-synced.ensures.unfreed

@@ -1,4 +1,8 @@
+use Rattle.ufs_bitmap.specs.Blocks.{BlockSet}
+use Rattle.std.specs.FinSet as set
+use Rattle.std.proofs.Common.{◌≡◌}
 use Rattle.ufs_joint.specs.Disks.{cell_of}
+use Rattle.ufs_turns.proofs.FreeBlocks.{in_cells}
 use Rattle.ufs_turns.proofs.held_store.HeldStore.take_back.Goals as goal
 
 pub invariant_of-self : goal.invariant_of-self
@@ -7,3 +11,11 @@ invariant_of-self g c =
     let st = c.take_lent.ensures.store in
     let alone = c.give_back.ensures.home (cell_of st.stamp st.past t) st.has in
     (c.self.invariant.0, record { cell = cell_of st.stamp st.past t; alone = alone; store = record { stamp = st.stamp; past = st.past; has = alone.store; sees = st.sees; formed = st.formed; since = st.since; covers = st.covers } })
+
+pub returns-clause-back : goal.returns-clause-back
+returns-clause-back g c =
+    let t = g.D.Door.store c.take_lent.new.store in
+    let st = c.take_lent.ensures.store in
+    let alone = c.give_back.ensures.home (cell_of st.stamp st.past t) st.has in
+    in_cells g.N.Naming.start g.D.Door.visible g.D.Door.keeps c.self.inside.hand c.give_back.new.own c.args.self.now (g.D.Door.store c.self.inside.store) c.self.invariant.1 c.self.view_is (cell_of st.stamp st.past t) alone
+    (λ (had has : BlockSet). has ≡ set.union had c.args.pool.now) c.take_lent.ensures.back

@@ -1,0 +1,5 @@
+use Rattle.ufs_turns.proofs.FreeBlocks.{some_gained}
+use Rattle.ufs_turns.proofs.ways.DirectTurns.give_pool.Goals as goal
+
+pub returns-clause-given : goal.returns-clause-given
+returns-clause-given g c = some_gained c.give_pool.result c.args.missing _ _ c.args.pool.now c.give_pool.new.pool c.give_pool.ensures.given
