@@ -1,3 +1,5 @@
 mod GeneratorLemmas
 mod WorkloadLemmas
 mod JoinedLemmas
+mod ReplayLemmas
+mod CountLemmas

@@ -1,8 +1,11 @@
-//! The benchmark's workload, made of a seed, and how its replies are counted.
+//! The benchmark's workload, made of a seed, and the summary of how it was answered.
 #![tactic(auto)]
 
 mod clients;
+mod laws;
+mod replay;
 mod replies;
 
 pub use clients::{bench_geometry, workload};
-pub use replies::{Kind, count_of};
+pub use laws::a_workload_has_sixteen_thousand_requests;
+pub use replies::{Kind, summary};

@@ -1,7 +1,10 @@
-ghost use Rattle.std.specs.Prelude.{◌≡◌, ◌≤◌, length};
+ghost use Rattle.std.specs.Prelude.{◌≡◌, ◌≤◌, ◌++◌, IfOk, OnOk, length};
 ghost use Rattle.ufs_model.specs.History.{joined};
-ghost use Rattle.ufs_bench.specs.Summary.{count_in, is_of};
+ghost use Rattle.ufs_bench.specs.Summary.{count_in, is_of, number_line, summary_text};
 
+use crate::replay::total_size;
+use std::alloc::{AllocError, Global};
+use ufs_base::Lack;
 use ufs_model::{Entry, EntryList, Reply};
 
 /// A kind of reply.
@@ -46,8 +49,8 @@ fn count_in(kind: Kind, entries: &[Entry]) -> usize
     count
 }
 
-/// How many replies of these transcripts are of a kind.
-pub fn count_of(kind: Kind, told: &[EntryList]) -> u128
+// How many replies are of a kind.
+fn count_of(kind: Kind, told: &[EntryList]) -> u128
     ensures { result ≡ count_in kind (joined told.now) }
 {
     let mut count = 0u128;
@@ -55,4 +58,31 @@ pub fn count_of(kind: Kind, told: &[EntryList]) -> u128
         count += count_in(kind, list.as_slice()) as u128;
     }
     count
+}
+
+// A line of the summary, behind the others.
+#[tactic(auto, unfolding(crate::specs::Summary::number_line))]
+fn push_line(alloc: Global, text: &mut Vec<u8>, name: &str, number: u128) -> Result<(), AllocError>
+    ensures { OnOk result (text.new.items ≡ text.old.items ++ number_line name.now number) }
+{
+    let line = format!(in alloc; "{name} {number}\n")?;
+    text.extend_from_slice(line.as_bytes())?;
+    Ok(())
+}
+
+/// The lines that tell how many replies of each kind these transcripts have, and how large the workload's files are behind
+/// them, where they begin with the root alone.
+#[tactic(auto, using(crate::proofs::JoinedLemmas::seven))]
+pub fn summary(alloc: Global, told: &[EntryList]) -> Result<Vec<u8>, Lack>
+    ensures { IfOk result (λ text. text.items ≡ summary_text (joined told.now)) }
+{
+    let bytes = total_size(alloc, told)?;
+    let mut text = b"requests 16000\n".to_vec(alloc)?;
+    push_line(alloc, &mut text, "ok", count_of(Kind::Done, told))?;
+    push_line(alloc, &mut text, "fd", count_of(Kind::Fd, told))?;
+    push_line(alloc, &mut text, "n", count_of(Kind::Count, told))?;
+    push_line(alloc, &mut text, "data", count_of(Kind::Data, told))?;
+    push_line(alloc, &mut text, "err", count_of(Kind::Error, told))?;
+    push_line(alloc, &mut text, "bytes", bytes)?;
+    Ok(text)
 }

@@ -20,11 +20,11 @@ use Rattle.ufs_stored.specs.OnDisk.{IsExplainedBetween, IsExplainedImage}
 use Rattle.ufs_quiet.specs.declared.ending.Ending.{Ending}
 use Rattle.ufs_quiet.specs.declared.words.Command.{Command}
 use Rattle.ufs_quiet.specs.declared.words.Command.TheVariants as command
-use Rattle.ufs_quiet.specs.Commands.{is_play}
+use Rattle.ufs_quiet.specs.Commands.{serves}
 use Rattle.ufs_quiet.specs.Laws.{StandsAsBegun}
 use Rattle.ufs_quiet.specs.Endings.{IsAnswer, TellsFault, status_of}
 use Rattle.ufs_quiet.specs.Seen.{Course, Writing}
-use Rattle.ufs_quiet.specs.Left.{ActsOn, LeavesDisk, LeavesSource, Plays}
+use Rattle.ufs_quiet.specs.Left.{ActsOn, Benches, LeavesDisk, LeavesSource, Plays}
 
 -- of the command that the words are
 pub disk_left : {D : Type 0} (words own : Option Command) (is : words ≡ own) (lists : List (List Entry)) (status : ℕ) (c : Course D) → ActsOn own lists status c → c.sectors_now ≡ c.sectors → (status ≢ 4 → status ≢ 7 → c.now ≡ c.before) → LeavesDisk words lists status c
@@ -40,8 +40,17 @@ pub played_left : {D : Type 0} (words : Option Command) (trace : Bool) (is : wor
 played_left words trace is lists status c acts size told = record {
   acts = subst (λ (o : Option Command). ActsOn o lists status c) (sym is) acts;
   size = size;
-  told = λ other. absurd (let played : true ≡ false = sym (ap is_play is) ∙ other in cc);
+  told = λ other. absurd (let played : true ≡ false = sym (ap serves is) ∙ other in cc);
   played = λ play. told;
+}
+
+-- of `bench`
+pub bench_left : {D : Type 0} (words : Option Command) (seed : ℕ) (is : words ≡ Some (command.Bench seed)) (lists : List (List Entry)) (status : ℕ) (c : Course D) → Benches lists status c → c.sectors_now ≡ c.sectors → (status ≢ 4 → status ≢ 7 → status ≢ 5 → devices_in (joined lists) ≡ [] → IsCountStill c.before c.now) → LeavesDisk words lists status c
+bench_left words seed is lists status c acts size told = record {
+  acts = subst (λ (o : Option Command). ActsOn o lists status c) (sym is) acts;
+  size = size;
+  told = λ other. absurd (let served : true ≡ false = sym (ap serves is) ∙ other in cc);
+  played = λ serves. told;
 }
 
 -- a source that isn't read

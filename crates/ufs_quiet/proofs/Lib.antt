@@ -18,3 +18,5 @@ pub mod RecoveryLemmas
 pub mod ToldLemmas
 pub mod LeftLemmas
 pub mod UnreadLemmas
+pub mod BenchLemmas
+pub mod FormattedLemmas

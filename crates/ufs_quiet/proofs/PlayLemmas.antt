@@ -129,11 +129,11 @@ module _ (trace : Bool) (r : Reading) (d : Formatting) (told : List (List Entry)
 -- ---- a count that stays
 
 -- a count that is raised has risen
-raised_risen : (before now : ℕ) → now ≡ raised before → HasRisen before now now
+pub raised_risen : (before now : ℕ) → now ≡ raised before → HasRisen before now now
 raised_risen before now rose = rose_past before before now now (omega arith) (record { rose = rose; number = refl })
 
 -- a session that tells a fault has raised the disk's count
-end_risen : (d : Formatting) (told : List (List Entry)) (fault : ℕ) → TellsEnd d told fault → HasRisen d.before d.now fault
+pub end_risen : (d : Formatting) (told : List (List Entry)) (fault : ℕ) → TellsEnd d told fault → HasRisen d.before d.now fault
 end_risen d told fault (inl e) = e.risen
 end_risen d told fault (inr e) = e.risen
 
@@ -178,7 +178,7 @@ module _ (trace : Bool) (alike : LongerIsAlike) (text : List ℕ) (r : Reading) 
 -- ---- a proper image
 
 -- A session begins with it, unless a call of the disk fails or memory runs out.
-begun_there : (d : Formatting) → IsProperImage d.sectors d.image → (fault : StartFault) → start_ending fault ≡ NoTree → TellsNoSession d.sectors d.image fault → ⊥
+pub begun_there : (d : Formatting) → IsProperImage d.sectors d.image → (fault : StartFault) → start_ending fault ≡ NoTree → TellsNoSession d.sectors d.image fault → ⊥
 begun_there d proper (start.Image recover.NoSuperblock) is why = proper_opens d.sectors d.image proper image.NoSuperblock why
 begun_there d proper (start.Image (recover.BadVersion found)) is why = proper_opens d.sectors d.image proper (image.BadVersion found) why
 begun_there d proper (start.Image (recover.BadGeometry number)) is why = proper_opens d.sectors d.image proper (image.BadGeometry number) why

@@ -1,6 +1,6 @@
 -- How a session that was played ends, and what it leaves.
 use Rattle.std.proofs.Common.{◌≡◌, ◌⊎◌, inl, inr, ℕ, List, [], length, Result, Ok, Err, ap, sym, subst, refl, ◌∙◌}
-use Rattle.std.specs.Prelude.{Bool, IsTrue}
+use Rattle.std.specs.Prelude.{IsTrue}
 use Rattle.ufs_base.specs.declared.lack.Lack.{Lack}
 use Rattle.ufs_engine.specs.Begins.{BeginsWith, HasNothingOpen, TellsNoSession}
 use Rattle.ufs_catalog.specs.Faults.{IsWhyNot}
@@ -23,10 +23,10 @@ use Rattle.ufs_start.specs.declared.fault.StartFault.TheVariants as start
 use Rattle.ufs_quiet.specs.declared.ending.Ending.{Ending}
 use Rattle.ufs_quiet.specs.declared.ending.Ending.TheVariants.{Done, Usage, BadGeometry, NotBuilt, BadScript, TooSmall, NoTree, DeviceFault, OutOfMemory, SourceFault, Damaged}
 use Rattle.ufs_quiet.specs.Seen.{Formatting}
-use Rattle.ufs_quiet.specs.Served.{IsCutSessionOf, IsSessionOf, TellsEnd, session_lines}
+use Rattle.ufs_quiet.specs.Served.{IsCutSessionOf, IsSessionOf, TellsEnd}
 use Rattle.ufs_quiet.specs.Texts.{device_line}
 use Rattle.ufs_quiet.specs.TreeLines.{refusal_line}
-use Rattle.ufs_quiet.specs.Endings.{EndsBehind, EndsPlayed, EndsPrinting, EndsServing, TellsNoStart, ending_of, line_of, start_ending, start_line}
+use Rattle.ufs_quiet.specs.Endings.{EndsBehind, EndsPlayed, EndsPrinting, EndsServed, TellsNoStart, ending_of, line_of, start_ending, start_line}
 use Rattle.ufs_quiet.proofs.PrintLemmas.{output_is}
 
 -- what is known of a session that was played, and of the disk's counts
@@ -56,7 +56,7 @@ told_why given (recover.Lack _) why refusal is none = cc
 
 -- ---- how it ends
 
-module _ (trace : Bool) (d : Formatting) (script : Script) (told : List (List Entry)) where
+module _ (printed : List ℕ) (d : Formatting) (script : Script) (told : List (List Entry)) where
   cut_session : (result : Result (Unit {0}) PlayFault) → HasPlayed d script told result → IsCutSessionOf d script told
   cut_session result h = record {
     any = let p = h.legal in (p.0, p.1, record { legal = p.2.legal; ordered = p.2.ordered; servers = p.2.servers });
@@ -92,7 +92,7 @@ module _ (trace : Bool) (d : Formatting) (script : Script) (told : List (List En
         ap start_line (sym x.1) ∙ told_why (opens d.sectors d.image) x.0 x.2 refusal none (ap start_ending x.1 ∙ is);
   }
 
-  unbegun : (fault : StartFault) → told ≡ [] → HasStartCause d.before d.now fault → Why fault → Cause fault → IsCutSessionOf d script told → EndsServing trace d script told (start_ending fault) (start_line fault)
+  unbegun : (fault : StartFault) → told ≡ [] → HasStartCause d.before d.now fault → Why fault → Cause fault → IsCutSessionOf d script told → EndsServed printed d script told (start_ending fault) (start_line fault)
   unbegun (start.Image recover.NoSuperblock) none count why cause cut = (none, count, no_start (start.Image recover.NoSuperblock) refl why cause)
   unbegun (start.Image (recover.BadVersion found)) none count why cause cut = (none, count, no_start (start.Image (recover.BadVersion found)) refl why cause)
   unbegun (start.Image (recover.BadGeometry number)) none count why cause cut = (none, count, no_start (start.Image (recover.BadGeometry number)) refl why cause)
@@ -108,7 +108,7 @@ module _ (trace : Bool) (d : Formatting) (script : Script) (told : List (List En
   cause_of fault h visible refusal none = elim (h.unopened visible refusal none) [ inl lacks ↦ (let clash = lacks.1 in absurd cc) | inr x ↦ (x.0, cc, x.2) ]
 
   -- each request was answered
-  well_ended : HasPlayed d script told (Ok tt) → (ending : Ending) (text : List ℕ) → EndsPrinting (session_lines trace (joined told)) ending text → EndsServing trace d script told ending text
+  well_ended : HasPlayed d script told (Ok tt) → (ending : Ending) (text : List ℕ) → EndsPrinting printed ending text → EndsServed printed d script told ending text
   well_ended h Done text e = (session (Ok tt) refl h, h.closing, e)
   well_ended h Usage text e = absurd e
   well_ended h (BadGeometry bad) text e = absurd e
@@ -122,7 +122,7 @@ module _ (trace : Bool) (d : Formatting) (script : Script) (told : List (List En
   well_ended h Damaged text e = absurd e
 
   -- a call of the disk failed, in the session or behind it
-  fault_ended : (fault : ℕ) → IsSessionOf d script told → TellsEnd d told fault → (ending : Ending) (text : List ℕ) → EndsBehind (session_lines trace (joined told)) fault ending text → EndsServing trace d script told ending text
+  fault_ended : (fault : ℕ) → IsSessionOf d script told → TellsEnd d told fault → (ending : Ending) (text : List ℕ) → EndsBehind printed fault ending text → EndsServed printed d script told ending text
   fault_ended fault of tells Done text e = absurd e
   fault_ended fault of tells Usage text e = absurd e
   fault_ended fault of tells (BadGeometry bad) text e = absurd e
@@ -135,11 +135,11 @@ module _ (trace : Bool) (d : Formatting) (script : Script) (told : List (List En
   fault_ended fault of tells SourceFault text e = absurd e
   fault_ended fault of tells Damaged text e = absurd e
 
-  pub played_ends : (result : Result (Unit {0}) PlayFault) → HasPlayed d script told result → (ending : Ending) (text : List ℕ) → EndsPlayed result (session_lines trace (joined told)) ending text → EndsServing trace d script told ending text
+  pub played_ends : (result : Result (Unit {0}) PlayFault) → HasPlayed d script told result → (ending : Ending) (text : List ℕ) → EndsPlayed result printed ending text → EndsServed printed d script told ending text
   played_ends (Ok x) h ending text e = well_ended h ending text e
   played_ends (Err (ended.Image fault)) h ending text e =
-      subst (λ (x : Ending). EndsServing trace d script told x text) (sym e.0)
-      (subst (EndsServing trace d script told (start_ending fault)) (sym e.1) (unbegun fault (h.refused fault refl) (h.opening fault refl) (λ may. h.why may fault refl) (cause_of fault h) (cut_session (Err (ended.Image fault)) h)))
+      subst (λ (x : Ending). EndsServed printed d script told x text) (sym e.0)
+      (subst (EndsServed printed d script told (start_ending fault)) (sym e.1) (unbegun fault (h.refused fault refl) (h.opening fault refl) (λ may. h.why may fault refl) (cause_of fault h) (cut_session (Err (ended.Image fault)) h)))
   played_ends (Err (ended.Device fault)) h ending text e = fault_ended fault (session (Err (ended.Device fault)) refl h) (inl h.closing) ending text e
   played_ends (Err (ended.Stopped fault)) h ending text e = fault_ended fault (session (Err (ended.Stopped fault)) refl h) (inr h.closing) ending text e
-  played_ends (Err (ended.Lack w)) h ending text e = subst (λ (x : Ending). EndsServing trace d script told x text) (sym e.0) (inl (cut_session (Err (ended.Lack w)) h, e.1))
+  played_ends (Err (ended.Lack w)) h ending text e = subst (λ (x : Ending). EndsServed printed d script told x text) (sym e.0) (inl (cut_session (Err (ended.Lack w)) h, e.1))

@@ -1,12 +1,14 @@
 -- Where there was no memory for the words: nothing is done, whatever they are.
-use Rattle.std.proofs.Common.{◌≡◌, ◌⊎◌, inl, inr, ℕ, List, [], Option, Some, None, ap, sym, subst, refl, arith}
+use Rattle.std.proofs.Common.{◌≡◌, ◌⊎◌, inl, inr, ℕ, ◌≤◌, List, [], Option, Some, None, ap, sym, subst, refl, arith}
 use Rattle.ufs_base.specs.Faults.{raised}
+use Rattle.ufs_bench.specs.Workload.{bench_geometry, workload_of}
 use Rattle.ufs_catalog.specs.Reading.{IsReadOnly}
 use Rattle.ufs_disk.specs.Disk.{IsImage}
 use Rattle.ufs_disk.specs.Moments.{Moments, reads}
 use Rattle.ufs_disk.proofs.Runs.{stays}
 use Rattle.ufs_layout.specs.declared.geometry.Geometry.{Geometry}
 use Rattle.ufs_model.specs.declared.data.Entry.{Entry}
+use Rattle.ufs_model.specs.declared.data.Op.{Op}
 use Rattle.ufs_recover.specs.Stopped.{IsStopped}
 use Rattle.ufs_recovery.specs.Home.{OpensAlike}
 use Rattle.ufs_recovery.specs.Recovered.{IsProperDisk}
@@ -17,10 +19,10 @@ use Rattle.ufs_quiet.specs.declared.words.Command.TheVariants as command
 use Rattle.ufs_quiet.specs.Endings.{IsAnswer, IsFixed}
 use Rattle.ufs_quiet.specs.Ends.{Ends, EndsCommand}
 use Rattle.ufs_quiet.specs.Laws.{StandsAsBegun}
-use Rattle.ufs_quiet.specs.Left.{ActsOn, Formats, LeavesDisk, Recovers}
+use Rattle.ufs_quiet.specs.Left.{ActsOn, Benches, Formats, LeavesDisk, Recovers}
 use Rattle.ufs_quiet.specs.Seen.{Course, Formatting, Reading, Writing}
 use Rattle.ufs_quiet.specs.Texts.{memory_line}
-use Rattle.ufs_quiet.specs.Told.{Tells, TellsMkfs}
+use Rattle.ufs_quiet.specs.Told.{Tells, TellsBench, TellsMkfs}
 use Rattle.ufs_quiet.proofs.AnswerLemmas.{answer_line, answer_map}
 use Rattle.ufs_quiet.proofs.LeftLemmas.{none_faults, unread_left}
 use Rattle.ufs_quiet.proofs.ToldLemmas.{tells}
@@ -56,6 +58,19 @@ module _ (alike : LongerIsAlike) (r : Reading) (d : Formatting) (told : List (Li
     complete = λ taken large quiet. inr (lacking_five w status a is quiet.sink);
   }
 
+  unserved : (clients : List (List Op)) → TellsBench clients d told w status
+  unserved clients = record {
+    done = λ zero. absurd (lacking_status status is zero);
+    small = λ known three. absurd (not_five_or_seven 3 three (omega arith));
+    closing = λ four. absurd (not_five_or_seven 4 four (omega arith));
+    faults = none_faults d.before d.now told none;
+    complete = λ known large quiet. inr (lacking_five w status a is quiet.sink);
+    refused = λ less quiet. inr (lacking_five w status a is quiet);
+  }
+    where
+      not_five_or_seven : (n : ℕ) → status ≡ n → n ≤ 4 → ⊥
+      not_five_or_seven n e few = elim is [ inl five ↦ omega (arith, five, e, few) | inr seven ↦ omega (arith, seven, e, few) ]
+
   pub lacking_told : (words : Option Command) → Tells words r d told w status
   lacking_told None = tt
   lacking_told (Some command.NotBuilt) = tt
@@ -63,6 +78,7 @@ module _ (alike : LongerIsAlike) (r : Reading) (d : Formatting) (told : List (Li
   lacking_told (Some command.Tree) = by_command (Some command.Tree) (calm, inl refl)
   lacking_told (Some command.Check) = by_command (Some command.Check) (calm, refl)
   lacking_told (Some command.Recover) = by_command (Some command.Recover) (calm, refl)
+  lacking_told (Some (command.Bench seed)) = unserved (workload_of seed)
   lacking_told (Some (command.Mkfs blocks inodes journal)) = unformatted (record { blocks = blocks; inodes = inodes; journal = journal })
 
 -- ---- the disk is as it was
@@ -93,6 +109,15 @@ module _ {D : Type 0} (c : Course D) (untouched : c.new ≡ c.old) (same : c.to 
       alike : (proper : IsProperDisk c.sectors c.from.state) → (image : _) → IsImage c.from.state image → OpensAlike c.sectors (reads c.from) image
       alike proper image left = subst (OpensAlike c.sectors (reads c.from)) (sym (proper.settled image left)) (record { tree = refl; proper = λ is. is })
 
+  -- nothing was served
+  pub benches_left : (told : List (List Entry)) → told ≡ [] → Benches told status c
+  benches_left told none = record {
+    steps = inl (none, formats bench_geometry);
+    small = λ why. untouched;
+    clean = λ known zero. absurd (other zero);
+    last = λ known zero. absurd (other zero);
+  }
+
   acts : (words : Option Command) (told : List (List Entry)) → StandsAsBegun c.sectors → told ≡ [] → ActsOn words told status c
   acts None told stands none = untouched
   acts (Some command.NotBuilt) told stands none = untouched
@@ -100,6 +125,7 @@ module _ {D : Type 0} (c : Course D) (untouched : c.new ≡ c.old) (same : c.to 
   acts (Some command.Tree) told stands none = λ known. only_read
   acts (Some command.Check) told stands none = λ known. only_read
   acts (Some command.Recover) told stands none = λ known. recovers
+  acts (Some (command.Bench seed)) told stands none = benches_left told none
   acts (Some (command.Mkfs blocks inodes journal)) told stands none = formats (record { blocks = blocks; inodes = inodes; journal = journal })
 
   pub lacking_left : (words : Option Command) (told : List (List Entry)) → StandsAsBegun c.sectors → told ≡ [] → c.sectors_now ≡ c.sectors → c.now ≡ c.before → LeavesDisk words told status c

@@ -8,14 +8,14 @@ use Rattle.ufs_words.specs.declared.command.Command.TheVariants as named
 use Rattle.ufs_quiet.specs.declared.words.Command.{Command}
 use Rattle.ufs_quiet.specs.declared.words.Command.TheVariants as command
 
--- What is done for a command. `run` waits for others, so it is none for a call that waits for nobody. Leases and `bench` aren't
--- built.
+-- What is done for a command. `run` waits for others, so it is none for a call that waits for nobody. Leases aren't built.
 abbrev pub built : Named → Option Command
 built (named.Mkfs blocks inodes journal) = Some (command.Mkfs blocks inodes journal)
 built (named.Play None trace) = Some (command.Play trace)
 built (named.Play (Some lease) trace) = Some command.NotBuilt
 built (named.Run workers lease trace) = None
-built (named.Bench seed lease) = Some command.NotBuilt
+built (named.Bench seed None) = Some (command.Bench seed)
+built (named.Bench seed (Some lease)) = Some command.NotBuilt
 built named.Recover = Some command.Recover
 built named.Check = Some command.Check
 built named.Tree = Some command.Tree
@@ -28,6 +28,12 @@ asked words = option_and_then built (command_of (map string_bytes words))
 abbrev pub is_play : Option Command → Bool
 is_play (Some (command.Play trace)) = true
 is_play _ = false
+
+-- it serves clients
+abbrev pub serves : Option Command → Bool
+serves (Some (command.Play trace)) = true
+serves (Some (command.Bench seed)) = true
+serves _ = false
 
 -- formatting with these numbers
 abbrev pub mkfs_command : Geometry → Option Command

@@ -216,19 +216,23 @@ pub record TellsNoStart (d : Formatting) (text : List ℕ) : Type 0 where
   -- Of any visible disk that stands for no tree the cause is told.
   pub refused : IsTrue d.visible → (refusal : Refusal) → opens d.sectors d.image ≡ Err refusal → text ≡ refusal_line refusal
 
--- What is seen of the disk and was told allows the serving of a script, with a trace or without, this ending with this text.
--- Each request is answered, and the image is clean;
-abbrev pub EndsServing : Bool → Formatting → Script → List (List Entry) → Ending → List ℕ → Type 0
-EndsServing trace d script told Done text = IsSessionOf d script told × EndsSession d told (Ok tt) × (text ≡ session_lines trace (joined told))
+-- What is seen of the disk and was told allows the serving of a script, of which these lines are printed, this ending with this
+-- text. Each request is answered, and the image is clean;
+abbrev pub EndsServed : List ℕ → Formatting → Script → List (List Entry) → Ending → List ℕ → Type 0
+EndsServed printed d script told Done text = IsSessionOf d script told × EndsSession d told (Ok tt) × (text ≡ printed)
 -- no session begins with the image;
-EndsServing trace d script told NoTree text = (told ≡ []) × (d.now ≡ d.before) × TellsNoStart d text
+EndsServed printed d script told NoTree text = (told ≡ []) × (d.now ≡ d.before) × TellsNoStart d text
 -- a call of the disk failed as the session began, or each request is answered, and the line of a fault is behind the lines;
-EndsServing trace d script told DeviceFault text = ((told ≡ []) × (d.now ≡ raised d.before) × (text ≡ device_line d.now))
-    ⊎ (IsSessionOf d script told × (fault : ℕ) × TellsEnd d told fault × (text ≡ session_lines trace (joined told) ++ device_line fault))
+EndsServed printed d script told DeviceFault text = ((told ≡ []) × (d.now ≡ raised d.before) × (text ≡ device_line d.now))
+    ⊎ (IsSessionOf d script told × (fault : ℕ) × TellsEnd d told fault × (text ≡ printed ++ device_line fault))
 -- memory ran out before the first line, and some requests may have been answered, or behind one.
-EndsServing trace d script told OutOfMemory text = (IsCutSessionOf d script told × (text ≡ memory_line))
-    ⊎ (IsSessionOf d script told × (front : List ℕ) × AreFirstLines front (session_lines trace (joined told)) × (text ≡ front ++ memory_line))
-EndsServing trace d script told _ text = ⊥
+EndsServed printed d script told OutOfMemory text = (IsCutSessionOf d script told × (text ≡ memory_line))
+    ⊎ (IsSessionOf d script told × (front : List ℕ) × AreFirstLines front printed × (text ≡ front ++ memory_line))
+EndsServed printed d script told _ text = ⊥
+
+-- ..of a script whose reply lines are printed, and its trace where that is asked for
+abbrev pub EndsServing : Bool → Formatting → Script → List (List Entry) → Ending → List ℕ → Type 0
+EndsServing trace d script told ending text = EndsServed (session_lines trace (joined told)) d script told ending text
 
 -- What is seen of the source allows this ending with this text where there is no script.
 abbrev pub EndsUnread : Reading → Ending → List ℕ → Type 0

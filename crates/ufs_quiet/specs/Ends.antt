@@ -5,7 +5,9 @@ use Rattle.ufs_quiet.specs.declared.ending.Ending.{Ending}
 use Rattle.ufs_quiet.specs.declared.ending.Ending.TheVariants.{Usage, NotBuilt, OutOfMemory}
 use Rattle.ufs_quiet.specs.declared.words.Command.{Command}
 use Rattle.ufs_quiet.specs.declared.words.Command.TheVariants as command
+use Rattle.ufs_bench.specs.Workload.{workload_of}
 use Rattle.ufs_quiet.specs.Seen.{Reading, Formatting}
+use Rattle.ufs_quiet.specs.Bench.{EndsBench}
 use Rattle.ufs_quiet.specs.Endings.{EndsCheck, EndsMkfs, EndsPlay, EndsRecovery, EndsTree, IsFixed}
 
 -- What is seen of the source and of the disk and was told to clients allows a command, or there being none, this ending with
@@ -17,6 +19,7 @@ EndsCommand (Some (command.Play trace)) r d told ending text = EndsPlay trace r 
 EndsCommand (Some command.Tree) r d told ending text = EndsTree d ending text
 EndsCommand (Some command.Check) r d told ending text = EndsCheck d ending text
 EndsCommand (Some command.Recover) r d told ending text = EndsRecovery d ending text
+EndsCommand (Some (command.Bench seed)) r d told ending text = EndsBench (workload_of seed) d told ending text
 EndsCommand (Some (command.Mkfs blocks inodes journal)) r d told ending text = EndsMkfs (record { blocks = blocks; inodes = inodes; journal = journal }) d ending text
 
 -- An allocation was refused while the words were read, whatever command they are: nothing was read of the source, no call of the

@@ -1,6 +1,7 @@
 -- What a command does to a disk and to a source.
-use Rattle.std.specs.Prelude.{ℕ, ◌≡◌, ◌≢◌, ◌<◌, [], List, Bool, true, false, Option, Some, None, Err, IsTrue}
+use Rattle.std.specs.Prelude.{ℕ, ◌≡◌, ◌≢◌, ◌<◌, ◌⊎◌, [], List, Bool, true, false, Option, Some, None, Err, IsTrue}
 use Rattle.ufs_engine.specs.Begins.{BeginsWith}
+use Rattle.ufs_bench.specs.Workload.{bench_geometry}
 use Rattle.ufs_catalog.specs.Reading.{IsReadOnly}
 use Rattle.ufs_disk.specs.Disk.{Leaves}
 use Rattle.ufs_disk.specs.Moments.{Moments, LeavesOnly, reads}
@@ -12,7 +13,7 @@ use Rattle.ufs_layout.specs.Areas.{geometry_refusal, sector_count}
 use Rattle.ufs_layout.specs.declared.geometry.Geometry.{Geometry}
 use Rattle.ufs_ledger.specs.Kept.{OpensExplained}
 use Rattle.ufs_model.specs.History.{joined, tree_after}
-use Rattle.ufs_model.specs.PosixTree.{PosixTree}
+use Rattle.ufs_model.specs.PosixTree.{PosixTree, root_alone}
 use Rattle.ufs_model.specs.declared.data.Entry.{Entry}
 use Rattle.ufs_engine.specs.Plays.{IsStampedThroughout, MayPlay}
 use Rattle.ufs_recover.specs.Stopped.{IsNewDisk, IsStopped}
@@ -23,7 +24,7 @@ use Rattle.ufs_session.specs.Throughout.{IsExplainedThroughout}
 use Rattle.ufs_session.specs.Told.{IsCountStill, devices_in}
 use Rattle.ufs_quiet.specs.declared.words.Command.{Command}
 use Rattle.ufs_quiet.specs.declared.words.Command.TheVariants as command
-use Rattle.ufs_quiet.specs.Commands.{is_play}
+use Rattle.ufs_quiet.specs.Commands.{is_play, serves}
 use Rattle.ufs_quiet.specs.Seen.{Course, Reading}
 
 -- ---- disks
@@ -77,6 +78,23 @@ pub record Plays {D : Type 0} (told : List (List Entry)) (status : ℕ) (c : Cou
   pub broken : status ≡ 2 → c.new ≡ c.old
   pub unread : status ≡ 6 → c.new ≡ c.old
 
+-- Nothing was served: the disk was left, or was stopped while it was formatted, as by `mkfs`.
+abbrev pub LeavesUnserved : {D : Type 0} → List (List Entry) → ℕ → Course D → Type 0
+LeavesUnserved told status c = (told ≡ []) × Formats bench_geometry status c
+
+-- It was formatted, as by `mkfs` with status 0, and then the workload was played on it, as by `play`.
+abbrev pub FormatsAndPlays : {D : Type 0} → List (List Entry) → ℕ → Course D → Type 0
+FormatsAndPlays {D} told status c = (mid : D) × (between : Moments) × Formats bench_geometry 0 (record c { new = mid; to = between }) × Plays told status (record c { old = mid; from = between })
+
+-- `bench`, of which the transcripts are these
+pub record Benches {D : Type 0} (told : List (List Entry)) (status : ℕ) (c : Course D) : Type 0 where
+  pub steps : LeavesUnserved told status c ⊎ FormatsAndPlays told status c
+  -- A disk that is too small is left.
+  pub small : c.sectors < sector_count bench_geometry → c.new ≡ c.old
+  -- Status 0: a visible disk is proper and clean, nothing is pending, and it stands for the tree behind the history.
+  pub clean : IsTrue c.visible → status ≡ 0 → IsCleanDisk c.sectors c.to.state
+  pub last : IsTrue c.visible → status ≡ 0 → StandsForTree c.sectors (tree_after root_alone (joined told)) (reads c.to)
+
 -- What a command does to the content of a disk: `tree` and `check` only read it, and what isn't listed leaves it.
 abbrev pub ActsOn : {D : Type 0} → Option Command → List (List Entry) → ℕ → Course D → Type 0
 ActsOn (Some (command.Mkfs blocks inodes journal)) told status c = Formats (record { blocks = blocks; inodes = inodes; journal = journal }) status c
@@ -84,6 +102,7 @@ ActsOn (Some command.Tree) told status c = IsTrue c.visible → IsReadOnly c.kee
 ActsOn (Some command.Check) told status c = IsTrue c.visible → IsReadOnly c.keeps c.from c.to
 ActsOn (Some command.Recover) told status c = IsTrue c.visible → Recovers c.keeps c.sectors status c.from c.to
 ActsOn (Some (command.Play trace)) told status c = Plays told status c
+ActsOn (Some (command.Bench seed)) told status c = Benches told status c
 ActsOn (Some command.NotBuilt) told status c = c.new ≡ c.old
 ActsOn None told status c = c.new ≡ c.old
 
@@ -91,10 +110,10 @@ pub record LeavesDisk {D : Type 0} (words : Option Command) (lists : List (List 
   pub acts : ActsOn words lists status c
   -- It has as many sectors.
   pub size : c.sectors_now ≡ c.sectors
-  -- Of every command but `play` any status but 4 and 7 leaves its count.
-  pub told : is_play words ≡ false → status ≢ 4 → status ≢ 7 → c.now ≡ c.before
-  -- Of `play` any status but 4, 5 and 7 does where no reply tells a fault; a count at its type's end tells none.
-  pub played : is_play words ≡ true → status ≢ 4 → status ≢ 7 → status ≢ 5 → devices_in (joined lists) ≡ [] → IsCountStill c.before c.now
+  -- Of a command that serves nobody any status but 4 and 7 leaves its count.
+  pub told : serves words ≡ false → status ≢ 4 → status ≢ 7 → c.now ≡ c.before
+  -- Of `play` and `bench` any status but 4, 5 and 7 does where no reply tells a fault; a count at its type's end tells none.
+  pub played : serves words ≡ true → status ≢ 4 → status ≢ 7 → status ≢ 5 → devices_in (joined lists) ≡ [] → IsCountStill c.before c.now
 
 -- ---- sources
 

@@ -7,6 +7,7 @@ pub mod Seen
 pub mod TreeLines
 pub mod DamageLines
 pub mod Endings
+pub mod Bench
 pub mod Ends
 pub mod Told
 pub mod Left

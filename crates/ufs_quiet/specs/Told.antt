@@ -1,7 +1,8 @@
 -- What a command's status says, and what the sink got then. Each status with each text stands in `Ends`; this is what
 -- it comes to for each command.
-use Rattle.std.specs.Prelude.{ℕ, ◌≡◌, ◌≢◌, ◌≤◌, ◌⊎◌, Bool, List, [], ◌++◌, length, Option, Some, None, ⊤, Ok, Err, IsTrue}
+use Rattle.std.specs.Prelude.{ℕ, ◌≡◌, ◌≢◌, ◌<◌, ◌≤◌, ◌⊎◌, Bool, List, [], ◌++◌, length, Option, Some, None, ⊤, Ok, Err, IsTrue}
 use Rattle.std.specs.Io.KnownBytes.{Appends}
+use Rattle.ufs_bench.specs.Workload.{bench_geometry, workload_of}
 use Rattle.ufs_base.specs.Faults.{raised}
 use Rattle.ufs_image.specs.Damage.{Damage}
 use Rattle.ufs_image.specs.Opens.{ImageTree, opens, damage_list}
@@ -11,6 +12,7 @@ use Rattle.ufs_layout.specs.Areas.{geometry_refusal, sector_count}
 use Rattle.ufs_layout.specs.declared.geometry.Geometry.{Geometry}
 use Rattle.ufs_model.specs.History.{joined}
 use Rattle.ufs_model.specs.declared.data.Entry.{Entry}
+use Rattle.ufs_model.specs.declared.data.Op.{Op}
 use Rattle.ufs_engine.specs.Plays.{AreFaultsOf, MayPlay}
 use Rattle.ufs_session.specs.Told.{HasRisen}
 use Rattle.ufs_recovery.specs.Recovered.{log_of}
@@ -20,7 +22,8 @@ use Rattle.ufs_script.specs.declared.fault.ScriptFault.{ScriptFault}
 use Rattle.ufs_script.specs.declared.script.Script.{Script}
 use Rattle.ufs_quiet.specs.declared.words.Command.{Command}
 use Rattle.ufs_quiet.specs.declared.words.Command.TheVariants as command
-use Rattle.ufs_quiet.specs.Texts.{made_line, break_line, device_line, recovered_line}
+use Rattle.ufs_quiet.specs.Bench.{HasServed, bench_text}
+use Rattle.ufs_quiet.specs.Texts.{too_small_line, made_line, break_line, device_line, recovered_line}
 use Rattle.ufs_quiet.specs.TreeLines.{tree_lines, refusal_line}
 use Rattle.ufs_quiet.specs.DamageLines.{clean_line, damage_lines}
 use Rattle.ufs_quiet.specs.Endings.{TellsNoStart}
@@ -117,11 +120,34 @@ pub record TellsRecovery (d : Formatting) (w : Writing) (status : ℕ) : Type 0 
   -- A proper image is never refused.
   pub proper : IsProperImage d.sectors d.image → status ≢ 3
 
+-- `bench` of this workload, of which the transcripts are these
+pub record TellsBench (clients : List (List Op)) (d : Formatting) (told : List (List Entry)) (w : Writing) (status : ℕ) : Type 0 where
+  -- Status 0: there is one history, in which one POSIX tree, that begins with the root alone where the disk is visible, gives
+  -- every reply or the reply is an excuse that fits, and which holds each request of the workload once in its client's order.
+  -- The sink got the lines that count that history's replies by their kinds and tell how large the files are behind it, and
+  -- nothing else. No reply tells that the store stopped; where none tells a fault, the disk's count of faults is as it was, or
+  -- stands at its type's end.
+  pub done : status ≡ 0 → HasServed clients d told × EndsSession d told (Ok tt) × Appends w.held w.holds (bench_text told)
+  -- Status 3, of a visible disk: it is too small, nothing was served, and the sink got the line that says so, and nothing else.
+  pub small : IsTrue d.visible → status ≡ 3 → (d.sectors < sector_count bench_geometry) × (told ≡ []) × Appends w.held w.holds too_small_line
+  -- Status 4: a call of the disk failed as it was formatted or as the session began, and the sink got the line of the fault; or
+  -- each request was answered, and it got the same lines as with status 0, and behind them that of the fault of the closing, or
+  -- of the one at which the store stopped.
+  pub closing : status ≡ 4 → ((told ≡ []) × (d.now ≡ raised d.before) × Appends w.held w.holds (device_line d.now))
+      ⊎ (HasServed clients d told × (fault : ℕ) × TellsEnd d told fault × Appends w.held w.holds (bench_text told ++ device_line fault))
+  -- Each fault of the disk that a reply tells is one to which its count rose in this call, and no two replies tell one.
+  pub faults : AreFaultsOf d.before d.now (joined told)
+  -- On a visible disk that is large enough the workload is served, unless memory runs out or a count of faults rises.
+  pub complete : IsTrue d.visible → sector_count bench_geometry ≤ d.sectors → AreCalmThroughout d w → (status ≡ 0) ⊎ (status ≡ 5)
+  -- A disk that is too small is refused, unless memory runs out or the sink's count of faults rises.
+  pub refused : d.sectors < sector_count bench_geometry → w.now ≢ raised w.before → (status ≡ 3) ⊎ (status ≡ 5)
+
 -- What a command tells. Of other words `Ends` says all: they have one status and one line.
 abbrev pub Tells : Option Command → Reading → Formatting → List (List Entry) → Writing → ℕ → Type 0
 Tells None r d told w status = ⊤
 Tells (Some command.NotBuilt) r d told w status = ⊤
 Tells (Some (command.Play trace)) r d told w status = TellsPlay trace r d told w status
+Tells (Some (command.Bench seed)) r d told w status = TellsBench (workload_of seed) d told w status
 Tells (Some (command.Mkfs blocks inodes journal)) r d told w status = TellsMkfs (record { blocks = blocks; inodes = inodes; journal = journal }) d w status
 Tells (Some command.Tree) r d told w status = IsTrue d.visible → TellsTree d w status
 Tells (Some command.Check) r d told w status = IsTrue d.visible → TellsCheck d w status

@@ -1,6 +1,7 @@
 //! What a command line does: from its words to a status, to lines on a sink, and to what a disk holds.
 #![tactic(auto)]
 
+mod bench;
 mod broken;
 mod check;
 mod damage_lines;
@@ -12,7 +13,6 @@ mod mkfs;
 mod outcome;
 mod pieces;
 mod print;
-mod process;
 mod recover;
 mod response;
 mod serving;
@@ -23,8 +23,9 @@ mod words;
 mod write;
 
 pub use ending::Ending;
-pub use outcome::Outcome;
-pub use process::process_status;
+pub use finish::{out_of_memory, tell};
+pub use image::tell_device;
+pub use outcome::{Outcome, nothing_told};
 pub use response::{WordsFault, image_path, respond};
 pub use top::quiet;
 pub use ufs_words::image_of;

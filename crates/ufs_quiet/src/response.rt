@@ -1,6 +1,6 @@
 // What the program answers: to its words, or to there being none.
 ghost use Rattle.std.specs.Prelude.{◌≡◌, [], false};
-ghost use Rattle.ufs_quiet.specs.Commands.{is_play};
+ghost use Rattle.ufs_quiet.specs.Commands.{serves};
 ghost use Rattle.ufs_quiet.specs.Seen.{reading, writing, formatting, course};
 ghost use Rattle.ufs_quiet.specs.Endings.{IsAnswer};
 ghost use Rattle.ufs_quiet.specs.Left.{LeavesDisk, LeavesSource};
@@ -55,7 +55,7 @@ pub fn respond<S: Source, K: Sink, D: Disk>(
         (writing K.held K.faults sink.old sink.new) result.status }
     ensures disk { LeavesDisk (command_for words.now) result.told result.status (course D.visible D.keeps D.size D.moments D.faults disk result.disk) }
     ensures source { LeavesSource (command_for words.now) result.status (reading S.left S.faults source.old source.new) }
-    ensures served { is_play (command_for words.now) ≡ false → result.told ≡ [] }
+    ensures served { serves (command_for words.now) ≡ false → result.told ≡ [] }
 {
     let status = match words {
         Ok(words) => match image_of(words) {

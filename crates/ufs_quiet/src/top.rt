@@ -1,7 +1,7 @@
 ghost use Rattle.std.specs.Prelude.{◌≡◌, ◌⊎◌, [], Some, false};
 ghost use Rattle.ufs_model.specs.History.{joined};
 ghost use Rattle.ufs_engine.specs.Plays.{AreFaultsOf};
-ghost use Rattle.ufs_quiet.specs.Commands.{asked, is_play};
+ghost use Rattle.ufs_quiet.specs.Commands.{asked, serves};
 ghost use Rattle.ufs_quiet.specs.Seen.{Reading, reading, writing, formatting, course};
 ghost use Rattle.ufs_quiet.specs.Endings.{IsAnswer, IsFixed, sink_status, status_of};
 ghost use Rattle.ufs_quiet.specs.Ends.{Ends, EndsCommand};
@@ -10,6 +10,7 @@ ghost use Rattle.ufs_quiet.specs.Laws.{StandsAsBegun};
 ghost use Rattle.ufs_quiet.specs.declared.ending.Ending.TheVariants.{OutOfMemory};
 ghost use Rattle.ufs_quiet.specs.Told.{Tells};
 
+use crate::bench::bench;
 use crate::check::check;
 use crate::ending::Ending;
 use crate::finish::{finish, out_of_memory};
@@ -29,7 +30,7 @@ use ufs_script::a_longer_text_breaks_alike;
 
 // The answer to a command that serves nobody.
 fn act<K: Sink, D: Disk>(alloc: Global, which: Command, sink: &mut K, disk: &mut D) -> u8
-    requires { is_play (Some which) ≡ false }
+    requires { serves (Some which) ≡ false }
     ensures answer { (r : Reading) → IsAnswer (EndsCommand (Some which) r (formatting D.visible D.size D.moments D.faults disk.old disk.new) []) (writing K.held K.faults sink.old sink.new) result }
     ensures disk { LeavesDisk (Some which) [] result (course D.visible D.keeps D.size D.moments D.faults disk.old disk.new) }
 {
@@ -50,7 +51,7 @@ fn act<K: Sink, D: Disk>(alloc: Global, which: Command, sink: &mut K, disk: &mut
         Command::Check => check(alloc, sink, disk),
         Command::Recover => recover(alloc, sink, disk),
         Command::NotBuilt => finish(sink, Ending::NotBuilt),
-        Command::Play { .. } => unreachable!(),
+        Command::Play { .. } | Command::Bench { .. } => unreachable!(),
     }
 }
 
@@ -67,7 +68,7 @@ fn answer<S: Source, K: Sink, D: Disk>(
     ensures disk { LeavesDisk command result.told result.status (course D.visible D.keeps D.size D.moments D.faults disk result.disk) }
     ensures source { LeavesSource command result.status (reading S.left S.faults source.old source.new) }
     ensures faults { AreFaultsOf (D.faults disk) (D.faults result.disk) (joined result.told) }
-    ensures served { is_play command ≡ false → result.told ≡ [] }
+    ensures served { serves command ≡ false → result.told ≡ [] }
 {
     let Some(which) = command else {
         let status = finish(sink, Ending::Usage);
@@ -79,6 +80,9 @@ fn answer<S: Source, K: Sink, D: Disk>(
     };
     if let Command::Play { trace } = which {
         return read_and_serve(alloc, source, sink, trace, disk);
+    }
+    if let Command::Bench { seed } = which {
+        return bench(alloc, sink, seed, disk);
     }
     let mut disk = disk;
     let status = act(alloc, which, sink, &mut disk);
@@ -121,17 +125,18 @@ pub fn quiet<S: Source, K: Sink, D: Disk>(
         (writing K.held K.faults sink.old sink.new) result.status }
     // What the status says and the sink got, for each command: a history of the script's requests for `play`, in which the
     // tree of the disk's image gives the replies, and its trace where that is asked for, the new image's numbers for
-    // `mkfs`, the image's tree for `tree`, its damage for `check`, what was committed for `recover`.
+    // `mkfs`, the image's tree for `tree`, its damage for `check`, what was committed for `recover`, how its workload was answered
+    // for `bench`.
     ensures told { Tells (asked words.now.items) (reading S.left S.faults source.old source.new) (formatting D.visible D.size D.moments D.faults disk result.disk) result.told
         (writing K.held K.faults sink.old sink.new) result.status }
-    // The disk: `play` leaves what its history explains, and clean with status 0, `mkfs` formats it, `recover` makes its
-    // image clean, `tree` and `check` only read it, each of these safe at any moment; all else leaves it. A fault of the
-    // disk is told by status 4 or 7, or in a reply of a `play`; one that ends with 5 may leave it untold.
+    // The disk: `play` leaves what its history explains, and clean with status 0, `mkfs` formats it, `bench` does one and then the
+    // other, `recover` makes its image clean, `tree` and `check` only read it, each of these safe at any moment; all else leaves it.
+    // A fault of the disk is told by status 4 or 7, or in a reply of a session; one that ends with 5 may leave it untold.
     ensures disk { LeavesDisk (asked words.now.items) result.told result.status (course D.visible D.keeps D.size D.moments D.faults disk result.disk) }
     // The source: only `play` reads it, and its fault is told by status 6 or 7.
     ensures source { LeavesSource (asked words.now.items) result.status (reading S.left S.faults source.old source.new) }
-    // Only `play` serves clients.
-    ensures served { is_play (asked words.now.items) ≡ false → result.told ≡ [] }
+    // Only `play` and `bench` serve clients.
+    ensures served { serves (asked words.now.items) ≡ false → result.told ≡ [] }
 {
     a_longer_text_breaks_alike();
     match read_command(alloc, words.as_slice()) {

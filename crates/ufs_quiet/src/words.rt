@@ -23,6 +23,10 @@ pub enum Command {
     Check,
     /// Make the image clean.
     Recover,
+    /// Format a disk, serve the workload of this seed, and print how it was answered.
+    Bench {
+        seed: u32,
+    },
     /// A command, or an option, that isn't built yet.
     NotBuilt,
 }
@@ -42,6 +46,7 @@ fn built(named: ufs_words::Command) -> Option<Command>
         }),
         ufs_words::Command::Play { lease: None, trace } => Some(Command::Play { trace }),
         ufs_words::Command::Run { .. } => None,
+        ufs_words::Command::Bench { seed, lease: None } => Some(Command::Bench { seed }),
         ufs_words::Command::Recover => Some(Command::Recover),
         ufs_words::Command::Check => Some(Command::Check),
         ufs_words::Command::Tree => Some(Command::Tree),

@@ -4,6 +4,8 @@
 #[cfg(test)]
 mod asserts;
 #[cfg(test)]
+mod benches;
+#[cfg(test)]
 mod calls;
 #[cfg(test)]
 mod crashes;

@@ -36,7 +36,7 @@ const SUPERBLOCK: [u8; 41] = [
 ];
 
 // Words, and the status and the text that they get where nothing is read: the first read fails.
-const UNREAD: [(&[&str], u8, &str); 46] = [
+const UNREAD: [(&[&str], u8, &str); 49] = [
     (&[], 1, USAGE),
     (&["frob"], 1, USAGE),
     (&["mkfs"], 1, USAGE),
@@ -46,6 +46,7 @@ const UNREAD: [(&[&str], u8, &str); 46] = [
     (&["mkfs", "4294967296", "32", "64"], 1, USAGE),
     (&["mkfs", "256", "32", "64", "--trace"], 1, USAGE),
     (&["play", "--trace", "--trace"], 1, USAGE),
+    (&["play", "--trace", "--trace", "--image", "f"], 1, USAGE),
     (&["play", "--lease", "1001"], 1, USAGE),
     (&["play", "--image"], 1, USAGE),
     (&["recover", "--lease", "1"], 1, USAGE),
@@ -65,7 +66,7 @@ const UNREAD: [(&[&str], u8, &str); 46] = [
     (&["mkfs", "00000000064", "16", "64"], 1, USAGE),
     (&["bench"], 1, USAGE),
     (&["audit"], 1, USAGE),
-    (&["play", "--mirror", "g"], 1, USAGE),
+    (&["play", "--mirror", "g", "--mirror=h"], 1, USAGE),
     (&["tree"], 3, NO_SUPERBLOCK),
     (&["tree", "--trace"], 1, USAGE),
     (&["recover", "--image", "f"], 3, NO_SUPERBLOCK),
@@ -86,7 +87,9 @@ const UNREAD: [(&[&str], u8, &str); 46] = [
     (&["mkfs", "64", "16", "63"], 1, "ufs: bad geometry 3\n"),
     (&["mkfs", "64", "4096", "64"], 1, "ufs: bad geometry 4\n"),
     (&["mkfs", "257", "32", "64"], 3, TOO_SMALL),
-    (&["bench", "1"], 2, NOT_BUILT),
+    (&["mkfs", "--image=f", "256", "032", "64"], 0, MADE),
+    (&["bench", "1"], 3, TOO_SMALL),
+    (&["bench", "--image=f", "4294967295"], 3, TOO_SMALL),
 ];
 
 // Words, the numbers of the reads and of the writes that fail, and the status and the text, over a new image. Lines that fill

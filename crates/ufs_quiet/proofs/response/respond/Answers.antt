@@ -1,7 +1,7 @@
 use Rattle.std.proofs.Common.{◌≡◌, Option, Some, ap, sym, subst, ◌∙◌, map, string_bytes}
 use Rattle.ufs_quiet.specs.declared.words.Command.{Command}
 use Rattle.ufs_words.specs.Values.{image_word}
-use Rattle.ufs_quiet.specs.Commands.{is_play}
+use Rattle.ufs_quiet.specs.Commands.{serves}
 use Rattle.ufs_quiet.specs.Seen.{reading, writing, formatting, course}
 use Rattle.ufs_quiet.specs.Told.{Tells}
 use Rattle.ufs_quiet.specs.Left.{LeavesDisk, LeavesSource}
@@ -39,4 +39,4 @@ pub returns-in-Some-clause-served : goal.returns-in-Some-clause-served
 returns-in-Some-clause-served g c other =
     let named : image_word (map string_bytes c.in-Ok.words.items) ≡ Some c.in-Some.field-0.now = sym c.in-Some.ensures in
     let same = same_command c.args.words.now c.in-Ok.words c.in-Some.field-0.now c.in-Ok.is named in
-    c.quiet.ensures.served (sym (ap is_play same) ∙ other)
+    c.quiet.ensures.served (sym (ap serves same) ∙ other)

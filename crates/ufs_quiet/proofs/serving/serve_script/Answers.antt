@@ -20,7 +20,7 @@ returns-clause-answer g c =
     let is = c.play-played.ensures in
     let has : HasPlayed d script told ended = record { legal = is.legal; refused = is.refused; opening = is.opening; closing = is.closing; played = is.played; opened = is.opened; why = is.why; unopened = is.unopened } in
     answer_map (EndsPlayed ended (session_lines c.args.trace (joined told))) (EndsServing c.args.trace d script told) (writing g.K.Sink.held g.K.Sink.faults c.args.sink.now c.tell_played.new.sink) c.tell_played.result
-    (played_ends c.args.trace d script told ended has) c.tell_played.ensures
+    (played_ends (session_lines c.args.trace (joined told)) d script told ended has) c.tell_played.ensures
 
 pub returns-clause-acts : goal.returns-clause-acts
 returns-clause-acts g c =

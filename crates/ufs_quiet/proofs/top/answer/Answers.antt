@@ -6,7 +6,7 @@ use Rattle.ufs_quiet.specs.Commands.{is_play}
 use Rattle.ufs_quiet.specs.Seen.{reading, writing, formatting, course}
 use Rattle.ufs_quiet.specs.Endings.{IsAnswer}
 use Rattle.ufs_quiet.specs.Ends.{EndsCommand}
-use Rattle.ufs_quiet.proofs.LeftLemmas.{none_faults, played_left}
+use Rattle.ufs_quiet.proofs.LeftLemmas.{bench_left, none_faults, played_left}
 use Rattle.ufs_quiet.proofs.top.answer.Goals as goal
 
 pub returns-in-Play-clause-answer : goal.returns-in-Play-clause-answer
@@ -27,6 +27,20 @@ pub returns-in-Play-clause-source : goal.returns-in-Play-clause-source
 returns-in-Play-clause-source g c =
     let is : c.args.command ≡ Some (command.Play c.in-Play.trace) = c.in-Some.is ∙ ap (λ (x : Command). Some x) c.in-Play.is in
     record { told = c.read_and_serve.ensures.source_told; unread = λ other. absurd (let played : true ≡ false = sym (ap is_play is) ∙ other in cc) }
+
+pub returns-in-Bench-clause-answer : goal.returns-in-Bench-clause-answer
+returns-in-Bench-clause-answer g c =
+    let is : c.args.command ≡ Some (command.Bench c.in-Bench.seed) = c.in-Some.is ∙ ap (λ (x : Command). Some x) c.in-Bench.is in
+    let r = reading g.S.Source.left g.S.Source.faults c.args.source.now c.args.source.now in
+    let d = formatting g.D.Disk.visible g.D.Disk.size g.D.Disk.moments g.D.Disk.faults c.args.disk c.bench.result.disk in
+    subst (λ (x : Option Command). IsAnswer (EndsCommand x r d c.bench.result.told) (writing g.K.Sink.held g.K.Sink.faults c.args.sink.now c.bench.new.sink) c.bench.result.status) (sym is) c.bench.ensures.answer
+
+pub returns-in-Bench-clause-disk : goal.returns-in-Bench-clause-disk
+returns-in-Bench-clause-disk g c =
+    let is : c.args.command ≡ Some (command.Bench c.in-Bench.seed) = c.in-Some.is ∙ ap (λ (x : Command). Some x) c.in-Bench.is in
+    bench_left c.args.command c.in-Bench.seed is c.bench.result.told c.bench.result.status
+    (course g.D.Disk.visible g.D.Disk.keeps g.D.Disk.size g.D.Disk.moments g.D.Disk.faults c.args.disk c.bench.result.disk)
+    c.bench.ensures.acts c.bench.ensures.size c.bench.ensures.disk_told
 
 pub returns-in_default-clause-faults : goal.returns-in_default-clause-faults
 returns-in_default-clause-faults g c = none_faults (g.D.Disk.faults c.args.disk) (g.D.Disk.faults c.args.disk) c.nothing_told.result c.nothing_told.ensures

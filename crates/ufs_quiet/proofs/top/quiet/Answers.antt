@@ -1,6 +1,6 @@
 use Rattle.std.proofs.Common.{◌≡◌, ◌∙◌, Option, ap, subst, refl}
 use Rattle.ufs_quiet.specs.declared.words.Command.{Command}
-use Rattle.ufs_quiet.specs.Commands.{asked, is_play}
+use Rattle.ufs_quiet.specs.Commands.{asked, serves}
 use Rattle.ufs_quiet.specs.Seen.{reading, writing, formatting, course}
 use Rattle.ufs_quiet.specs.Endings.{IsAnswer}
 use Rattle.ufs_quiet.specs.Ends.{Ends}
@@ -44,7 +44,7 @@ returns-in-Ok-clause-source g c =
 pub returns-in-Ok-clause-served : goal.returns-in-Ok-clause-served
 returns-in-Ok-clause-served g c other =
     let is : c.in-Ok.command ≡ asked c.args.words.now.items = c.in-Ok.ensures ∙ ap asked c.as_slice.ensures.value in
-    c.answer.ensures.served (ap is_play is ∙ other)
+    c.answer.ensures.served (ap serves is ∙ other)
 
 -- ---- there was no memory for them
 

@@ -1,0 +1,52 @@
+use Rattle.std.proofs.Common.{inl, inr}
+use Rattle.ufs_disk.specs.Moments.{reads}
+use Rattle.ufs_last.specs.Last.{StandsForTree}
+use Rattle.ufs_model.specs.History.{joined, tree_after}
+use Rattle.ufs_recovery.specs.Recovered.{IsCleanDisk}
+use Rattle.ufs_quiet.specs.Seen.{formatting, writing}
+use Rattle.ufs_quiet.specs.Bench.{bench_script, bench_text}
+use Rattle.ufs_quiet.specs.Endings.{EndsPlayed, EndsServed}
+use Rattle.ufs_quiet.proofs.AnswerLemmas.{answer_map}
+use Rattle.ufs_quiet.proofs.LeavingLemmas.{left_still, never_unread, on_whole}
+use Rattle.ufs_quiet.proofs.ServingLemmas.{HasPlayed, played_ends}
+use Rattle.ufs_quiet.proofs.bench.serve_workload.Goals as goal
+
+pub returns-clause-answer : goal.returns-clause-answer
+returns-clause-answer g c =
+    let told = c.play-played.result.told in
+    let ended = c.play-played.result.ended in
+    let script = bench_script c.args.clients in
+    let d = formatting g.D.Disk.visible g.D.Disk.size g.D.Disk.moments g.D.Disk.faults c.args.disk c.play-played.result.disk in
+    let is = c.play-played.ensures in
+    let has : HasPlayed d script told ended = record { legal = is.legal; refused = is.refused; opening = is.opening; closing = is.closing; played = is.played; opened = is.opened; why = is.why; unopened = is.unopened } in
+    answer_map (EndsPlayed ended (bench_text told)) (EndsServed (bench_text told) d script told) (writing g.K.Sink.held g.K.Sink.faults c.args.sink.now c.tell_bench.new.sink) c.tell_bench.result
+    (played_ends (bench_text told) d script told ended has) c.tell_bench.ensures
+
+pub returns-clause-acts : goal.returns-clause-acts
+returns-clause-acts g c =
+    let told = c.play-played.result.told in
+    let ended = c.play-played.result.ended in
+    let w = writing g.K.Sink.held g.K.Sink.faults c.args.sink.now c.tell_bench.new.sink in
+    let status = c.tell_bench.result in
+    let is = c.play-played.ensures in
+    let size = g.D.Disk.size c.args.disk in
+    let to = g.D.Disk.moments c.play-played.result.disk in
+    record {
+      crash = is.crash;
+      proper = is.proper;
+      always = is.moments;
+      stamped = is.stamped;
+      clean = λ may zero. on_whole ended (bench_text told) w status c.tell_bench.ensures (IsCleanDisk size to.state) (is.clean may) zero;
+      last = λ may start with zero. on_whole ended (bench_text told) w status c.tell_bench.ensures (StandsForTree size (tree_after start (joined told)) (reads to)) (is.last may start with) zero;
+      unserved = is.unserved;
+      undone = λ visible refusal none zero. on_whole ended (bench_text told) w status c.tell_bench.ensures ⊥ (is.stands visible refusal none) zero;
+      broken = λ two. absurd (never_unread ended (bench_text told) w status c.tell_bench.ensures (inl two));
+      unread = λ six. absurd (never_unread ended (bench_text told) w status c.tell_bench.ensures (inr six));
+    }
+
+pub returns-clause-disk_told : goal.returns-clause-disk_told
+returns-clause-disk_told g c four seven five =
+    let told = c.play-played.result.told in
+    let w = writing g.K.Sink.held g.K.Sink.faults c.args.sink.now c.tell_bench.new.sink in
+    left_still c.play-played.result.ended (bench_text told) w c.tell_bench.result c.tell_bench.ensures (g.D.Disk.faults c.args.disk) (g.D.Disk.faults c.play-played.result.disk)
+    (joined told) c.play-played.ensures.closing c.play-played.ensures.opening four seven five
