@@ -2,7 +2,7 @@
 #![tactic(auto)]
 
 use std::process::ExitCode;
-use ufs_quiet::process_status;
+use ufs_process::process_status;
 
 fn main(rt: HostRuntime) -> ExitCode {
     ExitCode::from(process_status(&rt))

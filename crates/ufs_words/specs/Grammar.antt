@@ -19,38 +19,38 @@ lease = record (new_rule (codes "lease")) { long = Some (codes "lease") }
 abbrev pub trace : Rule
 trace = record (new_rule (codes "trace")) { long = Some (codes "trace"); action = Some SetTrue }
 
--- `--image FILE`, the path of the image's file, which isn't empty
-abbrev pub image : Rule
-image = record (new_rule (codes "image")) { long = Some (codes "image"); parser = Some NonEmptyString }
+-- the path of a file, as `--image FILE`; it isn't empty
+abbrev pub file : Text → Rule
+file name = record (new_rule name) { long = Some name; parser = Some NonEmptyString }
 
 -- ---- subcommands
 
 abbrev pub subcommand : Text → App
 subcommand name = record { top = record (new_shape name) { disable_help_flag = true }; subs = [] }
 
--- every subcommand takes `--image FILE`
-abbrev pub with_image : App → App
-with_image a = with_rule a image
+-- `--image FILE` and `--mirror FILE`, which every subcommand takes
+abbrev pub with_files : App → App
+with_files a = with_rule (with_rule a (file (codes "image"))) (file (codes "mirror"))
 
 -- `mkfs BLOCKS INODES JOURNAL`
 abbrev pub mkfs : App
-mkfs = with_image (with_rule (with_rule (with_rule (subcommand (codes "mkfs")) (positional (codes "blocks"))) (positional (codes "inodes"))) (positional (codes "journal")))
+mkfs = with_files (with_rule (with_rule (with_rule (subcommand (codes "mkfs")) (positional (codes "blocks"))) (positional (codes "inodes"))) (positional (codes "journal")))
 
 -- `play [--lease L] [--trace]`
 abbrev pub play : App
-play = with_image (with_rule (with_rule (subcommand (codes "play")) lease) trace)
+play = with_files (with_rule (with_rule (subcommand (codes "play")) lease) trace)
 
 -- `run WORKERS [--lease L] [--trace]`
 abbrev pub run : App
-run = with_image (with_rule (with_rule (with_rule (subcommand (codes "run")) (positional (codes "workers"))) lease) trace)
+run = with_files (with_rule (with_rule (with_rule (subcommand (codes "run")) (positional (codes "workers"))) lease) trace)
 
 -- `bench SEED [--lease L]`
 abbrev pub bench : App
-bench = with_image (with_rule (with_rule (subcommand (codes "bench")) (positional (codes "seed"))) lease)
+bench = with_files (with_rule (with_rule (subcommand (codes "bench")) (positional (codes "seed"))) lease)
 
--- `recover`, `check` and `tree`, which take the image alone
+-- `recover`, `check` and `tree`, which take files alone
 abbrev pub plain : Text → App
-plain name = with_image (subcommand name)
+plain name = with_files (subcommand name)
 
 -- ---- the command
 

@@ -28,3 +28,7 @@ option_value name (word ∷ words) =
 -- the path of the image's file
 abbrev pub image_word : List (List ℕ) → Option (List ℕ)
 image_word words = option_value (codes "--image") words
+
+-- the path of the mirror's file
+abbrev pub mirror_word : List (List ℕ) → Option (List ℕ)
+mirror_word words = option_value (codes "--mirror") words

@@ -2,7 +2,7 @@
 ghost use Rattle.std.specs.Prelude.{◌≡◌, IfOk, false};
 ghost use Rattle.clap.specs.Words.{app_of, rule_of, with_rule, with_subcommand};
 ghost use Rattle.clap.specs.declared.builder.command.Command.TheViews.{out-Command};
-ghost use Rattle.ufs_words.specs.Grammar.{bare, bench, image, lease, mkfs, plain, play, positional, run, subcommand, trace, ufs, with_image, with_images, with_sessions};
+ghost use Rattle.ufs_words.specs.Grammar.{bare, bench, file, lease, mkfs, plain, play, positional, run, subcommand, trace, ufs, with_files, with_images, with_sessions};
 
 use clap::builder::ValueParser;
 use clap::{Arg, ArgAction, Command};
@@ -31,12 +31,12 @@ fn trace<'a>(alloc: Global) -> Arg<'a>
         .action(ArgAction::SetTrue)
 }
 
-fn image<'a>(alloc: Global) -> Arg<'a>
-    ensures rule { rule_of result ≡ image }
+fn file<'a>(alloc: Global, name: &'a str) -> Arg<'a>
+    ensures rule { rule_of result ≡ file name.entry.now }
     ensures local { result.global ≡ false }
 {
-    Arg::new(alloc, "image")
-        .long("image")
+    Arg::new(alloc, name)
+        .long(name)
         .value_parser(ValueParser::NonEmptyString)
 }
 
@@ -49,12 +49,13 @@ fn with<'a>(command: Command<'a>, arg: Arg<'a>) -> Result<Command<'a>, AllocErro
     command.arg(arg)
 }
 
-// The option that every subcommand takes.
-fn with_image<'a>(alloc: Global, command: Command<'a>) -> Result<Command<'a>, AllocError>
-    ensures app { IfOk result (λ c. app_of c ≡ with_image (app_of command.entry)) }
+// The options that every subcommand takes.
+fn with_files<'a>(alloc: Global, command: Command<'a>) -> Result<Command<'a>, AllocError>
+    ensures app { IfOk result (λ c. app_of c ≡ with_files (app_of command.entry)) }
     ensures local { IfOk result (λ c. (out-Command c).has_globals ≡ (out-Command command.entry).has_globals) }
 {
-    with(command, image(alloc))
+    let command = with(command, file(alloc, "image"))?;
+    with(command, file(alloc, "mirror"))
 }
 
 fn subcommand<'a>(alloc: Global, name: &'a str) -> Command<'a>
@@ -71,7 +72,7 @@ fn mkfs<'a>(alloc: Global) -> Result<Command<'a>, AllocError>
     let command = with(subcommand(alloc, "mkfs"), positional(alloc, "blocks"))?;
     let command = with(command, positional(alloc, "inodes"))?;
     let command = with(command, positional(alloc, "journal"))?;
-    with_image(alloc, command)
+    with_files(alloc, command)
 }
 
 fn play<'a>(alloc: Global) -> Result<Command<'a>, AllocError>
@@ -80,7 +81,7 @@ fn play<'a>(alloc: Global) -> Result<Command<'a>, AllocError>
 {
     let command = with(subcommand(alloc, "play"), lease(alloc))?;
     let command = with(command, trace(alloc))?;
-    with_image(alloc, command)
+    with_files(alloc, command)
 }
 
 fn run<'a>(alloc: Global) -> Result<Command<'a>, AllocError>
@@ -90,7 +91,7 @@ fn run<'a>(alloc: Global) -> Result<Command<'a>, AllocError>
     let command = with(subcommand(alloc, "run"), positional(alloc, "workers"))?;
     let command = with(command, lease(alloc))?;
     let command = with(command, trace(alloc))?;
-    with_image(alloc, command)
+    with_files(alloc, command)
 }
 
 fn bench<'a>(alloc: Global) -> Result<Command<'a>, AllocError>
@@ -99,14 +100,14 @@ fn bench<'a>(alloc: Global) -> Result<Command<'a>, AllocError>
 {
     let command = with(subcommand(alloc, "bench"), positional(alloc, "seed"))?;
     let command = with(command, lease(alloc))?;
-    with_image(alloc, command)
+    with_files(alloc, command)
 }
 
 fn plain<'a>(alloc: Global, name: &'a str) -> Result<Command<'a>, AllocError>
     ensures app { IfOk result (λ c. app_of c ≡ plain name.entry.now) }
     ensures local { IfOk result (λ c. (out-Command c).has_globals ≡ false) }
 {
-    with_image(alloc, subcommand(alloc, name))
+    with_files(alloc, subcommand(alloc, name))
 }
 
 // One more subcommand.

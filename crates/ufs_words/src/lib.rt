@@ -1,4 +1,4 @@
-//! The words of the command line: which command they are, and which file they name.
+//! The words of the command line: which command they are, and which files they name.
 #![tactic(auto)]
 
 mod command;
@@ -7,4 +7,4 @@ mod numbers;
 mod values;
 
 pub use command::{Command, read_command};
-pub use values::image_of;
+pub use values::{image_of, mirror_of};

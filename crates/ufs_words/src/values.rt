@@ -1,5 +1,5 @@
 ghost use Rattle.std.specs.Prelude.{◌≡◌, ◌++◌, codes, map, option_map, string_bytes};
-ghost use Rattle.ufs_words.specs.Values.{behind, first_word, image_word, option_value};
+ghost use Rattle.ufs_words.specs.Values.{behind, first_word, image_word, mirror_word, option_value};
 
 // What stands behind the name and `=` in a word.
 fn attached<'a>(word: &'a str, front: &str) -> Option<&'a str>
@@ -40,4 +40,11 @@ pub fn image_of(words: &Vec<String>) -> Option<&str>
     ensures { option_map (λ s. s.now) result ≡ image_word (map string_bytes words.now.items) }
 {
     option_value(words.as_slice(), "--image", "--image=")
+}
+
+/// The path of the mirror's file, by `--mirror` in the same way.
+pub fn mirror_of(words: &Vec<String>) -> Option<&str>
+    ensures { option_map (λ s. s.now) result ≡ mirror_word (map string_bytes words.now.items) }
+{
+    option_value(words.as_slice(), "--mirror", "--mirror=")
 }

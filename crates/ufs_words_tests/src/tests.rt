@@ -1,7 +1,7 @@
 use crate::asserts::same;
 use std::alloc::AllocGlobal;
 use std::process::Abort;
-use ufs_words::{Command, image_of, read_command};
+use ufs_words::{Command, image_of, mirror_of, read_command};
 
 const MKFS: Command = Command::Mkfs {
     blocks: 256,
@@ -39,20 +39,20 @@ const BENCH: Command = Command::Bench {
 const TAKEN: [(&str, Command); 16] = [
     ("mkfs 256 32 64", MKFS),
     ("mkfs 0000000256 032 64 --image a", MKFS),
-    ("mkfs --image=a 256 32 64", MKFS),
+    ("mkfs --image=a 256 --mirror b 32 64", MKFS),
     ("mkfs 256 32 -- 64", MKFS),
     ("play", PLAY),
     ("play --image a", PLAY),
     ("play --image=--trace", PLAY),
     ("play --trace", TRACED),
-    ("play --trace --image=b", TRACED),
+    ("play --trace --mirror=a --image=b", TRACED),
     ("play --lease 1000 --trace", LEASED),
     ("play --trace --lease=1000", LEASED),
     ("run --lease 0 8 --trace", RUN),
     ("bench 4294967295", BENCH),
     ("recover", Command::Recover),
     ("check", Command::Check),
-    ("tree --image a", Command::Tree),
+    ("tree --mirror a", Command::Tree),
 ];
 
 // Words that are no command.
@@ -88,7 +88,7 @@ const REFUSED: [&str; 38] = [
     "play --image=",
     "play --image --trace",
     "play --image a --image=b",
-    "play --mirror a",
+    "play --mirror a --mirror a",
     "run",
     "run 0",
     "run 9",
@@ -131,24 +131,24 @@ fn other_words_are_refused(rt: HostRuntime) {
     );
 }
 
-// Asserts which words name the image.
-fn names(rt: &impl Abort, words: &Vec<String>, image: Option<&str>) {
-    assert_eq!(rt; image_of(words), image);
+// Asserts which words name the image and its mirror.
+fn names(rt: &impl Abort, words: &Vec<String>, image: Option<&str>, mirror: Option<&str>) {
+    assert_eq!(rt; (image_of(words), mirror_of(words)), (image, mirror));
 }
 
 #[test]
-fn the_image_is_the_word_behind_its_option(rt: HostRuntime) {
-    let rows: [(&str, Option<&str>); 8] = [
-        ("play", None),
-        ("--image", None),
-        ("mkfs --image a", Some("a")),
-        ("--image a --image=b", Some("a")),
-        ("play --image=a=b --image c", Some("a=b")),
-        ("play --image --image", Some("--image")),
-        ("--image= --image a", Some("")),
-        ("--imagea play", None),
+fn files_are_the_words_behind_their_options(rt: HostRuntime) {
+    let rows: [(&str, Option<&str>, Option<&str>); 8] = [
+        ("play", None, None),
+        ("--image", None, None),
+        ("mkfs --image a", Some("a"), None),
+        ("--image a --image=b", Some("a"), None),
+        ("play --image=a=b --image c", Some("a=b"), None),
+        ("play --image --image", Some("--image"), None),
+        ("--mirror= --image=a --mirror b", Some("a"), Some("")),
+        ("--imagea --mirror b", None, Some("b")),
     ];
-    for (line, image) in &rows {
-        names(&rt, &words_of(&rt, *line), *image);
+    for (line, image, mirror) in &rows {
+        names(&rt, &words_of(&rt, *line), *image, *mirror);
     }
 }

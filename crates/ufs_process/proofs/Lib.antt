@@ -1,0 +1,4 @@
+mod ThroughoutLemmas
+mod ViewLemmas
+mod OpeningLemmas
+mod AnswerLemmas

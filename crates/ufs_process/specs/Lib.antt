@@ -1,0 +1,5 @@
+pub mod Views
+pub mod Refusals
+pub mod Joining
+pub mod Throughout
+pub mod Mirrored

@@ -1,0 +1,31 @@
+// Telling why nothing is done.
+ghost use Rattle.std.specs.Prelude.{◌≡◌, ◌⊎◌};
+ghost use Rattle.ufs_quiet.specs.Endings.{IsAnswer, IsFixed, IsLine, sink_status, status_of};
+ghost use Rattle.ufs_quiet.specs.Seen.{writing};
+ghost use Rattle.ufs_process.specs.Refusals.{mirror_ending, mirror_line};
+
+use ufs_io::Sink;
+use ufs_mirror::MirrorFault;
+use ufs_quiet::{Ending, tell, tell_device};
+
+/// Ends with the line that is always the same.
+pub fn finish<K: Sink>(sink: &mut K, ending: Ending) -> u8
+    ensures { IsAnswer (IsFixed ending) (writing K.held K.faults sink.old sink.new) result }
+{
+    tell(sink, ending, ending.fixed_line())
+}
+
+/// Ends with why two legs make no mirror. Takes no memory.
+pub fn tell_mirror_fault<K: Sink>(sink: &mut K, fault: MirrorFault) -> u8
+    ensures answer { IsAnswer (IsLine (mirror_ending fault) (mirror_line fault)) (writing K.held K.faults sink.old sink.new) result }
+    ensures status { (result ≡ status_of (mirror_ending fault)) ⊎ (result ≡ sink_status) }
+{
+    match fault {
+        MirrorFault::NoLabel => tell(sink, Ending::NoTree, b"ufs: mirror: NoLabel\n".as_slice()),
+        MirrorFault::Unequal { .. } => {
+            tell(sink, Ending::NoTree, b"ufs: mirror: Unequal\n".as_slice())
+        }
+        MirrorFault::TooSmall => tell(sink, Ending::NoTree, b"ufs: mirror: TooSmall\n".as_slice()),
+        MirrorFault::Device { fault } => tell_device(sink, fault),
+    }
+}

@@ -1,0 +1,143 @@
+ghost use Rattle.std.specs.Prelude.{◌≡◌, ◌⊎◌, [], Some, IsTrue, false};
+ghost use Rattle.ufs_quiet.specs.Commands.{asked, serves};
+ghost use Rattle.ufs_quiet.specs.Left.{LeavesSource};
+ghost use Rattle.ufs_quiet.specs.Seen.{reading, writing};
+ghost use Rattle.ufs_process.specs.Joining.{Joins, is_mkfs, works_on_disk};
+ghost use Rattle.ufs_process.specs.Mirrored.{AnswersOver, LeavesLegs, RefusesLegs, ServesMirror};
+ghost use Rattle.ufs_process.specs.Views.{handed, kind, view};
+
+use crate::outcome::MirrorOutcome;
+use crate::refusal::{finish, tell_mirror_fault};
+use std::alloc::Global;
+use ufs_base::Lack;
+use ufs_disk::Disk;
+use ufs_io::{Sink, Source};
+use ufs_mirror::{Legpair, Mirror};
+use ufs_quiet::{Command, Ending, nothing_told, out_of_memory, quiet, read_command};
+
+// A command over a mirror.
+fn serve<S: Source, K: Sink, A: Disk, B: Disk>(
+    alloc: Global,
+    words: &Vec<String>,
+    source: &mut S,
+    sink: &mut K,
+    mirror: Mirror<A, B>,
+) -> MirrorOutcome<A, B>
+    requires works { IsTrue (works_on_disk (asked words.now.items)) }
+    ensures served { (first : A) (second : B)
+        → Joins (kind A.visible A.keeps A.size A.moments A.faults) (kind B.visible B.keeps B.size B.moments B.faults) (asked words.now.items) first second (view mirror.legs.both mirror.legs.log.items mirror.legs.picks mirror.faults mirror.sectors)
+        → ServesMirror (kind A.visible A.keeps A.size A.moments A.faults) (kind B.visible B.keeps B.size B.moments B.faults) (asked words.now.items)
+        (reading S.left S.faults source.old source.new) (writing K.held K.faults sink.old sink.new) (handed first second result.first result.second result.told result.status) }
+    ensures source { LeavesSource (asked words.now.items) result.status (reading S.left S.faults source.old source.new) }
+    ensures told { serves (asked words.now.items) ≡ false → result.told ≡ [] }
+{
+    let outcome = quiet(alloc, words, source, sink, mirror);
+    // For the prover alone.
+    let _live = outcome.disk.live();
+    let Legpair { first, second } = outcome.disk.apart();
+    MirrorOutcome {
+        status: outcome.status,
+        told: outcome.told,
+        first,
+        second,
+    }
+}
+
+// `mkfs` over two legs.
+fn make<S: Source, K: Sink, A: Disk, B: Disk>(
+    alloc: Global,
+    words: &Vec<String>,
+    source: &mut S,
+    sink: &mut K,
+    first: A,
+    second: B,
+) -> MirrorOutcome<A, B>
+    requires works { IsTrue (works_on_disk (asked words.now.items)) }
+    requires makes { IsTrue (is_mkfs (asked words.now.items)) }
+    ensures answer { RefusesLegs (kind A.visible A.keeps A.size A.moments A.faults) (kind B.visible B.keeps B.size B.moments B.faults) (asked words.now.items)
+        (reading S.left S.faults source.old source.new) (writing K.held K.faults sink.old sink.new) (handed first second result.first result.second result.told result.status)
+        ⊎ ServesMirror (kind A.visible A.keeps A.size A.moments A.faults) (kind B.visible B.keeps B.size B.moments B.faults) (asked words.now.items)
+        (reading S.left S.faults source.old source.new) (writing K.held K.faults sink.old sink.new) (handed first second result.first result.second result.told result.status) }
+    ensures source { LeavesSource (asked words.now.items) result.status (reading S.left S.faults source.old source.new) }
+    ensures told { serves (asked words.now.items) ≡ false → result.told ≡ [] }
+{
+    match Mirror::make(first, second) {
+        Ok(mirror) => serve(alloc, words, source, sink, mirror),
+        Err(unpaired) => {
+            let status = tell_mirror_fault(sink, unpaired.fault);
+            MirrorOutcome {
+                status,
+                told: nothing_told(alloc),
+                first: unpaired.first,
+                second: unpaired.second,
+            }
+        }
+    }
+}
+
+// Any other command over two legs.
+fn open<S: Source, K: Sink, A: Disk, B: Disk>(
+    alloc: Global,
+    words: &Vec<String>,
+    source: &mut S,
+    sink: &mut K,
+    first: A,
+    second: B,
+) -> MirrorOutcome<A, B>
+    requires works { IsTrue (works_on_disk (asked words.now.items)) }
+    requires opens { is_mkfs (asked words.now.items) ≡ false }
+    ensures answer { RefusesLegs (kind A.visible A.keeps A.size A.moments A.faults) (kind B.visible B.keeps B.size B.moments B.faults) (asked words.now.items)
+        (reading S.left S.faults source.old source.new) (writing K.held K.faults sink.old sink.new) (handed first second result.first result.second result.told result.status)
+        ⊎ ServesMirror (kind A.visible A.keeps A.size A.moments A.faults) (kind B.visible B.keeps B.size B.moments B.faults) (asked words.now.items)
+        (reading S.left S.faults source.old source.new) (writing K.held K.faults sink.old sink.new) (handed first second result.first result.second result.told result.status) }
+    ensures source { LeavesSource (asked words.now.items) result.status (reading S.left S.faults source.old source.new) }
+    ensures told { serves (asked words.now.items) ≡ false → result.told ≡ [] }
+{
+    match Mirror::open(first, second) {
+        Ok(mirror) => serve(alloc, words, source, sink, mirror),
+        Err(unpaired) => {
+            let status = tell_mirror_fault(sink, unpaired.fault);
+            MirrorOutcome {
+                status,
+                told: nothing_told(alloc),
+                first: unpaired.first,
+                second: unpaired.second,
+            }
+        }
+    }
+}
+
+/// Serves a command that waits for nobody over two legs as one: `mkfs` makes the mirror, every other
+/// command opens it.
+pub fn mirrored<S: Source, K: Sink, A: Disk, B: Disk>(
+    alloc: Global,
+    words: &Vec<String>,
+    source: &mut S,
+    sink: &mut K,
+    first: A,
+    second: B,
+) -> MirrorOutcome<A, B>
+    // Words that are no command, or one that isn't built, call no leg. Legs that make no mirror are told with their cause before
+    // the source is read. Else all that `quiet` says of a disk holds of the mirror, and at each moment, whatever pair of images
+    // the legs may have left: where it opens, it opens to an image that the command allows a crash to leave there.
+    ensures answer { AnswersOver (kind A.visible A.keeps A.size A.moments A.faults) (kind B.visible B.keeps B.size B.moments B.faults) (asked words.now.items)
+        (reading S.left S.faults source.old source.new) (writing K.held K.faults sink.old sink.new) (handed first second result.first result.second result.told result.status) }
+    // The source: only `play` reads it, and its fault is told by status 6 or 7.
+    ensures source { LeavesSource (asked words.now.items) result.status (reading S.left S.faults source.old source.new) }
+    // Only `play` and `bench` serve clients.
+    ensures served { serves (asked words.now.items) ≡ false → result.told ≡ [] }
+{
+    let status = match read_command(alloc, words.as_slice()) {
+        Ok(Some(Command::NotBuilt)) => finish(sink, Ending::NotBuilt),
+        Ok(Some(Command::Mkfs { .. })) => return make(alloc, words, source, sink, first, second),
+        Ok(Some(_)) => return open(alloc, words, source, sink, first, second),
+        Ok(None) => finish(sink, Ending::Usage),
+        Err(memory) => out_of_memory(sink, Lack::Memory(memory)),
+    };
+    MirrorOutcome {
+        status,
+        told: nothing_told(alloc),
+        first,
+        second,
+    }
+}
