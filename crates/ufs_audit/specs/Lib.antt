@@ -1,0 +1,7 @@
+pub mod Trace
+pub mod Replies
+pub mod Audit
+pub mod Following
+pub mod Sources
+pub mod Ends
+pub mod Laws
