@@ -23,6 +23,7 @@ MAY = {
     # the one ending for all of them
     "ufs_quiet/src/finish.rt": {"Ending::OutOfMemory": 1},
     # a number at its end
+    "ufs_bench/src/replay.rt": {"Lack::AtEnd": 1, "Lack::Unsound": 1},
     "ufs_catalog/src/dirs.rt": {"Lack::AtEnd": 1},
     "ufs_ilog/src/name_notes.rt": {"Lack::AtEnd": 1},
     "ufs_ilog/src/names_log.rt": {"Lack::AtEnd": 1},
@@ -30,7 +31,6 @@ MAY = {
     "ufs_owner/src/table.rt": {"Lack::AtEnd": 1},
     "ufs_recovery/src/plan.rt": {"Lack::AtEnd": 1},
     "ufs_server/src/fetching.rt": {"Lack::AtEnd": 1},
-    "ufs_start/src/files.rt": {"Lack::AtEnd": 1, "Lack::Unsound": 1},
     "ufs_start/src/numbers.rt": {"Lack::AtEnd": 1},
     "ufs_store/src/commits.rt": {"Lack::AtEnd": 1},
     "ufs_store/src/homes.rt": {"Lack::AtEnd": 1},
@@ -38,18 +38,14 @@ MAY = {
     "ufs_tree/src/answer.rt": {"Lack::AtEnd": 1},
     "ufs_tree/src/counts.rt": {"Lack::AtEnd": 1},
     "ufs_volume/src/reading.rt": {"Lack::AtEnd": 1},
-    # what no sound image has, and what no caller asks for
+    # what a disk has that doesn't give back what it was given, and what no caller asks for
     "ufs_engine/src/closing.rt": {"Lack::Told": 1, "Lack::Unsound": 1},
     "ufs_server/src/file_requests.rt": {"Lack::Unsound": 1},
-    "ufs_start/src/dirs.rt": {"Lack::Unsound": 8},
-    "ufs_start/src/extents.rt": {"Lack::Unsound": 2},
-    "ufs_start/src/tables.rt": {"Lack::Unsound": 2},
-    "ufs_start/src/used.rt": {"Lack::Unsound": 2},
     "ufs_tree/src/texts.rt": {"Lack::Unsound": 1},
     # the reader of words tells a refused allocation by the kind of its error alone
     "ufs_words/src/command.rt": {"AllocError": 1},
     # an error of the system carries nothing
-    "ufs_quiet/src/process.rt": {"Lack::Told": 1},
+    "ufs_process/src/process.rt": {"Lack::Told": 1},
 }
 
 NAMES = {
