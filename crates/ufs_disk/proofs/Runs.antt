@@ -1,10 +1,10 @@
 -- How a run of calls goes on.
-use Rattle.std.proofs.Common.{◌≡◌, Bool, List, [], ◌∷◌, ◌++◌, sym, ◌∙◌, ap, subst, append_assoc}
+use Rattle.std.proofs.Common.{◌≡◌, Bool, List, [], ◌∷◌, ◌++◌, refl, sym, ◌∙◌, ap, subst, append_assoc}
 use Rattle.std.specs.List.{AllByRecursion}
 use Rattle.std.proofs.lemmas.List.{append-nil}
 use Rattle.ufs_base.specs.Images.{Image}
 use Rattle.ufs_disk.specs.Disk.{State, IsImage, Leaves}
-use Rattle.ufs_disk.specs.Moments.{Moments, all, Passes, LeavesOnly}
+use Rattle.ufs_disk.specs.Moments.{Moments, all, Passes, IsStill, LeavesOnly}
 
 pub all_append : {X : Type 0} (P : X → Type 0) (xs ys : List X) → AllByRecursion P xs → AllByRecursion P ys → AllByRecursion P (xs ++ ys)
 all_append P [] ys left right = right
@@ -23,6 +23,27 @@ passes_joined P first mid new front back = record {
 
 pub passes_weaker : (P Q : State → Type 0) → ((state : State) → P state → Q state) → (old new : Moments) → Passes P old new → Passes Q old new
 passes_weaker P Q leads old new run = record { inside = run.inside; whole = run.whole; each = all_map P Q leads run.inside run.each }
+
+-- ---- reads
+
+module _ (keeps : Bool) where
+  -- before the first one
+  pub still : (now : Moments) → IsStill keeps now now
+  still now = record { state = refl; between = λ kept. record { inside = []; whole = sym (append-nil (all now)); each = tt } }
+
+  pub stays_still : (old new : Moments) → new ≡ old → IsStill keeps old new
+  stays_still old new same = subst (IsStill keeps old) (sym same) (still old)
+
+  -- one after another
+  pub still_joined : (first mid new : Moments) → IsStill keeps first mid → IsStill keeps mid new → IsStill keeps first new
+  still_joined first mid new front back = record {
+    state = back.state ∙ front.state;
+    between = λ kept.
+        passes_joined (λ state. state ≡ first.state) first mid new (front.between kept)
+        (passes_weaker (λ state. state ≡ mid.state) (λ state. state ≡ first.state) (λ state same. same ∙ front.state) mid new (back.between kept));
+  }
+
+-- ---- calls
 
 module _ (keeps : Bool) (P : Image → Type 0) where
   -- before the first call

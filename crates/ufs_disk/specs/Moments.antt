@@ -31,6 +31,11 @@ pub record Passes (P : State → Type 0) (old new : Moments) : Type 0 where
   pub whole : all new ≡ all old ++ inside
   pub each : AllByRecursion P inside
 
+-- From the old moment on the disk was in no other state.
+pub record IsStill (keeps : Bool) (old new : Moments) : Type 0 where
+  pub state : new.state ≡ old.state
+  pub between : IsTrue keeps → Passes (λ state. state ≡ old.state) old new
+
 -- At each moment from the old one to the new one, both included, a crash leaves only images that have P. Of a disk
 -- that keeps no moments this is known of the two alone.
 pub record LeavesOnly (keeps : Bool) (P : Image → Type 0) (old new : Moments) : Type 0 where

@@ -17,7 +17,7 @@ pub struct Fault {
 pub trait Disk {
     ghost use Rattle.ufs_disk.specs.Disk.{IsImage, IsPartlyWritten, IsRange, IsSettled, IsWhole};
     ghost use Rattle.ufs_disk.specs.Disk.{Mixes, bytes_from, overwritten};
-    ghost use Rattle.ufs_disk.specs.Moments.{Moments, LeavesOnly, reads};
+    ghost use Rattle.ufs_disk.specs.Moments.{IsStill, LeavesOnly, Moments, reads};
     ghost use Rattle.ufs_base.specs.Faults.{HasCause};
 
     /// Whether contracts see what it holds and what a crash may leave.
@@ -49,6 +49,9 @@ pub trait Disk {
         // At no moment of the call a crash leaves what it might not have left before.
         ensures crash { IsTrue visible → LeavesOnly keeps (IsImage (moments self.old).state)
             (moments self.old) (moments self.new) }
+
+        // The disk stays in the state that it was in.
+        ensures still { IsTrue visible → IsStill keeps (moments self.old) (moments self.new) }
         ensures size { size self.new ≡ size self.old }
         ensures cause { HasCause (faults self.old) (faults self.new) result }
         ensures number { IfErr result (λ fault. fault.number ≡ faults self.new) };

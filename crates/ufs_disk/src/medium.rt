@@ -3,7 +3,7 @@ ghost use Rattle.std.specs.Prelude.{◌≡◌, ◌⊎◌, ◌≤◌, ◌<◌, �
 ghost use Rattle.std.specs.Prelude.{[], ◌∷◌, ◌++◌, length, true, false, IsTrue, IfOk, IfErr, OnOk, OnErr};
 ghost use Rattle.std.specs.Prelude.{vec_len, vec_capacity};
 ghost use Rattle.ufs_disk.specs.Disk.{IsImage, IsPartlyWritten, IsRange, IsSettled, IsWhole, Mixes, bytes_from, overwritten, possible};
-ghost use Rattle.ufs_disk.specs.Moments.{LeavesOnly};
+ghost use Rattle.ufs_disk.specs.Moments.{IsStill, LeavesOnly};
 ghost use Rattle.ufs_base.specs.Faults.{HasCause, raised};
 ghost use Rattle.ufs_disk.specs.Bytes.{image_of, begun};
 ghost use Rattle.ufs_disk.specs.Pending.{held_state, covered_by};
@@ -94,6 +94,7 @@ impl Medium {
         ensures content { medium_reads self.new ≡ medium_reads self.old }
         ensures crash { LeavesOnly true (IsImage (medium_state self.old))
             (medium_moments self.old) (medium_moments self.new) }
+        ensures still { IsStill true (medium_moments self.old) (medium_moments self.new) }
         ensures sectors { self.new.sectors ≡ self.old.sectors }
         ensures first { self.new.first ≡ self.old.first }
         ensures noted { Notes (fails ≡ false) (IsTrue fails)

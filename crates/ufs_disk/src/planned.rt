@@ -3,7 +3,7 @@ ghost use Rattle.std.specs.Prelude.{◌≡◌, ◌≤◌, ◌<◌, ◌*◌, ◌^
 ghost use Rattle.std.specs.Prelude.{true, false, ℕ, IsTrue, IfOk, IfErr, OnOk, OnErr, Contains};
 ghost use Rattle.ufs_base.specs.Faults.{HasCause};
 ghost use Rattle.ufs_disk.specs.Disk.{IsImage, IsPartlyWritten, IsRange, IsSettled, Mixes, bytes_from, overwritten};
-ghost use Rattle.ufs_disk.specs.Moments.{LeavesOnly};
+ghost use Rattle.ufs_disk.specs.Moments.{IsStill, LeavesOnly};
 ghost use Rattle.ufs_disk.specs.Bytes.{begun, image_of};
 ghost use Rattle.ufs_disk.specs.Calls.{Notes, IsWrite, picked};
 ghost use Rattle.ufs_disk.specs.Medium.{medium_moments, medium_reads, medium_state, next_call};
@@ -128,6 +128,8 @@ impl<P: Plan + Drop> Disk for PlannedDisk<P> {
         ensures buf { OnErr result (buf.new ≡ buf.old) }
         ensures content { medium_reads self.new.medium ≡ medium_reads self.old.medium }
         ensures crash { LeavesOnly true (IsImage (medium_state self.old.medium))
+            (medium_moments self.old.medium) (medium_moments self.new.medium) }
+        ensures still { IsStill true
             (medium_moments self.old.medium) (medium_moments self.new.medium) }
         ensures noted { Notes (¬ P.stops self.old.plan (next_call self.old.medium))
             (P.stops self.old.plan (next_call self.old.medium))

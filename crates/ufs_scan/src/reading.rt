@@ -1,7 +1,7 @@
 // The journal of an epoch, read from a disk.
 ghost use Rattle.std.specs.Prelude.{◌≡◌, ◌≤◌, IsTrue, IfOk, IfErr, OnOk};
 ghost use Rattle.ufs_disk.specs.Disk.{IsImage};
-ghost use Rattle.ufs_disk.specs.Moments.{LeavesOnly, reads};
+ghost use Rattle.ufs_disk.specs.Moments.{IsStill, LeavesOnly, reads};
 ghost use Rattle.ufs_layout.specs.Areas.{IsGeometry, sector_count, first_of_inodes, first_of_journal};
 ghost use Rattle.ufs_image.specs.Journal.{sectors_of_epoch, well_spelled};
 ghost use Rattle.ufs_found.specs.Read.{misspelled};
@@ -31,6 +31,7 @@ pub(crate) fn read_sectors<D: Disk>(
     ensures bytes { IsTrue D.visible → OnOk result (buf.new ≡ bytes_from (reads (D.moments disk.old)) sector (length buf.old / 512)) }
     ensures content { IsTrue D.visible → reads (D.moments disk.new) ≡ reads (D.moments disk.old) }
     ensures crash { IsTrue D.visible → LeavesOnly D.keeps (IsImage (D.moments disk.old).state) (D.moments disk.old) (D.moments disk.new) }
+    ensures still { IsTrue D.visible → IsStill D.keeps (D.moments disk.old) (D.moments disk.new) }
     ensures size { D.size disk.new ≡ D.size disk.old }
     ensures passed { OnOk result (D.faults disk.new ≡ D.faults disk.old) }
     ensures cause { IfErr result (HasFaultCause (D.faults disk.old) (D.faults disk.new)) }
@@ -57,6 +58,7 @@ pub(crate) fn read_journal<D: Disk>(
     ensures misspelled { IsTrue D.visible → IfOk result (λ list. list.misspelled ≡ misspelled (sectors_of_epoch geometry.now epoch (reads (D.moments disk.old)))) }
     ensures content { IsTrue D.visible → reads (D.moments disk.new) ≡ reads (D.moments disk.old) }
     ensures crash { IsTrue D.visible → LeavesOnly D.keeps (IsImage (D.moments disk.old).state) (D.moments disk.old) (D.moments disk.new) }
+    ensures still { IsTrue D.visible → IsStill D.keeps (D.moments disk.old) (D.moments disk.new) }
     ensures size { D.size disk.new ≡ D.size disk.old }
     ensures passed { OnOk result (D.faults disk.new ≡ D.faults disk.old) }
     ensures cause { IfErr result (HasFaultCause (D.faults disk.old) (D.faults disk.new)) }
@@ -92,6 +94,7 @@ fn read_standing<D: Disk>(disk: &mut D, wanted: bool, sector: u32) -> Result<Sta
     ensures value { IsTrue D.visible → IfOk result (λ one. one ≡ (if wanted then standing_in (reads (D.moments disk.old) sector) else no_standing)) }
     ensures content { IsTrue D.visible → reads (D.moments disk.new) ≡ reads (D.moments disk.old) }
     ensures crash { IsTrue D.visible → LeavesOnly D.keeps (IsImage (D.moments disk.old).state) (D.moments disk.old) (D.moments disk.new) }
+    ensures still { IsTrue D.visible → IsStill D.keeps (D.moments disk.old) (D.moments disk.new) }
     ensures size { D.size disk.new ≡ D.size disk.old }
     ensures passed { OnOk result (D.faults disk.new ≡ D.faults disk.old) }
     ensures cause { IfErr result (HasFaultCause (D.faults disk.old) (D.faults disk.new)) }
@@ -123,6 +126,7 @@ pub(crate) fn read_standings<D: Disk>(
     ensures sized { IfOk result (λ list. length list.items ≡ geometry.now.inodes) }
     ensures content { IsTrue D.visible → reads (D.moments disk.new) ≡ reads (D.moments disk.old) }
     ensures crash { IsTrue D.visible → LeavesOnly D.keeps (IsImage (D.moments disk.old).state) (D.moments disk.old) (D.moments disk.new) }
+    ensures still { IsTrue D.visible → IsStill D.keeps (D.moments disk.old) (D.moments disk.new) }
     ensures size { D.size disk.new ≡ D.size disk.old }
     ensures passed { OnOk result (D.faults disk.new ≡ D.faults disk.old) }
     ensures cause { IfErr result (HasFaultCause (D.faults disk.old) (D.faults disk.new)) }

@@ -1,6 +1,6 @@
 ghost use Rattle.std.specs.Prelude.{◌≡◌, ◌≤◌, IsTrue, IfOk, IfErr, OnOk, None};
 ghost use Rattle.ufs_disk.specs.Disk.{IsImage};
-ghost use Rattle.ufs_disk.specs.Moments.{LeavesOnly, reads};
+ghost use Rattle.ufs_disk.specs.Moments.{IsStill, LeavesOnly, reads};
 ghost use Rattle.ufs_layout.specs.Areas.{IsGeometry, sector_count};
 ghost use Rattle.ufs_image.specs.Journal.{committed};
 ghost use Rattle.ufs_image.specs.BadSectors.{bad_sector};
@@ -34,6 +34,7 @@ pub fn scan<D: Disk>(
     ensures bad { IsTrue D.visible → IfErr result (NamesSector (bad_sector geometry.now superblock.now (reads (D.moments disk.old)))) }
     ensures content { IsTrue D.visible → reads (D.moments disk.new) ≡ reads (D.moments disk.old) }
     ensures crash { IsTrue D.visible → LeavesOnly D.keeps (IsImage (D.moments disk.old).state) (D.moments disk.old) (D.moments disk.new) }
+    ensures still { IsTrue D.visible → IsStill D.keeps (D.moments disk.old) (D.moments disk.new) }
     ensures size { D.size disk.new ≡ D.size disk.old }
     ensures passed { OnOk result (D.faults disk.new ≡ D.faults disk.old) }
     ensures cause { IfErr result (HasFaultCause (D.faults disk.old) (D.faults disk.new)) }

@@ -1,6 +1,6 @@
 use Rattle.std.proofs.Common.{◌≡◌, ◌≤◌, ◌-◌, ◌*◌, IsTrue}
 use Rattle.ufs_disk.specs.Disk.{IsImage}
-use Rattle.ufs_disk.specs.Moments.{LeavesOnly, reads}
+use Rattle.ufs_disk.specs.Moments.{IsStill, LeavesOnly, reads}
 use Rattle.ufs_layout.specs.Areas.{first_of_journal}
 use Rattle.ufs_image.specs.Journal.{well_spelled}
 use Rattle.ufs_found.specs.Read.{read_from, misspelled}
@@ -16,6 +16,7 @@ invariant-loop-at g l =
       misspelled : IsTrue disk.visible → l.list.misspelled ≡ misspelled (read_from l.epoch (reads first) (8 * first_of_journal l.geometry) l.at);
       content : IsTrue disk.visible → reads (disk.moments l.disk) ≡ reads first;
       crash : IsTrue disk.visible → LeavesOnly disk.keeps (IsImage first.state) first (disk.moments l.disk);
+      still : IsTrue disk.visible → IsStill disk.keeps first (disk.moments l.disk);
       size : disk.size l.disk ≡ disk.size l.fn.disk;
       faults : disk.faults l.disk ≡ disk.faults l.fn.disk;
     }

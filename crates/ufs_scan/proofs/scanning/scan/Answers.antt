@@ -3,7 +3,7 @@ use Rattle.std.specs.Prelude.{map}
 use Rattle.std.specs.List.{All}
 use Rattle.ufs_disk.specs.Disk.{IsImage}
 use Rattle.ufs_disk.specs.Moments.{reads}
-use Rattle.ufs_disk.proofs.Runs.{goes_on_quietly}
+use Rattle.ufs_disk.proofs.Runs.{goes_on_quietly, still_joined}
 use Rattle.ufs_layout.specs.declared.geometry.Geometry.{Geometry}
 use Rattle.ufs_image.specs.Journal.{FoundSector, committed_of}
 use Rattle.ufs_found.specs.Off.{lower, lowest_of, first_off}
@@ -18,25 +18,49 @@ pub returns-in_err-standings-clause-crash : goal.returns-in_err-standings-clause
 returns-in_err-standings-clause-crash g c visible =
     goes_on_quietly g.D.Disk.keeps (IsImage (g.D.Disk.moments c.args.disk.now).state) (g.D.Disk.moments c.args.disk.now) (g.D.Disk.moments c.read_journal.new.disk) (g.D.Disk.moments c.read_standings.new.disk) (c.read_journal.ensures.crash visible) (c.read_standings.ensures.crash visible)
 
+pub returns-in_err-standings-clause-still : goal.returns-in_err-standings-clause-still
+returns-in_err-standings-clause-still g c visible =
+    still_joined g.D.Disk.keeps (g.D.Disk.moments c.args.disk.now) (g.D.Disk.moments c.read_journal.new.disk) (g.D.Disk.moments c.read_standings.new.disk) (c.read_journal.ensures.still visible) (c.read_standings.ensures.still visible)
+
 pub returns-in_err-lowest-clause-crash : goal.returns-in_err-lowest-clause-crash
 returns-in_err-lowest-clause-crash g c visible =
     goes_on_quietly g.D.Disk.keeps (IsImage (g.D.Disk.moments c.args.disk.now).state) (g.D.Disk.moments c.args.disk.now) (g.D.Disk.moments c.read_journal.new.disk) (g.D.Disk.moments c.read_standings.new.disk) (c.read_journal.ensures.crash visible) (c.read_standings.ensures.crash visible)
+
+pub returns-in_err-lowest-clause-still : goal.returns-in_err-lowest-clause-still
+returns-in_err-lowest-clause-still g c visible =
+    still_joined g.D.Disk.keeps (g.D.Disk.moments c.args.disk.now) (g.D.Disk.moments c.read_journal.new.disk) (g.D.Disk.moments c.read_standings.new.disk) (c.read_journal.ensures.still visible) (c.read_standings.ensures.still visible)
 
 pub returns-in-Some-clause-crash : goal.returns-in-Some-clause-crash
 returns-in-Some-clause-crash g c visible =
     goes_on_quietly g.D.Disk.keeps (IsImage (g.D.Disk.moments c.args.disk.now).state) (g.D.Disk.moments c.args.disk.now) (g.D.Disk.moments c.read_journal.new.disk) (g.D.Disk.moments c.read_standings.new.disk) (c.read_journal.ensures.crash visible) (c.read_standings.ensures.crash visible)
 
+pub returns-in-Some-clause-still : goal.returns-in-Some-clause-still
+returns-in-Some-clause-still g c visible =
+    still_joined g.D.Disk.keeps (g.D.Disk.moments c.args.disk.now) (g.D.Disk.moments c.read_journal.new.disk) (g.D.Disk.moments c.read_standings.new.disk) (c.read_journal.ensures.still visible) (c.read_standings.ensures.still visible)
+
 pub returns-in_err-list-in-None-clause-crash : goal.returns-in_err-list-in-None-clause-crash
 returns-in_err-list-in-None-clause-crash g c visible =
     goes_on_quietly g.D.Disk.keeps (IsImage (g.D.Disk.moments c.args.disk.now).state) (g.D.Disk.moments c.args.disk.now) (g.D.Disk.moments c.read_journal.new.disk) (g.D.Disk.moments c.read_standings.new.disk) (c.read_journal.ensures.crash visible) (c.read_standings.ensures.crash visible)
+
+pub returns-in_err-list-in-None-clause-still : goal.returns-in_err-list-in-None-clause-still
+returns-in_err-list-in-None-clause-still g c visible =
+    still_joined g.D.Disk.keeps (g.D.Disk.moments c.args.disk.now) (g.D.Disk.moments c.read_journal.new.disk) (g.D.Disk.moments c.read_standings.new.disk) (c.read_journal.ensures.still visible) (c.read_standings.ensures.still visible)
 
 pub returns-in_err-copy_all-in-None-clause-crash : goal.returns-in_err-copy_all-in-None-clause-crash
 returns-in_err-copy_all-in-None-clause-crash g c visible =
     goes_on_quietly g.D.Disk.keeps (IsImage (g.D.Disk.moments c.args.disk.now).state) (g.D.Disk.moments c.args.disk.now) (g.D.Disk.moments c.read_journal.new.disk) (g.D.Disk.moments c.read_standings.new.disk) (c.read_journal.ensures.crash visible) (c.read_standings.ensures.crash visible)
 
+pub returns-in_err-copy_all-in-None-clause-still : goal.returns-in_err-copy_all-in-None-clause-still
+returns-in_err-copy_all-in-None-clause-still g c visible =
+    still_joined g.D.Disk.keeps (g.D.Disk.moments c.args.disk.now) (g.D.Disk.moments c.read_journal.new.disk) (g.D.Disk.moments c.read_standings.new.disk) (c.read_journal.ensures.still visible) (c.read_standings.ensures.still visible)
+
 pub returns-clause-crash : goal.returns-clause-crash
 returns-clause-crash g c visible =
     goes_on_quietly g.D.Disk.keeps (IsImage (g.D.Disk.moments c.args.disk.now).state) (g.D.Disk.moments c.args.disk.now) (g.D.Disk.moments c.read_journal.new.disk) (g.D.Disk.moments c.read_standings.new.disk) (c.read_journal.ensures.crash visible) (c.read_standings.ensures.crash visible)
+
+pub returns-clause-still : goal.returns-clause-still
+returns-clause-still g c visible =
+    still_joined g.D.Disk.keeps (g.D.Disk.moments c.args.disk.now) (g.D.Disk.moments c.read_journal.new.disk) (g.D.Disk.moments c.read_standings.new.disk) (c.read_journal.ensures.still visible) (c.read_standings.ensures.still visible)
 
 pub returns-in-Some-clause-bad : goal.returns-in-Some-clause-bad
 returns-in-Some-clause-bad g c visible =

@@ -8,6 +8,7 @@ read-tells g c = record {
   bytes = λ visible. absurd (untrue visible);
   content = λ visible. refl;
   crash = λ visible. absurd (untrue visible);
+  still = λ visible. absurd (untrue visible);
   size = refl;
   cause = c.ensures.cause;
   number = c.ensures.number;

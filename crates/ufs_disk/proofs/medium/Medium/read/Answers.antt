@@ -4,7 +4,7 @@ use Rattle.ufs_disk.specs.Bytes.{begun}
 use Rattle.ufs_disk.specs.Calls.{after_calls}
 use Rattle.ufs_disk.specs.declared.medium.Request.TheVariants.{Read}
 use Rattle.ufs_disk.proofs.Flat.{read_flat}
-use Rattle.ufs_disk.proofs.Runs.{stays}
+use Rattle.ufs_disk.proofs.Runs.{stays, stays_still}
 use Rattle.ufs_disk.proofs.Noted.{after_passed, after_failed, either_of, still_held, still_whole}
 use Rattle.ufs_disk.proofs.medium.Medium.read.Goals as goal
 
@@ -50,3 +50,17 @@ returns-in_err-note-clause-same c =
 pub returns-clause-same : goal.returns-clause-same
 returns-clause-same c =
     after_passed (begun c.args.self.now.first.items) c.args.self.now.calls.items c.note.new.calls.items (Read c.args.sector (length c.args.buf.now)) c.in_ok-note.ensures.ok
+
+pub returns-in_err-note-clause-still : goal.returns-in_err-note-clause-still
+returns-in_err-note-clause-still c =
+    let m = begun c.args.self.now.first.items in
+    let old = c.args.self.now.calls.items in
+    stays_still true (after_calls old m) (after_calls c.note.new.calls.items m)
+    (after_failed m old c.note.new.calls.items (Read c.args.sector (length c.args.buf.now)) _ _ _ c.in_err-note.ensures.err)
+
+pub returns-clause-still : goal.returns-clause-still
+returns-clause-still c =
+    let m = begun c.args.self.now.first.items in
+    let old = c.args.self.now.calls.items in
+    stays_still true (after_calls old m) (after_calls c.note.new.calls.items m)
+    (after_passed m old c.note.new.calls.items (Read c.args.sector (length c.args.buf.now)) c.in_ok-note.ensures.ok)
