@@ -1,5 +1,5 @@
 -- The set of nodes that are given out, as it is kept.
-use Rattle.std.proofs.Common.{◌≡◌, ◌≢◌, ℕ, zero, suc, ◌+◌, ◌<◌, ◌≤◌, nat_eq, nat_lt, eqb, Bool, true, false, not, ◌&&◌, ◌||◌, ◌⊎◌, ⊎_elim, inl, inr, List, [], ◌∷◌, ◌++◌, length, filter, refl, sym, ap, subst, ◌∙◌, true≢false, arith, map, set as set_at, Vec, vec_len, vec_capacity, Global}
+use Rattle.std.proofs.Common.{◌≡◌, ◌≢◌, ℕ, zero, suc, ◌+◌, ◌-◌, ◌<◌, ◌≤◌, nat_eq, nat_lt, eqb, Bool, true, false, not, ◌&&◌, ◌||◌, ◌⊎◌, ⊎_elim, inl, inr, List, [], ◌∷◌, ◌++◌, length, filter, refl, sym, ap, subst, ◌∙◌, true≢false, arith, cond, map, set as set_at, Vec, vec_len, vec_capacity, Global}
 use Rattle.std.proofs.lemmas.Bool.Decides.{nat_tests, eqb_tells}
 use Rattle.std.specs.Ordering.{nat_cmp}
 use Rattle.std.specs.Cmp.{nat_cmp_total, unsigned_tied}
@@ -250,3 +250,49 @@ given_next used old new o n =
 -- nothing is on an empty list
 pub none_on_empty : (used : ℕ) (released : List ℕ) → AreGiven used released empty_lists
 none_on_empty used released l n h = absurd (true≢false (sym (sym (ap (λ m. has m n) (empty_list l)) ∙ h)))
+
+-- ---- how many nodes there are
+
+uncons_bool : (e l h : Bool) → (e ≡ true → (l ≡ true) × (h ≡ false)) → (l && not h) ≡ (e || (l && not (e || h)))
+uncons_bool true l h here = let f = here refl in rw (f.0, f.1) refl
+uncons_bool false l h here = refl
+
+given_uncons : (used : ℕ) (rest : List ℕ) (node : ℕ) → node < used → has rest node ≡ false → given_of used rest ≡ set.insert (given_of used (node ∷ rest)) node
+given_uncons used rest node lt lacks = same_as_insert (given_of used (node ∷ rest)) (given_of used rest) node (λ q.
+    contains-given_of used rest q
+    ∙ uncons_bool (nat_eq q node) (nat_lt q used) (has rest q) (λ e. let at : q ≡ node = grind (arith, nat_tests) in ((grind (arith, nat_tests)), ap (has rest) at ∙ lacks))
+    ∙ ap (λ b. nat_eq q node || b) (sym (contains-given_of used (node ∷ rest) q)))
+
+not_given_first : (used : ℕ) (rest : List ℕ) (node : ℕ) → set.contains (given_of used (node ∷ rest)) node ≡ false
+not_given_first used rest node = contains-given_of used (node ∷ rest) node ∙ (let itself : nat_eq node node ≡ true = grind (arith, nat_tests) in rw itself (and_false (nat_lt node used)))
+
+one_more : (s : set.FinSet nat_cmp) (node : ℕ) → set.contains s node ≡ false → set.len (set.insert s node) ≡ set.len s + 1
+one_more s node lacks = set.len-insert nat_cmp_total s node ∙ ap (λ b. cond b (set.len s) (set.len s + 1)) lacks
+
+len-given_none : (used : ℕ) → set.len (given_of used []) ≡ used
+len-given_none zero = ap set.len (none_given [] refl) ∙ set.len-empty nat_cmp
+len-given_none (suc used) =
+    let next : suc used ≡ used + 1 = omega arith in
+    ap (λ n. set.len (given_of n [])) next ∙ ap set.len (given_first used) ∙ one_more (given_of used []) used (not_given_past used []) ∙ ap (λ n. n + 1) (len-given_none used) ∙ sym next
+
+-- Each node that there ever was is given out or released.
+pub len-given_of : (used : ℕ) (released : List ℕ) → AreApart released → ((n : ℕ) → has released n ≡ true → n < used) → set.len (given_of used released) + length released ≡ used
+len-given_of used [] apart within = let all = len-given_none used in omega (arith, all)
+len-given_of used (node ∷ rest) apart within =
+    let others = len-given_of used rest apart.1 (λ n h. within n (later (nat_eq n node) h)) in
+    let less : set.len (given_of used rest) ≡ set.len (given_of used (node ∷ rest)) + 1 =
+    ap set.len (given_uncons used rest node (within node (first node)) apart.0) ∙ one_more (given_of used (node ∷ rest)) node (not_given_first used rest node) in
+    omega (arith, others, less) where
+      later : (b : Bool) → {h : Bool} → h ≡ true → (b || h) ≡ true
+      later true e = refl
+      later false e = e
+
+      first : (n : ℕ) → has (n ∷ rest) n ≡ true
+      first n = let itself : nat_eq n n ≡ true = grind (arith, nat_tests) in rw itself refl
+
+-- So many nodes there are.
+pub len-nodes : (l : Inside) → IsKept l → set.len (given_of l.used l.released.items) + (length l.released.items + (l.nodes - l.used)) ≡ l.nodes
+len-nodes l k =
+    let all = len-given_of l.used l.released.items k.apart k.released in
+    let most = k.used in
+    omega (arith, all, most)

@@ -1,8 +1,10 @@
 -- Nodes that are given out, and the lists of two kinds that they are on.
-use Rattle.std.specs.Prelude.{ℕ, List, refl}
+use Rattle.std.specs.Prelude.{ℕ, ◌≤◌, ◌^◌, ⊤, List, refl}
 use Rattle.std.specs.Coded.{Coded, code_by, coded×, coded_list, coded_ℕ}
 use Rattle.std.specs.Ordering.{nat_cmp}
 use Rattle.std.specs.FinSet as set
+use Rattle.ufs_base.specs.declared.lack.Lack.{Lack}
+use Rattle.ufs_base.specs.declared.lack.Lack.TheVariants.{Memory, AtEnd, Unsound, Told}
 use Rattle.ufs_links.specs.declared.links.Which.{Which}
 use Rattle.ufs_links.specs.declared.links.Which.TheVariants.{First, Second}
 use Rattle.ufs_links.specs.Nodes.{nodes_in}
@@ -37,3 +39,10 @@ nodes_of l which list = nodes_in (lists_in l which) list
 abbrev pub with_lists_of : Linked → Which → List (List ℕ) → Linked
 with_lists_of l First lists = record { given = l.given; spare = l.spare; first = lists; second = l.second }
 with_lists_of l Second lists = record { given = l.given; spare = l.spare; first = l.first; second = lists }
+
+-- For want of this there is no room for so many nodes: of memory, or of numbers for them.
+abbrev pub IsLackOfNodes : ℕ → Lack → Type 0
+IsLackOfNodes nodes (Memory refused) = ⊤
+IsLackOfNodes nodes AtEnd = 2 ^ 32 ≤ nodes
+IsLackOfNodes nodes Unsound = ⊥
+IsLackOfNodes nodes Told = ⊥

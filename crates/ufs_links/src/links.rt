@@ -43,10 +43,11 @@ impl Model for Links {
 }
 
 impl Links {
-    ghost use Rattle.std.specs.Prelude.{ℕ, [], ◌∷◌, ◌++◌, true, false, map, slice_get, slice_set, IfSome, IfNone, OnOk, OnErr};
+    ghost use Rattle.std.specs.Prelude.{ℕ, [], ◌∷◌, ◌++◌, true, false, map, slice_get, slice_set, IfErr, IfSome, IfNone, OnOk, OnErr, Err};
     ghost use Rattle.std.specs.FinSet as set;
     ghost use Rattle.ufs_links.specs.Nodes.{has, without, next_in, IsOnNone, IsOnOne};
-    ghost use Rattle.ufs_links.specs.Linked.{lists_in, nodes_of, with_lists_of, no_links};
+    ghost use Rattle.ufs_base.specs.declared.lack.Lack.TheVariants.{AtEnd};
+    ghost use Rattle.ufs_links.specs.Linked.{lists_in, nodes_of, with_lists_of, no_links, IsLackOfNodes};
 
     /// No nodes. Every list is empty.
     pub fn new(alloc: Global) -> Self
@@ -61,12 +62,15 @@ impl Links {
         }
     }
 
-    /// Makes the next `n` new nodes take no memory. It makes no more spare nodes than that needs.
+    /// Makes the next `n` new nodes take no memory. It makes no more spare nodes than that needs. There are at most
+    /// 2^32 - 1 nodes, those that are given out among them.
     pub fn reserve(&mut self, n: u32) -> Result<(), Lack>
         ensures ok { OnOk result (n ≤ self.new.spare) }
         ensures more { self.old.spare ≤ self.new.spare }
         ensures most { self.new.spare ≤ max n self.old.spare }
         ensures err { OnErr result (self.new.spare ≡ self.old.spare) }
+        ensures lack { IfErr result (IsLackOfNodes (set.len self.old.given + n)) }
+        ensures at_end { self.old.spare < n → 2 ^ 32 ≤ set.len self.old.given + n → result ≡ Err AtEnd }
 
         // Nothing else changes.
         ensures given { self.new.given ≡ self.old.given }
@@ -74,6 +78,7 @@ impl Links {
         ensures second { self.new.second ≡ self.old.second }
     {
         let spare = self.released.len() as u64 + (self.nodes - self.used) as u64;
+        // All nodes are those that are given out and the spare ones.
         if n as u64 <= spare {
             return Ok(());
         }

@@ -1,5 +1,5 @@
 // Lists of nodes by index, each node on at most one of them.
-ghost use Rattle.std.specs.Prelude.{◌≡◌, ℕ, ◌+◌, ◌^◌, ◌<◌, ◌≤◌, true, [], ◌∷◌, ◌++◌, length, map, replicate, slice_get, slice_set, Some, IfSome, IfNone, OnOk, is_ok, if◌then◌else◌};
+ghost use Rattle.std.specs.Prelude.{◌≡◌, ℕ, ◌+◌, ◌^◌, ◌<◌, ◌≤◌, true, [], ◌∷◌, ◌++◌, length, map, replicate, slice_get, slice_set, Some, IfSome, IfNone, OnOk, is_ok, if◌then◌else◌, max};
 ghost use Rattle.ufs_links.specs.Nodes.{has, nodes_in, next_in, without, IsOnNone, IsOnOne};
 ghost use Rattle.ufs_links.specs.Chains.{AreApart};
 
@@ -44,10 +44,11 @@ impl Lists {
         }
     }
 
-    /// Makes places for nodes below `nodes`.
+    /// Makes places for nodes below `nodes`, and no more than that or than there were.
     pub(crate) fn reserve_nodes(&mut self, nodes: usize) -> Result<(), Memory>
         ensures room { OnOk result (nodes ≤ self.new.nodes) }
         ensures kept { self.old.nodes ≤ self.new.nodes }
+        ensures most { self.new.nodes ≤ max nodes self.old.nodes }
         ensures lists { self.new.lists ≡ self.old.lists }
     {
         self.pointers.add_places(nodes)

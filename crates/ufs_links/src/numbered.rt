@@ -1,5 +1,5 @@
 // Lists of nodes by any number of 32 bits, each node on at most one of them.
-ghost use Rattle.std.specs.Prelude.{◌≡◌, ◌≢◌, ℕ, ◌+◌, ◌^◌, ◌<◌, ◌≤◌, true, [], ◌∷◌, ◌++◌, length, map, slice_get, slice_set, Some, None, IfSome, IfNone, IfOk, OnOk, vec_len};
+ghost use Rattle.std.specs.Prelude.{◌≡◌, ◌≢◌, ℕ, ◌+◌, ◌^◌, ◌<◌, ◌≤◌, true, [], ◌∷◌, ◌++◌, length, map, slice_get, slice_set, Some, None, IfSome, IfNone, IfOk, OnOk, max, vec_len};
 ghost use Rattle.ufs_links.specs.Nodes.{has, nodes_in, next_in, without, IsOnNone, IsOnOne};
 ghost use Rattle.ufs_links.specs.NodeLists.{with_lists};
 ghost use Rattle.ufs_links.specs.Numbered.{number_at, own_of, bucket_of, slot_in, AreSorted, Finds};
@@ -54,11 +54,12 @@ impl NumberedLists {
         }
     }
 
-    /// Makes places for nodes below `nodes`.
+    /// Makes places for nodes below `nodes`, and no more than that or than there were.
     pub(crate) fn reserve_nodes(&mut self, nodes: usize) -> Result<(), Memory>
         requires { nodes < 2 ^ 32 }
         ensures room { OnOk result (nodes ≤ self.new.nodes) }
         ensures kept { self.old.nodes ≤ self.new.nodes }
+        ensures most { self.new.nodes ≤ max nodes self.old.nodes }
         ensures lists { self.new.lists ≡ self.old.lists }
     {
         if nodes <= self.own.len() {
@@ -220,6 +221,7 @@ fn add_numbers(numbers: &mut Vec<u32>, count: usize) -> Result<(), Memory>
     ensures same { (s : ℕ) → number_at numbers.new.items s ≡ number_at numbers.old.items s }
     ensures kept { vec_len numbers.old ≤ vec_len numbers.new }
     ensures few { vec_len numbers.old < 2 ^ 32 → vec_len numbers.new < 2 ^ 32 }
+    ensures most { vec_len numbers.new ≤ max count (vec_len numbers.old) }
     ensures room { OnOk result (count ≤ vec_len numbers.new) }
 {
     if count > numbers.len() {
@@ -233,6 +235,7 @@ fn add_own(own: &mut Vec<Option<u32>>, count: usize) -> Result<(), Memory>
     ensures same { (n : ℕ) → own_of own.new.items n ≡ own_of own.old.items n }
     ensures kept { vec_len own.old ≤ vec_len own.new }
     ensures few { (most : ℕ) → vec_len own.old ≤ most → count ≤ most → vec_len own.new ≤ most }
+    ensures most { vec_len own.new ≤ max count (vec_len own.old) }
     ensures room { OnOk result (count ≤ vec_len own.new) }
 {
     if count > own.len() {
@@ -247,6 +250,7 @@ fn add_slots(slots: &mut Lists, count: usize) -> Result<(), Memory>
     ensures same { (s : ℕ) → nodes_in slots.new.lists s ≡ nodes_in slots.old.lists s }
     ensures kept { length slots.old.lists ≤ length slots.new.lists }
     ensures kept_nodes { slots.old.nodes ≤ slots.new.nodes }
+    ensures most_nodes { slots.new.nodes ≤ max count slots.old.nodes }
     ensures few { (most : ℕ) → length slots.old.lists ≤ most → count ≤ most → length slots.new.lists ≤ most }
     ensures room { OnOk result (count ≤ length slots.new.lists) }
     ensures room_nodes { OnOk result (count ≤ slots.new.nodes) }
@@ -276,6 +280,8 @@ fn add_buckets(
     ensures listed { length slots.now.lists ≤ buckets.old.nodes → length slots.now.lists ≤ buckets.new.nodes }
     ensures room { OnOk result (count ≤ length buckets.new.lists) }
     ensures room_slots { OnOk result (count ≤ buckets.new.nodes) }
+    ensures enough { count ≤ length buckets.old.lists → length buckets.new.lists ≡ length buckets.old.lists }
+    ensures most { length buckets.new.lists ≤ count + length buckets.old.lists }
 {
     let there = buckets.list_count();
     if count <= there {

@@ -1,5 +1,5 @@
 // The pointers of lists that run both ways through their nodes, and of their ends.
-ghost use Rattle.std.specs.Prelude.{◌≡◌, ℕ, ◌+◌, ◌^◌, ◌<◌, ◌≤◌, Some, OnOk, is_ok, if◌then◌else◌, vec_len};
+ghost use Rattle.std.specs.Prelude.{◌≡◌, ℕ, ◌+◌, ◌^◌, ◌<◌, ◌≤◌, Some, OnOk, is_ok, if◌then◌else◌, max, vec_len};
 ghost use Rattle.ufs_links.specs.Pointers.{after_of, before_of, list_of, place_at, ends_at, IsPlaced, AfterSet, BeforeSet, PlaceSet, Joined, Parted};
 
 use ufs_base::Memory;
@@ -34,6 +34,7 @@ impl Pointers {
         ensures ends { self.new.ends.items ≡ self.old.ends.items }
         ensures room { OnOk result (nodes ≤ vec_len self.new.places) }
         ensures kept { vec_len self.old.places ≤ vec_len self.new.places }
+        ensures most { vec_len self.new.places ≤ max nodes (vec_len self.old.places) }
     {
         if nodes > self.places.len() {
             self.places.resize(nodes, None)?;

@@ -39,10 +39,12 @@ impl Model for OwnerTable {
 }
 
 impl OwnerTable {
-    ghost use Rattle.std.specs.Prelude.{◌≡◌, ◌≢◌, ◌≤◌, ◌<◌, ◌-◌, ◌++◌, ◌∷◌, [], ◌↔◌, OnErr, OnOk, IsOk, IsTrue, filter, max};
+    ghost use Rattle.std.specs.Prelude.{◌≡◌, ◌≢◌, ◌≤◌, ◌<◌, ◌-◌, ◌++◌, ◌∷◌, [], ◌↔◌, ◌^◌, IfErr, OnErr, OnOk, IsOk, IsTrue, Err, filter, max};
     ghost use Rattle.std.specs.Bool.{OnTrue, OnFalse};
     ghost use Rattle.std.specs.FinMap as map;
+    ghost use Rattle.ufs_base.specs.declared.lack.Lack.TheVariants.{AtEnd};
     ghost use Rattle.ufs_owner.specs.Clients.{is_another};
+    ghost use Rattle.ufs_owner.specs.Lacks.{IsLackOut};
     ghost use Rattle.ufs_owner.specs.Owners.{owner_at, note_at, waiting_at, with_owner, with_waiting, is_coming, is_going, is_out, recalled, arrived, count_out, count_with};
     ghost use Rattle.ufs_owner.specs.declared.owner.Owner.TheVariants.{Primary, Going};
 
@@ -105,11 +107,13 @@ impl OwnerTable {
         self.workers[usize::from(worker)]
     }
 
-    /// Makes sure that a file can be sent without memory.
+    /// Makes sure that a file can be sent without memory. At most 2^32 - 1 files are away from the primary.
     pub fn reserve(&mut self) -> Result<(), Lack>
         ensures files { self.new.files ≡ self.old.files }
         ensures ok { OnOk result (self.new.spare ≡ max 1 self.old.spare) }
         ensures err { OnErr result (self.new ≡ self.old) }
+        ensures lack { IfErr result (IsLackOut self.old.files) }
+        ensures at_end { self.old.spare ≡ 0 → count_out self.old.files ≡ 2 ^ 32 - 1 → result ≡ Err AtEnd }
         ensures spared { 0 < self.old.spare → IsOk result }
     {
         if self.spare > 0 {
@@ -130,6 +134,8 @@ impl OwnerTable {
         ensures ok { OnOk result (self.new.files ≡ with_owner self.old.files file (Going to) 0) }
         ensures spare { OnOk result (self.new.spare ≡ self.old.spare - 1) }
         ensures err { OnErr result (self.new ≡ self.old) }
+        ensures lack { IfErr result (IsLackOut self.old.files) }
+        ensures at_end { self.old.spare ≡ 0 → count_out self.old.files ≡ 2 ^ 32 - 1 → result ≡ Err AtEnd }
         ensures spared { 0 < self.old.spare → IsOk result }
     {
         self.reserve()?;
