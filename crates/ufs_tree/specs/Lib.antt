@@ -4,5 +4,6 @@ pub mod Moved
 pub mod Parts
 pub mod Placed
 pub mod Ends
+pub mod Lacks
 pub mod Changes
 pub mod Told

@@ -1,12 +1,12 @@
 // The reply to a request that isn't refused.
-use crate::texts::text;
 use crate::tree::Parts;
 use ufs_base::Lack;
-use ufs_calls::{part, seek_to};
+use ufs_calls::{part, seek_to, text};
 use ufs_model::{Bytes, Node, Op, Reply, Whence};
 
 impl Parts {
-    ghost use Rattle.std.specs.Prelude.{◌≡◌, IfOk, None, List, ℕ};
+    ghost use Rattle.std.specs.Prelude.{◌≡◌, ◌≤◌, ◌^◌, IfOk, None, List, ℕ, Err};
+    ghost use Rattle.ufs_base.specs.declared.lack.Lack.TheVariants.{AtEnd};
     ghost use Rattle.ufs_model.specs.Bounds.{IsBounded};
     ghost use Rattle.ufs_model.specs.PosixTree.{IsTree};
     ghost use Rattle.ufs_model.specs.FileBytes as file_bytes;
@@ -16,7 +16,7 @@ impl Parts {
     ghost use Rattle.ufs_model.specs.Paths.{whole_of, text_refusal};
     ghost use Rattle.ufs_model.specs.declared.data.Op.TheVariants.{Seek};
     ghost use Rattle.ufs_model.specs.declared.data.Reply.TheVariants.{Got, Names};
-    ghost use Rattle.ufs_model.specs.Directories.{entry_names};
+    ghost use Rattle.ufs_model.specs.Directories.{entry_count, entry_names};
     ghost use Rattle.ufs_tree.specs.Parts.{tree_of};
 
     fn read(&self, client: u8, fd: u64, n: u32) -> Result<Reply, Lack>
@@ -49,7 +49,9 @@ impl Parts {
 
     // A file's size, or the number of a directory's entries. A number of 2^32 or more can't be told.
     fn stat(&self, path: &Bytes) -> Result<Reply, Lack>
-        ensures { IfOk result (λ reply. reply ≡ posix.stat_reply (tree_of self.now) (whole_of path.now) (node_at self.now.paths path.now)) }
+        requires { text_refusal path.now ≡ None }
+        ensures reply { IfOk result (λ reply. reply ≡ posix.stat_reply (tree_of self.now) (whole_of path.now) (node_at self.now.paths path.now)) }
+        ensures at_end { result ≡ Err AtEnd → 2 ^ 32 ≤ entry_count self.now.paths (whole_of path.now) }
     {
         let text = text(self.alloc, path)?;
         match self.paths.get(text.whole()) {

@@ -1,8 +1,7 @@
 // What a request that isn't refused changes. Each step that may fail comes before the first that can't be undone.
-use crate::texts::text;
 use crate::tree::Parts;
 use ufs_base::Lack;
-use ufs_calls::{Mode, count_from, file_named, file_of, place_of};
+use ufs_calls::{Mode, count_from, file_named, file_of, place_of, text};
 use ufs_model::{Bytes, Node, Op, two_names_lie_apart};
 
 impl Parts {

@@ -1,5 +1,5 @@
 // How often each key was counted.
-ghost use Rattle.std.specs.Prelude.{◌≡◌, ◌+◌, ◌-◌, ℕ, OnOk, OnErr, if◌then◌else◌};
+ghost use Rattle.std.specs.Prelude.{◌≡◌, ◌+◌, ◌-◌, ◌^◌, ℕ, OnOk, OnErr, IfErr, if◌then◌else◌};
 ghost use Rattle.ufs_model.specs.PosixTree.{is_number};
 ghost use Rattle.ufs_tree.specs.Counted.{file_count};
 
@@ -15,10 +15,12 @@ pub struct Counts<K: Ord> {
 }
 
 impl<K: Ord + Drop> Counts<K> {
-    ghost use Rattle.std.specs.Prelude.{◌≡◌, ◌+◌, ◌-◌, Bool, OnOk, OnErr};
+    ghost use Rattle.std.specs.Prelude.{◌≡◌, ◌+◌, ◌-◌, ◌^◌, Bool, OnOk, OnErr, IfErr, Err};
     ghost use Rattle.std.specs.BTreeMap.{is_at};
     ghost use Rattle.std.specs.Ordering.{eq_by_cmp};
+    ghost use Rattle.ufs_base.specs.declared.lack.Lack.TheVariants.{AtEnd};
     ghost use Rattle.ufs_tree.specs.Counted.{count_at, KeepsCounts, IsCounted};
+    ghost use Rattle.ufs_tree.specs.Lacks.{IsLackOfCount};
 
     pub fn new(alloc: Global) -> Self
         ensures { (test : K → Bool) → count_at test result ≡ 0 }
@@ -52,6 +54,8 @@ impl<K: Ord + Drop> Counts<K> {
         ensures more { OnOk result (count_at (is_at (K.cmp key)) self.new ≡ count_at (is_at (K.cmp key)) self.old + 1) }
         ensures others { OnOk result (KeepsCounts (eq_by_cmp K.cmp) (is_at (K.cmp key)) self.old self.new) }
         ensures err { OnErr result ((test : K → Bool) → count_at test self.new ≡ count_at test self.old) }
+        ensures lack { IfErr result (IsLackOfCount (count_at (is_at (K.cmp key)) self.old)) }
+        ensures at_end { count_at (is_at (K.cmp key)) self.old ≡ 2 ^ 64 - 1 → result ≡ Err AtEnd }
     {
         let count = self.get(&key);
         let Some(more) = count.checked_add(1) else {

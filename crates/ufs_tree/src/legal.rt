@@ -4,10 +4,9 @@ ghost use Rattle.ufs_model.specs.Excuses.{blocks_of};
 ghost use Rattle.ufs_model.specs.FileBytes as file_bytes;
 ghost use Rattle.ufs_tree.specs.Told.{excuse_of};
 
-use crate::texts::text;
 use crate::tree::{Parts, Tree};
-use ufs_base::Lack;
-use ufs_calls::place_of;
+use ufs_base::{Lack, Memory};
+use ufs_calls::{place_of, text};
 use ufs_model::{
     Bytes, Entry, Excuse, NameList, Node, Op, Reply, a_request_keeps_the_tree,
     a_request_makes_one_file_at_most,
@@ -92,7 +91,8 @@ fn size_after(old: u64, at: u64, fresh: &Bytes) -> u64
 }
 
 impl Parts {
-    ghost use Rattle.std.specs.Prelude.{◌≡◌, ◌↔◌, ◌<◌, ◌^◌, IsTrue, IfOk, OnErr, Ok, true, false, None, length};
+    ghost use Rattle.std.specs.Prelude.{ℕ, ◌≡◌, ◌↔◌, ◌<◌, ◌^◌, IsTrue, IfOk, OnErr, Ok, true, false, None, length};
+    ghost use Rattle.ufs_model.specs.Paths.{text_refusal};
     ghost use Rattle.ufs_model.specs.Bounds.{IsBounded};
     ghost use Rattle.ufs_model.specs.Excuses as excuses;
     ghost use Rattle.ufs_model.specs.Posix.{posix, file_bytes};
@@ -104,14 +104,16 @@ impl Parts {
     ghost use Rattle.ufs_tree.specs.Told.{excuse_of};
 
     // What stands at the end of a path.
-    fn node_at(&self, path: &Bytes) -> Result<Option<Node>, Lack>
+    fn node_at(&self, path: &Bytes) -> Result<Option<Node>, Memory>
+        requires { text_refusal path.now ≡ None }
         ensures { IfOk result (λ node. node ≡ node_at self.now.paths path.now) }
     {
         let text = text(self.alloc, path)?;
         Ok(self.paths.get(text.whole()))
     }
 
-    fn makes_node(&self, op: &Op) -> Result<bool, Lack>
+    fn makes_node(&self, op: &Op) -> Result<bool, Memory>
+        requires { (client : ℕ) × (refusal (tree_of self.now) client op.now ≡ None) }
         ensures { IfOk result (λ makes. makes ≡ excuses.makes_node (tree_of self.now) op.now) }
     {
         match op {
@@ -124,7 +126,8 @@ impl Parts {
         }
     }
 
-    fn adds_name(&self, op: &Op) -> Result<bool, Lack>
+    fn adds_name(&self, op: &Op) -> Result<bool, Memory>
+        requires { (client : ℕ) × (refusal (tree_of self.now) client op.now ≡ None) }
         ensures { IfOk result (λ adds. adds ≡ excuses.adds_name (tree_of self.now) op.now) }
     {
         match op {
@@ -137,7 +140,8 @@ impl Parts {
     }
 
     // Whether the directory to which a request adds a name may have every slot used.
-    fn may_be_full(&self, op: &Op) -> Result<bool, Lack>
+    fn may_be_full(&self, op: &Op) -> Result<bool, Memory>
+        requires allowed { (client : ℕ) × (refusal (tree_of self.now) client op.now ≡ None) }
         requires adds { excuses.adds_name (tree_of self.now) op.now ≡ true }
         ensures { IfOk result (λ full. full ≡ excuses.may_be_full (tree_of self.now) (excuses.grown_dir op.now)) }
     {
@@ -178,7 +182,7 @@ impl Parts {
     }
 
     // The blocks that a request may need.
-    fn needed(&self, client: u8, op: &Op) -> Result<u64, Lack>
+    fn needed(&self, client: u8, op: &Op) -> Result<u64, Memory>
         requires allowed { refusal (tree_of self.now) client op.now ≡ None }
         ensures { IfOk result (λ blocks. blocks ≡ excuses.needed (tree_of self.now) client op.now) }
     {
@@ -192,7 +196,7 @@ impl Parts {
     }
 
     // Whether the excuse says of a request that isn't refused what is so.
-    fn is_excuse_of(&self, client: u8, op: &Op, excuse: Excuse) -> Result<bool, Lack>
+    fn is_excuse_of(&self, client: u8, op: &Op, excuse: Excuse) -> Result<bool, Memory>
         requires allowed { refusal (tree_of self.now) client op.now ≡ None }
         ensures { IfOk result (λ told. IsTrue told ↔ excuses.IsExcuseOf (tree_of self.now) client op.now excuse) }
     {
@@ -210,7 +214,7 @@ impl Parts {
         }
     }
 
-    fn excuse_fits(&self, client: u8, op: &Op, excuse: Excuse) -> Result<bool, Lack>
+    fn excuse_fits(&self, client: u8, op: &Op, excuse: Excuse) -> Result<bool, Memory>
         ensures { IfOk result (λ fits. IsTrue fits ↔ excuses.ExcuseFits (tree_of self.now) client op.now excuse) }
     {
         if matches!(excuse, Excuse::Memory) {
@@ -253,7 +257,7 @@ impl Parts {
         ensures err { OnErr result (tree_of self.new ≡ tree_of self.old) }
     {
         match excuse_of(&entry.reply) {
-            Some(excuse) => self.excuse_fits(entry.client, &entry.op, excuse),
+            Some(excuse) => Ok(self.excuse_fits(entry.client, &entry.op, excuse)?),
             None => self.reply_step(entry.client, &entry.op, &entry.reply),
         }
     }

@@ -13,7 +13,6 @@ mod path_map;
 mod refusal;
 mod serving;
 mod start;
-mod texts;
 mod tree;
 
 pub use serving::serve;

@@ -6,12 +6,11 @@ ghost use Rattle.ufs_model.specs.Walk.{walk_refusal_from};
 ghost use Rattle.ufs_tree.specs.Ends.{end_refusal};
 
 use crate::path_map::PathMap;
-use crate::texts::text;
 use crate::tree::Parts;
-use ufs_base::Lack;
+use ufs_base::Memory;
 use ufs_calls::{
     MAX_SIZE, Mode, dir_refusal, fd_named, is_below, is_past, list_refusal, make_refusal,
-    open_refusal, own_refusal, place_of, seek_to, size_refusal, stat_refusal, unlink_refusal,
+    open_refusal, own_refusal, place_of, seek_to, size_refusal, stat_refusal, text, unlink_refusal,
 };
 use ufs_model::{Bytes, Desc, Errno, Op, Whence};
 use ufs_path::PathText;
@@ -90,7 +89,7 @@ fn end_refusal(nodes: &PathMap, text: &PathText, op: &Op) -> Option<Errno>
 }
 
 impl Parts {
-    ghost use Rattle.std.specs.Prelude.{◌≡◌, IfOk};
+    ghost use Rattle.std.specs.Prelude.{◌≡◌, None, IfOk};
     ghost use Rattle.ufs_model.specs.Asks as asks;
     ghost use Rattle.ufs_model.specs.Refusals as refusals;
     ghost use Rattle.ufs_model.specs.declared.data.Op.TheVariants.{Write, Seek};
@@ -99,7 +98,7 @@ impl Parts {
     ghost use Rattle.ufs_tree.specs.Parts.{tree_of};
 
     /// Why a request is refused.
-    pub(crate) fn refusal(&self, client: u8, op: &Op) -> Result<Option<Errno>, Lack>
+    pub(crate) fn refusal(&self, client: u8, op: &Op) -> Result<Option<Errno>, Memory>
         ensures { IfOk result (λ r. r ≡ refusals.refusal (tree_of self.now) client op.now) }
     {
         if let Some(e) = self.own_refusal(client, op) {
@@ -181,8 +180,9 @@ impl Parts {
         }
     }
 
-    // By what stands in the tree.
-    fn tree_refusal(&self, client: u8, op: &Op) -> Result<Option<Errno>, Lack>
+    // By what stands in the tree, of a request that isn't refused by flags, descriptors and texts.
+    fn tree_refusal(&self, client: u8, op: &Op) -> Result<Option<Errno>, Memory>
+        requires { refusals.own_refusal (tree_of self.now) client op.now ≡ None }
         ensures { IfOk result (λ r. r ≡ refusals.tree_refusal (tree_of self.now) client op.now) }
     {
         match op {

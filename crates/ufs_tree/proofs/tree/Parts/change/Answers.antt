@@ -5,7 +5,7 @@ use Rattle.ufs_model.specs.Paths.{whole_path, whole_of}
 use Rattle.ufs_model.specs.Refusals.{refusal}
 use Rattle.ufs_model.specs.declared.data.Op.{Op}
 use Rattle.ufs_tree.specs.Parts.{tree_of}
-use Rattle.ufs_tree.proofs.AllowedLemmas.{nothing_there, old_name_there}
+use Rattle.ufs_tree.proofs.AllowedLemmas.{new_text, nothing_there, old_name_there, open_text}
 use Rattle.ufs_tree.proofs.tree.Parts.change.Goals as goal
 use Rattle.ufs_tree.proofs.tree.Parts.change.Goals.{After-whole-in-Rename-2}
 
@@ -37,3 +37,13 @@ rename-requires-clause-apart c = λ other. (apart c other).0
 
 pub rename-requires-clause-empty : goal.rename-requires-clause-empty
 rename-requires-clause-empty c = λ other. (apart c other).1
+
+-- ---- texts that are read
+
+pub text-requires : goal.text-requires
+text-requires c = open_text (tree_of c.args.self.now) c.args.client c.args.op.now c.in-OpenFile.path _ _ _ _ _ _ c.in-OpenFile.is c.requires.allowed
+
+pub text-requires-in-Rename-2 : goal.text-requires-in-Rename-2
+text-requires-in-Rename-2 c =
+    let allowed = subst (λ (o : Op). refusal (tree_of c.args.self.now) c.args.client o ≡ None) c.in-Rename.is c.requires.allowed in
+    new_text (tree_of c.args.self.now) c.args.client c.in-Rename.from c.in-Rename.to allowed

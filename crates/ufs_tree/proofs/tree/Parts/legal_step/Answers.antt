@@ -4,12 +4,10 @@ use Rattle.ufs_tree.specs.Parts.{tree_of}
 use Rattle.ufs_tree.proofs.ReplyLemmas.{excuse_is_reply, other_is_reply}
 use Rattle.ufs_tree.proofs.tree.Parts.legal_step.Goals as goal
 
-pub returns-in-Some-clause-legal : goal.returns-in-Some-clause-legal
-returns-in-Some-clause-legal c =
+pub returns-in_ok-excuse_fits-in-Some-clause-legal : goal.returns-in_ok-excuse_fits-in-Some-clause-legal
+returns-in_ok-excuse_fits-in-Some-clause-legal c =
     let e = c.args.entry.now in
-    IfOk-weaker c.excuse_fits.result _ _
-    (λ told fits. excuse_is_reply (tree_of c.args.self.now) e.client e.op e.reply c.in-Some.excuse told (sym c.in-Some.ensures) fits)
-    c.excuse_fits.ensures
+    excuse_is_reply (tree_of c.args.self.now) e.client e.op e.reply c.in-Some.excuse _ (sym c.in-Some.ensures) c.in_ok-excuse_fits-in-Some.ensures
 
 pub returns-in-None-clause-legal : goal.returns-in-None-clause-legal
 returns-in-None-clause-legal c =
