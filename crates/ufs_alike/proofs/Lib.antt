@@ -8,3 +8,6 @@ pub mod FileLemmas
 pub mod EntryLemmas
 pub mod HistoryLemmas
 pub mod RetellingLemmas
+pub mod BlockLemmas
+pub mod MergedLemmas
+pub mod BlockTreeLemmas

@@ -58,6 +58,6 @@ module _ (n : NamesPart) (inodes : AreInodesOf n.tree n.held) (file inode : ℕ)
     keeps_cut here cut left =
         let s = from_some (map.get fs file) here in
         let known = from_some (map.get n.held file) held_here in
-        keeps_emptied n new fs fs' pool pool' apart file s.0 h
+        keeps_emptied n new fs fs' pool pool' apart file s.0 h same
         (λ all. same ∙ ap (λ (h : Holding). h.inode) (holding_is n.held file known.0 known.1) ∙ sym (all file s.0 known.0 s.1 known.1))
         tree held (cut s.0 s.1) left

@@ -72,3 +72,7 @@ pub record IsServed (t : PosixTree) (ask : Ask) (new : NamesPart) (fs fs' : File
 -- Each file that is here has the inode that is told of it.
 abbrev pub HaveInodes : Holdings → Files → Type 0
 HaveInodes held fs = (f : ℕ) (s : FileState) (h : Holding) → map.get fs f ≡ Some s → map.get held f ≡ Some h → s.inode ≡ h.inode
+
+-- Each file that was live and still is has the inode that it had, whoever has its hand.
+abbrev pub KeepInodes : (old new : Holdings) → Type 0
+KeepInodes old new = (f : ℕ) (h k : Holding) → map.get old f ≡ Some h → map.get new f ≡ Some k → k.inode ≡ h.inode

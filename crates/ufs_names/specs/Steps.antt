@@ -10,14 +10,15 @@ use Rattle.ufs_model.specs.Walk.{file_of}
 use Rattle.ufs_name_tree.specs.NameTable.{file_at, node_at}
 use Rattle.ufs_name_tree.specs.Nodes.{SetsNode}
 use Rattle.ufs_names.specs.NamesPart.{NamesPart, unheld, holding_of, with_holder, without_holder, without_name, is_kept, settled}
-use Rattle.ufs_names.specs.Calls.{HaveInodes, no_bytes}
+use Rattle.ufs_names.specs.Calls.{HaveInodes, KeepInodes, no_bytes}
 use Rattle.ufs_names.specs.Space.{AreApart, HaveTheSame}
 use Rattle.ufs_names.specs.declared.holding.Holding.{Holding}
 
--- Directories, files and pool stay apart and have together what they had, files have the inodes that are told, and the table has as
--- many inodes as it had.
+-- Directories, files and pool stay apart and have together what they had, files have the inodes that are told and keep them, and the
+-- table has as many inodes as it had.
 pub record KeepsSpace (old new : NamesPart) (fs fs' : Files) (pool pool' : BlockSet) : Type 0 where
   pub inodes : HaveInodes old.held fs → HaveInodes new.held fs'
+  pub stay : KeepInodes old.held new.held
   pub together : HaveTheSame old.tree.dirs fs pool new.tree.dirs fs' pool'
   pub apart : AreApart new.tree.dirs fs' pool'
   pub counted : length new.tree.dirs.dirs ≡ length old.tree.dirs.dirs

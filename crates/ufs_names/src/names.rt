@@ -63,7 +63,7 @@ impl Names {
     ghost use Rattle.ufs_model.specs.declared.data.Reply.TheVariants as reply;
     ghost use Rattle.ufs_name_tree.specs.NameTable.{IsNameTable, node_of};
     ghost use Rattle.ufs_name_tree.specs.Notes.{GoesByNotes};
-    ghost use Rattle.ufs_names.specs.Calls.{HaveInodes, IsAsked, IsOfNames, IsServed};
+    ghost use Rattle.ufs_names.specs.Calls.{HaveInodes, IsAsked, IsOfNames, IsServed, KeepInodes};
     ghost use Rattle.ufs_names.specs.NamesPart.{IsNamesPart};
     ghost use Rattle.ufs_names.specs.Space.{AreApart, HaveTheSame, IsCause};
     ghost use Rattle.ufs_names.specs.Steps.{KeepsSpace};
@@ -138,6 +138,7 @@ impl Names {
         ensures pool { is_excused result.entry.reply ≡ true → pool.new ≡ pool.old }
         ensures desc { is_excused result.entry.reply ≡ true → result.desc ≡ ask.desc }
         ensures inodes { HaveInodes self.old.held files.old → HaveInodes self.new.held files.new }
+        ensures stay { KeepInodes self.old.held self.new.held }
         ensures together { HaveTheSame self.old.tree.dirs files.old pool.old self.new.tree.dirs files.new pool.new }
         ensures apart { AreApart self.new.tree.dirs files.new pool.new }
         ensures counted { length self.new.tree.dirs.dirs ≡ length self.old.tree.dirs.dirs }

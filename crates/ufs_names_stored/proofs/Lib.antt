@@ -1,10 +1,10 @@
-mod Blocks
+pub mod Blocks
 mod NewFiles
 mod Owners
 mod Emptied
-mod Numbers
+pub mod Numbers
 mod Named
 mod Sounds
 mod Spaced
-mod OnDisk
-mod Serving
+pub mod OnDisk
+pub mod Serving

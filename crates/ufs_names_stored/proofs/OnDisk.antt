@@ -111,7 +111,7 @@ module _ (g : Geometry) (keeps : EntriesKeep g) (others : OthersAcknowledgeNothi
       }
 
   -- a file that stays without being emptied is read as before; one that is empty has nothing to read
-  readable_now : (l : Ledger) → AreReadable l t p → AreReadable l u next
+  pub readable_now : (l : Ledger) → AreReadable l t p → AreReadable l u next
   readable_now l reads f s here = by (there_or_not (map.get p.files f))
     where
       empty : (h : FileState) → s ≡ no_bytes h.file h.inode → IsReadable l (whole_as (bytes_of u.bytes f) s)

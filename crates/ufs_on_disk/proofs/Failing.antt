@@ -50,7 +50,7 @@ use Rattle.ufs_store.proofs.SameStates.{same_or_other}
 use Rattle.ufs_on_disk.proofs.Live.{file_by_history, file_on_disk, file_to_commit, same_writes, whole_file}
 
 -- what holds of one of them
-one_of : {X : Type 0} (P : X → Type 0) (xs ys : List X) (y : X) → AllByRecursion P (xs ++ y ∷ ys) → P y
+pub one_of : {X : Type 0} (P : X → Type 0) (xs ys : List X) (y : X) → AllByRecursion P (xs ++ y ∷ ys) → P y
 one_of P [] ys y all = all.0
 one_of P (x ∷ xs) ys y all = one_of P xs ys y all.1
 
@@ -82,7 +82,7 @@ mix_has older seen reads place byte size mix is = by (has_byte_cases (older ++ s
     by (inr e) = at (cases_lt place 4096) e
 
 -- what is read after a write that failed keeps the promise
-tried_kept : (l : Ledger) (w : BlockWrite) (reads : List ℕ) (start : PosixTree) (history : List Entry) (k : Counts) → length w.bytes ≡ 4096 → IsMixOf (possible ((written w.block w.bytes l).blocks w.block)) reads
+pub tried_kept : (l : Ledger) (w : BlockWrite) (reads : List ℕ) (start : PosixTree) (history : List Entry) (k : Counts) → length w.bytes ≡ 4096 → IsMixOf (possible ((written w.block w.bytes l).blocks w.block)) reads
     → IsLedgerKept (written w.block w.bytes l) start history k k → IsLedgerKept (tried w.block w.bytes reads l) start history k k
 tried_kept l w reads start history k size mix kept = record {
   here = fewer_kept (geometry_of l.superblock) cells l.now start history k.names k.files k.numbers kept.here (rewritten w.block reads cells) less;

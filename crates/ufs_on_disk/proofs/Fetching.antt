@@ -72,7 +72,7 @@ module _ (p : Parts) (f : FileState) (bs : List ℕ) (ms : List Bool) (at : map.
           by (inl had) = sound.inside owner b had
           by (inr new) = sound.inside ThePool b new.1
 
-  readable_read : (l : Ledger) (t : PosixTree) → AreReadable l t p → AreReadable l t q
+  pub readable_read : (l : Ledger) (t : PosixTree) → AreReadable l t p → AreReadable l t q
   readable_read l t all file h there = by (either x p.pool p file h there)
     where
       by : ((file ≡ f.file) × (h ≡ now)) ⊎ ((file ≢ f.file) × (map.get p.files file ≡ Some h)) → IsReadable l (whole_as (bytes_of t.bytes file) h)
@@ -89,7 +89,7 @@ module _ (p : Parts) (f : FileState) (bs : List ℕ) (ms : List Bool) (at : map.
     another : (file : ℕ) (h : FileState) → file ≢ f.file → map.get p.files file ≡ Some h → durable_in q.commits h ≡ durable_in p.commits h
     another file h not there = durable_else x p.pool p h (λ e. not (sym (st.parts.files file h there).0 ∙ e))
 
-    stored_read : IsNoted x → IsContentOf now.content (bytes_of (tree_after start history).bytes f.file) → IsStored l u start history k q
+    pub stored_read : IsNoted x → IsContentOf now.content (bytes_of (tree_after start history).bytes f.file) → IsStored l u start history k q
     stored_read noted may = record {
       tree = st.tree;
       legal = st.legal;
@@ -129,12 +129,12 @@ module _ (visible keeps : Bool) (old new : StoreState) (start : PosixTree) (hist
   tree = tree_after start history
 
   module _ (at : map.get p.files f.file ≡ Some f) where
-    reads : IsOnDisk old start history p → IsContentOf g.content (bytes_of tree.bytes f.file)
+    pub reads : IsOnDisk old start history p → IsContentOf g.content (bytes_of tree.bytes f.file)
     reads (inl go) =
         told.read seen go.ledger (bytes_of tree.bytes f.file) go.has.by.is (stored_readable go.ledger old.unassigned.free start history go.counts p go.stored f.file f at) (tree_may tree f.file f (go.stored.parts.files f.file f at))
     reads (inr st) = told.read seen st.ledger (bytes_of tree.bytes f.file) st.has (st.clean f.file f at) (tree_may tree f.file f (st.parts.files f.file f at))
 
-    stored : (l : Ledger) (u : BlockSet) (k : Counts) → IsStored l u start history k p → IsContentOf g.content (bytes_of tree.bytes f.file) → IsStored l u start history k (with_read f g p)
+    pub stored : (l : Ledger) (u : BlockSet) (k : Counts) → IsStored l u start history k p → IsContentOf g.content (bytes_of tree.bytes f.file) → IsStored l u start history k (with_read f g p)
     stored l u k st may =
         subst (λ (y : FileState). IsNoted (record (durable_in p.commits f) { file = y }) → IsContentOf y.content (bytes_of tree.bytes f.file) → IsStored l u start history k (with_read f y p)) (sym told.rest)
         (stored_read p f g.content.bytes g.content.there at l u start history k st)

@@ -69,7 +69,7 @@ stopped_kept trees s start history entry p q legal ack parts st clean = record {
 
 -- ---- free blocks
 
-same_ledger : (s : StoreState) (free : BlockSet) (l : Ledger) → HasLedger s l → HasLedger (with_free free s) l
+pub same_ledger : (s : StoreState) (free : BlockSet) (l : Ledger) → HasLedger s l → HasLedger (with_free free s) l
 same_ledger s free l h =
     record { going = h.going; by = h.by; superblock_is = h.superblock_is; added = h.added; numbered = h.numbered; unused = h.unused; settled = h.settled; older = h.older; fits = h.fits }
 
@@ -143,7 +143,7 @@ module _ (trees : KeepsTrees) (nothing : OthersAcknowledgeNothing) (names_keep :
           (noted_as_whole (durable_in p.commits f) (bytes_of before.bytes f.file) whole.noted (tree_may before f.file f (parts.files f.file f old))) was
           (served_after names_keep start history entry p f next pool ask server ticket desc d old kind asked is of applied number inode parts e)
 
-  readable : (l : Ledger) → ArePartsOf p before → AreReadable l before p → AreReadable l after (with_file next pool p)
+  pub readable : (l : Ledger) → ArePartsOf p before → AreReadable l before p → AreReadable l after (with_file next pool p)
   readable l parts all file h here = at (one_or_apart file next.file.file)
     where
       at : (file ≡ next.file.file) ⊎ (file ≢ next.file.file) → IsReadable l (whole_as (bytes_of after.bytes file) h)

@@ -8,4 +8,4 @@ pub mod Writing
 pub mod Ready
 pub mod Forgetting
 mod Meanwhile
-mod Fetching
+pub mod Fetching

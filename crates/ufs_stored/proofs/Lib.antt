@@ -28,3 +28,5 @@ mod Stopping
 pub mod Always
 pub mod Stamping
 pub mod Stretches
+pub mod Births
+pub mod Known

@@ -11,6 +11,8 @@ use Rattle.ufs_name_log.specs.Held.{HasName, HasSoundNames}
 use Rattle.ufs_names.specs.NamesPart.{IsNamesPart}
 use Rattle.ufs_stored.specs.Laws.{with_names_committed}
 use Rattle.ufs_stored.specs.Parts.{NamesOwn, OneFile, Owner, Owns, Parts, TheNames, ThePool, Unassigned}
+use Rattle.ufs_stored.specs.Sound.{IsSoundServer}
+use Rattle.ufs_stored.specs.Stored.{ArePartsOf}
 
 pub never : (b : ℕ) → has [] b ≡ true → ⊥
 never b is = (let clash = sym is ∙ has-none b in cc)
@@ -37,6 +39,20 @@ part_committed p t part = record {
   held = part.held;
   told = part.told;
   inodes = record { inode = part.inodes.inode; live = part.inodes.live; own = part.inodes.own };
+}
+
+pub parts_committed : (p : Parts) (t : PosixTree) → ArePartsOf p t → ArePartsOf (with_names_committed p) t
+parts_committed p t is = record { names = part_committed p t is.names; files = is.files; inodes = is.inodes; here = is.here }
+
+pub sound_committed : (g : Geometry) (u : BlockSet) (p : Parts) → IsSoundServer g u p → IsSoundServer g u (with_names_committed p)
+sound_committed g u p s = record {
+  apart = λ one other b a c. s.apart one other b (before p u one b a) (before p u other b c);
+  inside = λ owner b owns. s.inside owner b (before p u owner b owns);
+  each = s.each;
+  inodes = s.inodes;
+  known = s.known;
+  counted = s.counted;
+  parted = s.parted;
 }
 
 -- the sound names of a state are those of one with other blocks of zeros

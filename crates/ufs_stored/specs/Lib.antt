@@ -6,3 +6,4 @@ pub mod OnDisk
 pub mod OnDiskLaws
 pub mod AlwaysLaws
 pub mod Stamping
+pub mod Known

@@ -49,6 +49,12 @@ pub record HasStopped (s : StoreState) (start : PosixTree) (history : List Entry
   -- reads go on: what isn't dirty is still on the disk
   pub clean : AreReadable ledger (tree_after start history) p
 
+-- It has stopped by these counts. What may stand on the disk beside them is by the same, or by the next ones.
+pub record HasStoppedBy (s : StoreState) (start : PosixTree) (history : List Entry) (p : Parts) (counts next : Counts) : Type 0 where
+  pub stopped : HasStopped s start history p
+  pub now : stopped.now ≡ counts
+  pub maybe : (stopped.maybe ≡ counts) ⊎ (stopped.maybe ≡ next)
+
 abbrev pub IsOnDisk : StoreState → PosixTree → List Entry → Parts → Type 0
 IsOnDisk s start history p = IsGoing s start history p ⊎ HasStopped s start history p
 

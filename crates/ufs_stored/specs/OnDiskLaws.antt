@@ -26,7 +26,7 @@ use Rattle.ufs_prefix.specs.Steps.{is_ok}
 use Rattle.ufs_store.specs.Ledgers.{HasAny, HasLedger, beginning_next, stages, with_room}
 use Rattle.ufs_store.specs.State.{StoreState, geometry_of_store, next_commit}
 use Rattle.ufs_stored.specs.Laws.{leaves_tree}
-use Rattle.ufs_stored.specs.OnDisk.{HasAll, HasFile, HasNames, HasStopped, IsExplainedBy, IsOnDisk}
+use Rattle.ufs_stored.specs.OnDisk.{HasAll, HasFile, HasNames, HasStoppedBy, IsExplainedBy, IsOnDisk}
 use Rattle.ufs_stored.specs.Parts.{Parts}
 use Rattle.ufs_stored.specs.Stored.{ArePartsOf, IsStored}
 
@@ -93,20 +93,20 @@ AllIsSynced g = (s : StoreState) (start : PosixTree) (history : List Entry) (ent
 -- At a read or a barrier that failed: the disk has the ledger that it had.
 abbrev pub BarriersStop : Geometry → Type 0
 BarriersStop g = (s : StoreState) (l : Ledger) (start : PosixTree) (history : List Entry) (counts : Counts) (p : Parts) → geometry_of_store s ≡ g → geometry_of l.superblock ≡ g → IsSome s.stop
-    → IsLedgerOf s.sectors s.moments.state l → IsStored l s.unassigned.free start history counts p → HasStopped s start history p
+    → IsLedgerOf s.sectors s.moments.state l → IsStored l s.unassigned.free start history counts p → HasStoppedBy s start history p counts counts
 
 -- At a write that failed, of a block that a directory took.
 abbrev pub WritesStop : Geometry → Type 0
 WritesStop g = (s : StoreState) (l : Ledger) (start : PosixTree) (history : List Entry) (counts : Counts) (p : Parts) (block : ℕ) (bytes seen : List ℕ) → geometry_of_store s ≡ g → geometry_of l.superblock ≡ g → IsSome s.stop
-    → l.maybe ≡ None → has p.fresh block ≡ true → IsLedgerOf s.sectors s.moments.state (tried block bytes seen l) → IsStored l s.unassigned.free start history counts p → HasStopped s start history p
+    → l.maybe ≡ None → has p.fresh block ≡ true → IsLedgerOf s.sectors s.moments.state (tried block bytes seen l) → IsStored l s.unassigned.free start history counts p → HasStoppedBy s start history p counts counts
 
 -- At a checkpoint that failed.
 abbrev pub CheckpointsStop : Geometry → Type 0
 CheckpointsStop g = (old s : StoreState) (l : Ledger) (start : PosixTree) (history : List Entry) (counts : Counts) (p : Parts) → geometry_of_store s ≡ g → geometry_of l.superblock ≡ g → IsSome s.stop
-    → HasLedger old l → HasAny s (l ∷ beginning_next old l ∷ []) → IsStored l s.unassigned.free start history counts p → HasStopped s start history p
+    → HasLedger old l → HasAny s (l ∷ beginning_next old l ∷ []) → IsStored l s.unassigned.free start history counts p → HasStoppedBy s start history p counts counts
 
 -- At a commit that failed, where it would have kept the promise by these counts.
 abbrev pub CommitsStop : Geometry → Type 0
 CommitsStop g = (old s : StoreState) (records : List LogRecord) (l : Ledger) (start : PosixTree) (history : List Entry) (counts next : Counts) (p : Parts) → geometry_of_store s ≡ g → geometry_of l.superblock ≡ g → IsSome s.stop
     → HasLedger old l → HasAny s (stages old records l) → IsLedgerKept (committing (next_commit old records) (settled (with_room old records l))) start history counts next
-    → IsStored l s.unassigned.free start history counts p → HasStopped s start history p
+    → IsStored l s.unassigned.free start history counts p → HasStoppedBy s start history p counts next

@@ -14,7 +14,7 @@ use Rattle.ufs_model.specs.declared.data.Entry.{Entry}
 use Rattle.ufs_durable.specs.Standing.{IsFileBlock}
 use Rattle.ufs_store.specs.Ledgers.{HasLedger}
 use Rattle.ufs_store.specs.State.{StoreState}
-use Rattle.ufs_stored.specs.OnDisk.{IsGoing}
+use Rattle.ufs_stored.specs.Known.{IsKeptGoing, Known}
 use Rattle.ufs_stored.specs.Parts.{Parts}
 use Rattle.ufs_stored.specs.Stored.{IsSpelled, IsStored}
 use Rattle.ufs_synced.specs.Ready.{HasZeros}
@@ -62,13 +62,17 @@ module _ (s : StoreState) (l : Ledger) (u : BlockSet) (start : PosixTree) (histo
   pub plain_stored : IsStored plain u start history k p
   plain_stored = fewer_stored l off fewer u start history k p st (λ block fresh. inl (free block fresh))
 
-pub zeros_begin : LedgersAreSound → (s : StoreState) (start : PosixTree) (history : List Entry) (p : Parts) → IsGoing s start history p → HasZeros s start history p []
-zeros_begin sound s start history p go = record {
-  ledger = plain s go.ledger s.unassigned.free start history go.counts p go.has go.stored;
-  counts = go.counts;
-  knows = plain_known s go.ledger s.unassigned.free start history go.counts p go.has go.stored sound;
-  formed = go.formed;
-  stored = plain_stored s go.ledger s.unassigned.free start history go.counts p go.has go.stored;
-  free = free s go.ledger s.unassigned.free start history go.counts p go.has go.stored;
-  zero = λ block is. absurd (clash (has [] block) is (has-none block));
-}
+pub zeros_begin : LedgersAreSound → (s : StoreState) (start : PosixTree) (history : List Entry) (p : Parts) (known : Known) → IsKeptGoing s start history p known → HasZeros s start history p known []
+zeros_begin sound s start history p known kept =
+    let go = kept.going in
+    record {
+      ledger = plain s go.ledger s.unassigned.free start history go.counts p go.has go.stored;
+      counts = go.counts;
+      knows = plain_known s go.ledger s.unassigned.free start history go.counts p go.has go.stored sound;
+      formed = go.formed;
+      stored = plain_stored s go.ledger s.unassigned.free start history go.counts p go.has go.stored;
+      covers = kept.covers;
+      numbered = kept.numbered;
+      free = free s go.ledger s.unassigned.free start history go.counts p go.has go.stored;
+      zero = λ block is. absurd (clash (has [] block) is (has-none block));
+    }

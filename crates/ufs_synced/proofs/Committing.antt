@@ -1,5 +1,5 @@
 -- The names are committed.
-use Rattle.std.proofs.Common.{◌≡◌, ℕ, ◌⊎◌, inl, inr, Bool, true, false, List, Some, ap, sym, refl, ◌∙◌, subst, arith}
+use Rattle.std.proofs.Common.{◌≡◌, ℕ, ◌⊎◌, inl, inr, Bool, true, false, List, Some, length, ap, sym, refl, ◌∙◌, subst}
 use Rattle.std.specs.Prelude.{IsSome, if◌then◌else◌}
 use Rattle.ufs_bitmap.specs.Space.{Space}
 use Rattle.ufs_bitmap.specs.Taking.{has}
@@ -22,15 +22,19 @@ use Rattle.ufs_store.specs.Ledgers.{HasAny, HasLedger, IsLeftByAny, MayCommitNex
 use Rattle.ufs_store.specs.State.{StoreState, has_room, next_commit, next_superblock}
 use Rattle.ufs_stored.specs.AlwaysLaws.{CommitImagesAreExplained}
 use Rattle.ufs_stored.specs.Laws.{EmptiedIsStored, HasNamesToCommit, NamesAreCommitted, NamesAreCommitting, NamesMayCommit, all_named, with_names_committed}
-use Rattle.ufs_stored.specs.OnDisk.{HasNames, HasStopped, IsExplainedImage, IsGoing}
+use Rattle.ufs_prefix.specs.Changes.{name_changes}
+use Rattle.ufs_prefix.specs.Laws.{NamesGoByChanges}
+use Rattle.ufs_stored.specs.Known.{IsKeptGoing, IsKeptStopped, Known, with_names_known}
+use Rattle.ufs_stored.specs.OnDisk.{IsExplainedImage}
 use Rattle.ufs_stored.specs.OnDiskLaws.{CommitsStop}
 use Rattle.ufs_stored.specs.Parts.{Parts}
 use Rattle.ufs_stored.specs.Stored.{IsSpelled, IsStored}
+use Rattle.ufs_stored.proofs.Known.{named_covers, named_still, stopped_known}
 use Rattle.ufs_stored.proofs.Numbered.{has_inode}
 use Rattle.ufs_synced.specs.Laws.{IsBeside, NamesAreExplained, NamesMayLeave}
 use Rattle.ufs_synced.specs.Ready.{HasSpelled}
 
-module _ (g : Geometry) (old new : StoreState) (start : PosixTree) (history : List Entry) (p : Parts) (beside : IsBeside g old new) (h : HasSpelled old start history p) where
+module _ (g : Geometry) (old new : StoreState) (start : PosixTree) (history : List Entry) (p : Parts) (known : Known) (beside : IsBeside g old new) (h : HasSpelled old start history p known) where
   abbrev l : Ledger
   l = h.ledger
 
@@ -53,12 +57,16 @@ module _ (g : Geometry) (old new : StoreState) (start : PosixTree) (history : Li
   emptied_stored : EmptiedIsStored g → IsStored (checkpointed old l) old.unassigned.free start history k p
   emptied_stored empties = empties l old.unassigned.free start history k p (next_superblock old) (block_at (home_of l (reads old.moments))) formed next_form h.stored
 
-  pub waits : EmptiedIsStored g → ((m : Ledger) → HasLedger old m → HasLedger new m ⊎ HasLedger new (checkpointed old m)) → IsGoing new start history p
+  pub waits : EmptiedIsStored g → ((m : Ledger) → HasLedger old m → HasLedger new m ⊎ HasLedger new (checkpointed old m)) → IsKeptGoing new start history p known
   waits empties leaves = by (leaves l led)
     where
-      by : HasLedger new l ⊎ HasLedger new (checkpointed old l) → IsGoing new start history p
-      by (inl has) = record { ledger = l; counts = k; has = has; formed = formed ∙ sym beside.new_form; stored = moved l k p h.stored }
-      by (inr has) = record { ledger = checkpointed old l; counts = k; has = has; formed = next_form ∙ sym beside.new_form; stored = moved (checkpointed old l) k p (emptied_stored empties) }
+      by : HasLedger new l ⊎ HasLedger new (checkpointed old l) → IsKeptGoing new start history p known
+      by (inl has) = record { going = record { ledger = l; counts = k; has = has; formed = formed ∙ sym beside.new_form; stored = moved l k p h.stored }; covers = h.covers; numbered = h.numbered }
+      by (inr has) = record {
+        going = record { ledger = checkpointed old l; counts = k; has = has; formed = next_form ∙ sym beside.new_form; stored = moved (checkpointed old l) k p (emptied_stored empties) };
+        covers = h.covers;
+        numbered = h.numbered;
+      }
 
   -- ---- with room
 
@@ -100,8 +108,8 @@ module _ (g : Geometry) (old new : StoreState) (start : PosixTree) (history : Li
       may : MayCommitNext old records l
       may = subst (λ x. MayCommit x (next_commit old records) l.now) (sym beside.old_form) (mays l old.unassigned.free start history k p old.journal.number records to_commit covers led.fits h.stored)
 
-      pub commits : EmptiedIsStored g → NamesAreCommitted g → ((m : Ledger) → HasLedger old m → MayCommitNext old records m → HasLedger new (after_commit old records m)) → HasNames new start history (with_names_committed p)
-      commits empties done commit = record {
+      pub commits : NamesGoByChanges → EmptiedIsStored g → NamesAreCommitted g → ((m : Ledger) → HasLedger old m → MayCommitNext old records m → HasLedger new (after_commit old records m)) → IsKeptGoing new start history (with_names_committed p) (with_names_known p.names (length (name_changes start history)) known)
+      commits by empties done commit = record {
         going = record {
           ledger = after_commit old records l;
           counts = all_named start history p.names k;
@@ -110,30 +118,31 @@ module _ (g : Geometry) (old new : StoreState) (start : PosixTree) (history : Li
           stored = moved (after_commit old records l) (all_named start history p.names k) (with_names_committed p)
               (done (with_room old records l) old.unassigned.free start history k p old.journal.number records room_to_commit (room_stored empties records));
         };
-        names = omega arith;
-        numbered = has_inode p.names;
+        covers = named_covers l old.unassigned.free start history k p known h.stored h.covers by;
+        numbered = λ file is live. has_inode p.names file live;
       }
 
-      pub stops : EmptiedIsStored g → NamesAreCommitting g → CommitsStop g → IsSome new.stop → ((m : Ledger) → HasLedger old m → MayCommitNext old records m → HasAny new (stages old records m)) → HasStopped new start history p
+      pub stops : EmptiedIsStored g → NamesAreCommitting g → CommitsStop g → IsSome new.stop → ((m : Ledger) → HasLedger old m → MayCommitNext old records m → HasAny new (stages old records m)) → IsKeptStopped new start history p known
       stops empties meanwhile stop stopped leaves =
-          stop old new records l start history k (all_named start history p.names k) p beside.new_form formed stopped led (leaves l led may)
-          (meanwhile (with_room old records l) old.unassigned.free start history k p old.journal.number records room_to_commit (room_stored empties records)) (moved l k p h.stored)
+          stopped_known new start history p k (all_named start history p.names k) known h.covers (named_still l old.unassigned.free start history k p known h.stored h.covers)
+          (stop old new records l start history k (all_named start history p.names k) p beside.new_form formed stopped led (leaves l led may)
+          (meanwhile (with_room old records l) old.unassigned.free start history k p old.journal.number records room_to_commit (room_stored empties records)) (moved l k p h.stored))
 
 -- ---- meanwhile
 
 pub names_may_leave : (g : Geometry) → LedgersAreSound → NamesMayCommit g → EmptiedIsStored g → NamesAreCommitting g → CommitImagesAreExplained g → NamesMayLeave g
-names_may_leave g sound mays empties meanwhile each s start history p records same noted table h =
+names_may_leave g sound mays empties meanwhile each s start history p known records same noted table h =
     let beside : IsBeside g s s = record { old_form = same; new_form = same; unassigned = refl } in
     record {
       ledger = h.ledger;
       knows = h.knows;
-      may = may g s s start history p beside h records noted table sound mays;
+      may = may g s s start history p known beside h records noted table sound mays;
       allowed = λ image. each s records image h.ledger start history h.counts (all_named start history p.names h.counts) (h.formed ∙ same) h.knows.superblock_is h.stored.kept
-          (meanwhile (with_room s records h.ledger) s.unassigned.free start history h.counts p s.journal.number records (room_to_commit g s s start history p beside h records noted table)
-          (room_stored g s s start history p beside h empties records));
+          (meanwhile (with_room s records h.ledger) s.unassigned.free start history h.counts p s.journal.number records (room_to_commit g s s start history p known beside h records noted table)
+          (room_stored g s s start history p known beside h empties records));
     }
 
 pub names_explained : (g : Geometry) → NamesMayLeave g → NamesAreExplained g
-names_explained g leaves keeps s new start history p records same noted table run h =
-    let told = leaves s start history p records same noted table h in
+names_explained g leaves keeps s new start history p known records same noted table run h =
+    let told = leaves s start history p known records same noted table h in
     weaker keeps (IsLeftByAny s.sectors (stages s records told.ledger)) (IsExplainedImage s.sectors start history) told.allowed s.moments new (run told.ledger told.knows told.may)

@@ -26,6 +26,7 @@ use Rattle.ufs_model.specs.declared.data.Entry.{Entry}
 use Rattle.ufs_durable.specs.Standing.{IsFileBlock}
 use Rattle.ufs_store.specs.Ledgers.{HasLedger}
 use Rattle.ufs_store.specs.State.{StoreState}
+use Rattle.ufs_stored.specs.Known.{Known}
 use Rattle.ufs_stored.specs.Laws.{SettledIsStored, SpelledIsStored}
 use Rattle.ufs_stored.specs.Parts.{Parts}
 use Rattle.ufs_stored.specs.Stored.{IsSpelled, IsStored}
@@ -156,14 +157,16 @@ module _ (g : Geometry) (s : StoreState) (start : PosixTree) (history : List Ent
       last true = refl
       last false = refl
 
-pub zeros_settle : (g : Geometry) → LedgersAreSound → SettledIsStored g → SpelledIsStored g → (old new : StoreState) (start : PosixTree) (history : List Entry) (p : Parts) → IsBeside g old new → IsWhole new.sectors new.moments.state
-    → ((m : Ledger) → HasLedger old m → HasLedger new (settled m)) → HasZeros old start history p p.fresh → HasSpelled new start history p
-zeros_settle g sound settles spells old new start history p beside whole barrier z = record {
+pub zeros_settle : (g : Geometry) → LedgersAreSound → SettledIsStored g → SpelledIsStored g → (old new : StoreState) (start : PosixTree) (history : List Entry) (p : Parts) (known : Known) → IsBeside g old new → IsWhole new.sectors new.moments.state
+    → ((m : Ledger) → HasLedger old m → HasLedger new (settled m)) → HasZeros old start history p known p.fresh → HasSpelled new start history p known
+zeros_settle g sound settles spells old new start history p known beside whole barrier z = record {
   ledger = all.ledger;
   counts = z.counts;
   knows = all.knows;
   formed = all.formed ∙ sym beside.new_form;
   stored = all.stored;
+  covers = z.covers;
+  numbered = z.numbered;
   ready = all.done;
 }
   where

@@ -7,3 +7,4 @@ mod Committing
 mod There
 mod Everything
 mod Stops
+mod Lacking

@@ -1,5 +1,5 @@
 -- What is dropped comes back behind a checkpoint.
-use Rattle.std.proofs.Common.{◌≡◌, ◌≢◌, ℕ, ◌⊎◌, inl, inr, ◌||◌, Bool, true, false, List, [], Option, Some, ap, sym, refl, ◌∙◌, subst}
+use Rattle.std.proofs.Common.{◌≡◌, ◌≢◌, ℕ, ◌⊎◌, inl, inr, ◌||◌, Bool, true, false, List, [], ◌∷◌, Option, Some, None, is_some, ap, sym, refl, ◌∙◌, subst}
 use Rattle.std.specs.Prelude.{IsSome, IsTrue, flat_map, if◌then◌else◌, unwrap_or}
 use Rattle.std.specs.List.{range_with_len, slice_get}
 use Rattle.std.specs.FinMap as map
@@ -27,21 +27,23 @@ use Rattle.ufs_model.specs.PosixTree.{PosixTree}
 use Rattle.ufs_model.specs.declared.data.Entry.{Entry}
 use Rattle.ufs_model.proofs.Facts.Lookups.{from_some, same_some}
 use Rattle.ufs_durable.specs.Standing.{IsFileBlock}
-use Rattle.ufs_durable.specs.State.{CommitState, whole_of}
+use Rattle.ufs_durable.specs.State.{CommitState, DurableState, state_of, whole_of}
+use Rattle.ufs_durable.proofs.Served.{has_at}
+use Rattle.ufs_bitmap.proofs.TakingLemmas.{has-append}
 use Rattle.ufs_durable.proofs.Standing.{blocks_are}
-use Rattle.ufs_store.specs.Ledgers.{HasLedger, checkpointed}
+use Rattle.ufs_store.specs.Ledgers.{HasAny, HasLedger, beginning_next, checkpointed}
 use Rattle.ufs_bitmap.specs.Space.{Space}
 use Rattle.ufs_store.specs.State.{StoreState, next_superblock}
 use Rattle.ufs_stored.specs.AlwaysLaws.{CheckpointImagesAreExplained}
 use Rattle.ufs_stored.specs.Laws.{EmptiedIsStored}
-use Rattle.ufs_stored.specs.OnDisk.{IsGoing}
+use Rattle.ufs_stored.specs.OnDisk.{HasStoppedBy, IsGoing}
 use Rattle.ufs_stored.specs.OnDiskLaws.{CheckpointsStop}
 use Rattle.ufs_stored.specs.Parts.{FileOwns, NamesOwn, OneFile, Owner, Owns, Parts, TheNames, ThePool, Unassigned, committed_as, durable_in}
 use Rattle.ufs_stored.specs.Sound.{IsSoundServer}
-use Rattle.ufs_stored.specs.Stored.{AreNamesStored, FileHasIt, IsFileStored, IsKnownBlock, IsStored, with_fresh}
-use Rattle.ufs_stored.proofs.Places.{held_at}
+use Rattle.ufs_stored.specs.Stored.{AreNamesStored, ArePartsOf, FileHasIt, IsFileStored, IsKnownBlock, IsStored, with_fresh}
 use Rattle.ufs_stored.proofs.Unfresh.{never}
-use Rattle.ufs_synced.specs.Laws.{CheckpointsFail, CheckpointsMayLeave, DroppedIsReclaimed, HasNothingNoted, IsBeside, ReclaimedIsPart, ReclaimedIsSound, with_reclaimed}
+use Rattle.ufs_stored.proofs.Known.{stopped_known}
+use Rattle.ufs_synced.specs.Laws.{CheckpointsFail, CheckpointsFailKept, CheckpointsMayLeave, DroppedIsReclaimed, DroppedIsReclaimedKept, HasNothingNoted, HasNothingTaken, IsBeside, ReclaimedIsPart, ReclaimedIsSound, with_reclaimed}
 use Rattle.ufs_synced.proofs.Fewer.{fewer, fewer_known, fewer_stored}
 use Rattle.ufs_synced.proofs.There.{no_steps}
 
@@ -127,33 +129,43 @@ reclaimed_sound g u p fresh sound = record {
 pub reclaimed_part : ReclaimedIsPart
 reclaimed_part p t is = record { names = is.names; files = is.files; inodes = is.inodes; here = is.here }
 
+-- ---- files that are committed as they are
+
+-- keep their blocks
+nothing_taken : (p : Parts) (t : PosixTree) → ArePartsOf p t → HasNothingNoted p → HasNothingTaken p
+nothing_taken p t parts nothing = record {
+  names = nothing.names;
+  fresh = nothing.fresh;
+  files = λ file s here b is.
+      let number = (parts.files file s here).0 in
+      let live : is_some (map.get p.names.held file) ≡ true = parts.names.told file ∙ ap (λ (f : ℕ). is_some (map.get t.bytes f)) (sym number) ∙ ap is_some (parts.files file s here).1.has in
+      let known : map.get p.commits s.file ≡ None = ap (map.get p.commits) number ∙ nothing.files file live in
+      let all : durable_in p.commits s ≡ state_of s (committed_as s) = ap (λ (o : Option CommitState). state_of s (unwrap_or o (committed_as s))) known in
+      let own : has (blocks_of s.extents) b ≡ true = ap (λ (f : DurableState). has (blocks_of f.log.committed.runs) b) (sym all) ∙ is in
+      has-append (blocks_of s.extents) (blocks_of (durable_in p.commits s).dropped) b ∙ ap (λ (v : Bool). v || has (blocks_of (durable_in p.commits s).dropped) b) own;
+}
+
 -- ---- the checkpoint
 
-module _ (g : Geometry) (l : Ledger) (u : BlockSet) (start : PosixTree) (history : List Entry) (k : Counts) (p : Parts) (st : IsStored l u start history k p) (nothing : HasNothingNoted p) (same : geometry_of l.superblock ≡ g) (sound : IsSoundServer g u p) where
-  -- a live file has on the disk what it has here
+module _ (g : Geometry) (l : Ledger) (u : BlockSet) (start : PosixTree) (history : List Entry) (k : Counts) (p : Parts) (st : IsStored l u start history k p) (nothing : HasNothingTaken p) (same : geometry_of l.superblock ≡ g) (sound : IsSoundServer g u p) where
+  -- a live file has here what it has on the disk
   has_here : (file inode place b : ℕ) → IsSome (map.get p.names.held file) → k.numbers.inode file ≡ Some inode → HasBlock (geometry_of l.superblock) l.now.catalog inode place b → FileOwns p file b
   has_here file inode place b live number at = by (from_some (map.get p.files file) (st.parts.here file live))
     where
       by : (s : FileState) × (map.get p.files file ≡ Some s) → FileOwns p file b
-      by (s, here) = record { hand = s; here = here; held = held_at (durable_in p.commits s) place b there }
+      by (s, here) = record { hand = s; here = here; held = nothing.files file s here b (has_at (blocks_of (durable_in p.commits s).log.committed.runs) place b (on (st.each file s here).stored)) }
         where
           is : s.file ≡ file
           is = (st.parts.files file s here).0
 
-          runs : (durable_in p.commits s).log.committed.runs ≡ s.extents
-          runs = ap (λ (o : Option CommitState). (unwrap_or o (committed_as s)).log.committed.runs) (ap (map.get p.commits) is ∙ nothing.files file live)
-
-          on : IsFileStored l k.numbers (whole_of (bytes_of (tree_after start history).bytes file) (durable_in p.commits s)) → slice_get (blocks_of s.extents) place ≡ Some b
+          on : IsFileStored l k.numbers (whole_of (bytes_of (tree_after start history).bytes file) (durable_in p.commits s)) → slice_get (blocks_of (durable_in p.commits s).log.committed.runs) place ≡ Some b
           on (inl both) =
               let inode_is : inode ≡ s.inode = same_some inode s.inode (sym number ∙ ap k.numbers.inode (sym is) ∙ both.0) in
-              let blocks : form_blocks (l.now.catalog.forms inode) ≡ blocks_of s.extents =
+              let blocks : form_blocks (l.now.catalog.forms inode) ≡ blocks_of (durable_in p.commits s).log.committed.runs =
               ap (λ i. form_blocks (l.now.catalog.forms i)) inode_is
-              ∙ ap (flat_map (λ (e : Extent). range_with_len e.start e.length)) both.1.extents ∙ blocks_are (durable_in p.commits s).log.committed.runs ∙ ap blocks_of runs in
+              ∙ ap (flat_map (λ (e : Extent). range_with_len e.start e.length)) both.1.extents ∙ blocks_are (durable_in p.commits s).log.committed.runs in
               ap (λ (bs : List ℕ). slice_get bs place) (sym blocks) ∙ at.there
           on (inr both) = (let clash = sym both.0 ∙ ap k.numbers.inode is ∙ number in absurd cc)
-
-          there : slice_get (blocks_of s.extents) place ≡ Some b
-          there = on (st.each file s here).stored
 
   -- No inode on the disk has a block that is dropped.
   pub lacks : (inode place b : ℕ) → set.contains p.dropped b ≡ true → HasBlock (geometry_of l.superblock) l.now.catalog inode place b → ⊥
@@ -235,7 +247,7 @@ module _ (g : Geometry) (l : Ledger) (u : BlockSet) (start : PosixTree) (history
       };
     }
 
-module _ (g : Geometry) (empties : EmptiedIsStored g) (sounds : LedgersAreSound) (old new : StoreState) (start : PosixTree) (history : List Entry) (p : Parts) (beside : IsBeside g old new) (nothing : HasNothingNoted p) (sound : IsSoundServer g old.unassigned.free p)
+module _ (g : Geometry) (empties : EmptiedIsStored g) (sounds : LedgersAreSound) (old new : StoreState) (start : PosixTree) (history : List Entry) (p : Parts) (beside : IsBeside g old new) (nothing : HasNothingTaken p) (sound : IsSoundServer g old.unassigned.free p)
     (checkpoint : (l : Ledger) → HasLedger old l → HasLedger new (checkpointed old l)) (go : IsGoing old start history p) where
   abbrev u : BlockSet
   u = old.unassigned.free
@@ -252,7 +264,7 @@ module _ (g : Geometry) (empties : EmptiedIsStored g) (sounds : LedgersAreSound)
   st_next : IsStored next u start history go.counts p
   st_next = empties go.ledger u start history go.counts p (next_superblock old) (block_at (home_of go.ledger (reads old.moments))) (go.formed ∙ beside.old_form) form_next go.stored
 
-  going_on : IsGoing new start history (with_reclaimed p)
+  abbrev going_on : IsGoing new start history (with_reclaimed p)
   going_on = record {
     ledger = m g next u start history go.counts p st_next nothing form_next sound;
     counts = go.counts;
@@ -264,12 +276,24 @@ module _ (g : Geometry) (empties : EmptiedIsStored g) (sounds : LedgersAreSound)
   }
 
 pub reclaimed : (g : Geometry) → EmptiedIsStored g → LedgersAreSound → DroppedIsReclaimed g
-reclaimed g empties sounds old new start history p beside nothing sound checkpoint go = going_on g empties sounds old new start history p beside nothing sound checkpoint go
+reclaimed g empties sounds old new start history p beside nothing sound checkpoint go = going_on g empties sounds old new start history p beside (nothing_taken p (tree_after start history) go.stored.parts nothing) sound checkpoint go
 
-pub checkpoint_fails : (g : Geometry) → CheckpointsStop g → CheckpointsFail g
-checkpoint_fails g stops old new start history p beside stopped leaves go =
+pub reclaimed_kept : (g : Geometry) → EmptiedIsStored g → LedgersAreSound → DroppedIsReclaimedKept g
+reclaimed_kept g empties sounds old new start history p known beside nothing sound checkpoint was =
+    record { going = going_on g empties sounds old new start history p beside nothing sound checkpoint was.going; covers = was.covers; numbered = was.numbered }
+
+stops_by : (g : Geometry) → CheckpointsStop g → (old new : StoreState) (start : PosixTree) (history : List Entry) (p : Parts) → IsBeside g old new → IsSome new.stop → ((l : Ledger) → HasLedger old l → HasAny new (l ∷ beginning_next old l ∷ []))
+    → (go : IsGoing old start history p) → HasStoppedBy new start history p go.counts go.counts
+stops_by g stops old new start history p beside stopped leaves go =
     stops old new go.ledger start history go.counts p beside.new_form (go.formed ∙ beside.old_form) stopped go.has (leaves go.ledger go.has)
     (subst (λ (a : Space). IsStored go.ledger a.free start history go.counts p) (sym beside.unassigned) go.stored)
+
+pub checkpoint_fails : (g : Geometry) → CheckpointsStop g → CheckpointsFail g
+checkpoint_fails g stops old new start history p beside stopped leaves go = (stops_by g stops old new start history p beside stopped leaves go).stopped
+
+pub checkpoint_fails_kept : (g : Geometry) → CheckpointsStop g → CheckpointsFailKept g
+checkpoint_fails_kept g stops old new start history p known beside stopped leaves was =
+    stopped_known new start history p was.going.counts was.going.counts known was.covers was.covers (stops_by g stops old new start history p beside stopped leaves was.going)
 
 pub checkpoint_may_leave : (g : Geometry) → CheckpointImagesAreExplained g → CheckpointsMayLeave g
 checkpoint_may_leave g each s start history p same go = record {

@@ -32,9 +32,10 @@ use Rattle.ufs_durable.specs.Standing.{StandsFor}
 use Rattle.ufs_durable.specs.State.{DurableState, whole_of}
 use Rattle.ufs_store.specs.State.{StoreState, geometry_of_store}
 use Rattle.ufs_stored.specs.Laws.{all_named, with_names_committed}
-use Rattle.ufs_stored.specs.OnDisk.{HasNames, IsGoing}
+use Rattle.ufs_stored.specs.Known.{IsKeptGoing, Known, with_names_known}
 use Rattle.ufs_stored.specs.Parts.{NamesOwn, Parts, durable_in}
 use Rattle.ufs_stored.specs.Stored.{AreNamesNoted, AreNamesStored, FileHasIt, IsFileStored, IsKnownBlock, IsStored, with_fresh, with_none}
+use Rattle.ufs_stored.proofs.Known.{named_covers}
 use Rattle.ufs_stored.proofs.Numbered.{alone_now, born_now, has_inode, live, names_now, numbered}
 use Rattle.ufs_stored.proofs.Unfresh.{before, never, part_committed, sound_zeroed}
 
@@ -197,19 +198,19 @@ module _ (l : Ledger) (u : BlockSet) (start : PosixTree) (history : List Entry) 
     };
   }
 
-pub there : (g : Geometry) → NamesGoByChanges → NamesMayGoOn g → NamesStandOn g → CommitsKeep g → (s : StoreState) (start : PosixTree) (history : List Entry) (p : Parts) → geometry_of_store s ≡ g → p.names.tree.noted ≡ Some [] → IsNameTable p.names.tree
-    → IsGoing s start history p → HasNames s start history (with_names_committed p)
-there g by names stand commit s start history p same none_noted table go = record {
-  going = record { ledger = go.ledger; counts = all_named start history p.names go.counts; has = go.has; formed = go.formed; stored = on go.stored.names };
-  names = omega arith;
-  numbered = has_inode p.names;
+pub there : (g : Geometry) → NamesGoByChanges → NamesMayGoOn g → NamesStandOn g → CommitsKeep g → (s : StoreState) (start : PosixTree) (history : List Entry) (p : Parts) (known : Known) → geometry_of_store s ≡ g → p.names.tree.noted ≡ Some [] → IsNameTable p.names.tree
+    → IsKeptGoing s start history p known → IsKeptGoing s start history (with_names_committed p) (with_names_known p.names (length (name_changes start history)) known)
+there g by names stand commit s start history p known same none_noted table kept = record {
+  going = record { ledger = kept.going.ledger; counts = all_named start history p.names kept.going.counts; has = kept.going.has; formed = kept.going.formed; stored = on kept.going.stored.names };
+  covers = named_covers kept.going.ledger s.unassigned.free start history kept.going.counts p known kept.going.stored kept.covers by;
+  numbered = λ file is live. has_inode p.names file live;
 }
   where
-    form : g ≡ geometry_of go.ledger.superblock
-    form = sym (go.formed ∙ same)
+    form : g ≡ geometry_of kept.going.ledger.superblock
+    form = sym (kept.going.formed ∙ same)
 
-    on : AreNamesStored go.ledger go.counts.numbers p.fresh p.names → IsStored go.ledger s.unassigned.free start history (all_named start history p.names go.counts) (with_names_committed p)
+    on : AreNamesStored kept.going.ledger kept.going.counts.numbers p.fresh p.names → IsStored kept.going.ledger s.unassigned.free start history (all_named start history p.names kept.going.counts) (with_names_committed p)
     on (inl off) = (let clash = sym off ∙ none_noted in absurd cc)
-    on (inr n) = there_stored go.ledger s.unassigned.free start history go.counts p s.journal.number go.stored n
-        (no_steps (with_fresh p.fresh n.committed) n.steps (same_some _ [] (sym n.noted ∙ none_noted))) go.has.by.none table go.has.older
+    on (inr n) = there_stored kept.going.ledger s.unassigned.free start history kept.going.counts p s.journal.number kept.going.stored n
+        (no_steps (with_fresh p.fresh n.committed) n.steps (same_some _ [] (sym n.noted ∙ none_noted))) kept.going.has.by.none table kept.going.has.older
         by (subst NamesMayGoOn form names) (subst NamesStandOn form stand) (subst CommitsKeep form commit)

@@ -11,6 +11,7 @@ use Rattle.ufs_model.specs.declared.data.Entry.{Entry}
 use Rattle.ufs_durable.specs.Standing.{IsFileBlock}
 use Rattle.ufs_store.specs.Ledgers.{HasLedger}
 use Rattle.ufs_store.specs.State.{StoreState, geometry_of_store}
+use Rattle.ufs_stored.specs.Known.{AreBorn, Covers, Known, nothing_known}
 use Rattle.ufs_stored.specs.OnDisk.{IsExplainedImage}
 use Rattle.ufs_stored.specs.Parts.{Parts}
 use Rattle.ufs_stored.specs.Stored.{IsSpelled, IsStored}
@@ -19,13 +20,16 @@ use Rattle.ufs_stored.specs.Stored.{IsSpelled, IsStored}
 abbrev pub zeros : List ℕ
 zeros = replicate BLOCK 0
 
--- The store knows a ledger on which the server is stored. Each block that directories took may be written, and these read as zeros.
-pub record HasZeros (s : StoreState) (start : PosixTree) (history : List Entry) (p : Parts) (done : List ℕ) : Type 0 where
+-- The store knows a ledger on which the server is stored, by counts that have what is known. Each block that directories took may be
+-- written, and these read as zeros.
+pub record HasZeros (s : StoreState) (start : PosixTree) (history : List Entry) (p : Parts) (known : Known) (done : List ℕ) : Type 0 where
   pub ledger : Ledger
   pub counts : Counts
   pub knows : HasLedger s ledger
   pub formed : geometry_of ledger.superblock ≡ geometry_of_store s
   pub stored : IsStored ledger s.unassigned.free start history counts p
+  pub covers : Covers start history counts known
+  pub numbered : AreBorn counts p known
   pub free : (block : ℕ) → has p.fresh block ≡ true → IsFileBlock ledger block
   pub zero : (block : ℕ) → has done block ≡ true → (ledger.blocks block).seen ≡ zeros
 
@@ -33,14 +37,16 @@ pub record HasZeros (s : StoreState) (start : PosixTree) (history : List Entry) 
 pub record ExplainsZeroed (allows : Image → Type 0) (s : StoreState) (p : Parts) (done : List ℕ) : Type 0 where
   pub start : PosixTree
   pub history : List Entry
-  pub zeroed : HasZeros s start history p done
+  pub zeroed : HasZeros s start history p nothing_known done
   pub allowed : (image : Image) → IsExplainedImage s.sectors start history image → allows image
 
--- The store knows a ledger on which the server is stored, and on which dentries may be set in each of these blocks.
-pub record HasSpelled (s : StoreState) (start : PosixTree) (history : List Entry) (p : Parts) : Type 0 where
+-- The store knows a ledger on which the server is stored, by such counts, and on which dentries may be set in each of these blocks.
+pub record HasSpelled (s : StoreState) (start : PosixTree) (history : List Entry) (p : Parts) (known : Known) : Type 0 where
   pub ledger : Ledger
   pub counts : Counts
   pub knows : HasLedger s ledger
   pub formed : geometry_of ledger.superblock ≡ geometry_of_store s
   pub stored : IsStored ledger s.unassigned.free start history counts p
+  pub covers : Covers start history counts known
+  pub numbered : AreBorn counts p known
   pub ready : (block : ℕ) → has p.fresh block ≡ true → IsSpelled ledger block

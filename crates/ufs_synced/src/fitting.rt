@@ -1,10 +1,9 @@
 // Whether records may be committed to a disk of this form.
-ghost use Rattle.std.specs.Prelude.{◌≡◌, ◌<◌, ◌&&◌, IsTrue, nat_lt};
+ghost use Rattle.std.specs.Prelude.{◌≡◌, IsTrue};
 ghost use Rattle.std.specs.List.{list_all};
 ghost use Rattle.ufs_image.specs.Fold.{is_in_range};
 ghost use Rattle.ufs_layout.specs.Areas.{IsGeometry, is_data_sector, is_inode_number};
-ghost use Rattle.ufs_layout.specs.Filled.{sector_count_of};
-ghost use Rattle.ufs_layout.specs.Records.{is_record};
+ghost use Rattle.ufs_synced.specs.Fits.{fit};
 
 use ufs_ilog::NamesLog;
 use ufs_layout::{Geometry, LogRecord};
@@ -47,7 +46,7 @@ fn are_inside(geometry: &Geometry, records: &[LogRecord]) -> bool
 /// Whether each record is in range, and an empty journal has room for them all.
 pub(crate) fn fits(geometry: &Geometry, log: &NamesLog) -> bool
     requires { IsGeometry geometry.now }
-    ensures { result ≡ (list_all (is_in_range geometry.now) log.now && nat_lt (sector_count_of log.now) geometry.now.journal) }
+    ensures { result ≡ fit geometry.now log.now }
 {
     are_inside(geometry, log.records().as_slice()) && log.sectors() < geometry.journal
 }

@@ -1,6 +1,6 @@
 // Laws of the definitions, each the contract of a function that does nothing.
 ghost use Rattle.ufs_layout.specs.Areas.{IsGeometry};
-ghost use Rattle.ufs_synced.specs.Laws.{AllAreThere, BarriersAreExplained, BarriersFail, CheckpointsFail, CheckpointsMayLeave, DroppedIsReclaimed, NamesAreExplained, NamesAreThere, NamesCommit, NamesMayLeave, NamesStop, NamesWait, ReclaimedIsPart, ReclaimedIsSound, ZerosAreExplained, ZerosBegin, ZerosGoOn, ZerosMayLeave, ZerosSettle, ZerosStay, ZerosStop};
+ghost use Rattle.ufs_synced.specs.Laws.{AllAreThere, BarriersAreExplained, BarriersFail, CheckpointsFail, CheckpointsFailKept, CheckpointsMayLeave, DroppedIsReclaimed, DroppedIsReclaimedKept, NamesAreExplained, NamesAreThere, NamesCommit, NamesMayLeave, NamesStop, NamesWait, ReclaimedIsPart, ReclaimedIsSound, ZerosAreExplained, ZerosBegin, ZerosGoOn, ZerosMayLeave, ZerosSettle, ZerosStay, ZerosStop};
 
 use ufs_layout::Geometry;
 use ufs_ledger::{form_law, promise_law};
@@ -64,8 +64,10 @@ pub fn all_law(geometry: &Geometry)
 pub fn reclaim_law(geometry: &Geometry)
     requires { IsGeometry geometry.now }
     ensures reclaimed { DroppedIsReclaimed geometry.now }
+    ensures known { DroppedIsReclaimedKept geometry.now }
     ensures may_leave { CheckpointsMayLeave geometry.now }
     ensures fails { CheckpointsFail geometry.now }
+    ensures failed { CheckpointsFailKept geometry.now }
     ensures sound { ReclaimedIsSound }
     ensures parts { ReclaimedIsPart }
 {

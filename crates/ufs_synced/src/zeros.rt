@@ -7,7 +7,8 @@ ghost use Rattle.ufs_model.specs.declared.data.Entry.{Entry};
 ghost use Rattle.ufs_store.specs.Refusals.{IsTold, fault_in};
 ghost use Rattle.ufs_store.specs.State.{geometry_of_store};
 ghost use Rattle.ufs_store.specs.declared.fault.StoreFault.TheVariants as refusal;
-ghost use Rattle.ufs_stored.specs.OnDisk.{HasStopped, IsExplainedBetween, IsGoing};
+ghost use Rattle.ufs_stored.specs.Known.{IsKeptGoing, IsKeptStopped, Known};
+ghost use Rattle.ufs_stored.specs.OnDisk.{IsExplainedBetween};
 ghost use Rattle.ufs_stored.specs.Parts.{Parts};
 ghost use Rattle.ufs_stored.specs.Stamping.{ExplainsAllowed};
 ghost use Rattle.ufs_synced.specs.Ready.{ExplainsZeroed, HasSpelled, HasZeros};
@@ -21,12 +22,12 @@ fn write_zero<D: Door>(door: &mut D, block: u32) -> Result<(), StoreFault>
     requires going { (D.store door.old).stop ≡ None }
     requires there { IsDataBlock (geometry_of_store (D.store door.old)) block }
     requires stamped { D.stamps → (p : Parts) × (done : List ℕ) × (has p.fresh block ≡ true) × ExplainsZeroed D.allows (D.store door.old) p done }
-    ensures ok { IsTrue D.visible → OnOk result ((start : PosixTree) (history : List Entry) (p : Parts) (done : List ℕ) → has p.fresh block ≡ true
-        → HasZeros (D.store door.old) start history p done → HasZeros (D.store door.new) start history p (done ++ block ∷ [])) }
-    ensures err { IsTrue D.visible → OnErr result ((start : PosixTree) (history : List Entry) (p : Parts) (done : List ℕ) → has p.fresh block ≡ true
-        → HasZeros (D.store door.old) start history p done → HasStopped (D.store door.new) start history p) }
-    ensures moments { IsTrue D.visible → (start : PosixTree) (history : List Entry) (p : Parts) (done : List ℕ) → has p.fresh block ≡ true
-        → HasZeros (D.store door.old) start history p done → IsExplainedBetween D.keeps (D.store door.old).sectors start history (D.store door.old).moments (D.store door.new).moments }
+    ensures ok { IsTrue D.visible → OnOk result ((start : PosixTree) (history : List Entry) (p : Parts) (known : Known) (done : List ℕ) → has p.fresh block ≡ true
+        → HasZeros (D.store door.old) start history p known done → HasZeros (D.store door.new) start history p known (done ++ block ∷ [])) }
+    ensures err { IsTrue D.visible → OnErr result ((start : PosixTree) (history : List Entry) (p : Parts) (known : Known) (done : List ℕ) → has p.fresh block ≡ true
+        → HasZeros (D.store door.old) start history p known done → IsKeptStopped (D.store door.new) start history p known) }
+    ensures moments { IsTrue D.visible → (start : PosixTree) (history : List Entry) (p : Parts) (known : Known) (done : List ℕ) → has p.fresh block ≡ true
+        → HasZeros (D.store door.old) start history p known done → IsExplainedBetween D.keeps (D.store door.old).sectors start history (D.store door.old).moments (D.store door.new).moments }
     ensures passed { OnOk result (D.store door.new ≡ record (D.store door.old) { moments = (D.store door.new).moments; unsettled = (D.store door.new).unsettled }) }
     ensures rest { D.store door.new ≡ record (D.store door.old) { moments = (D.store door.new).moments; faults = (D.store door.new).faults; unsettled = (D.store door.new).unsettled; stop = (D.store door.new).stop } }
     ensures cause { IsTold (D.store door.old).faults (D.store door.new).faults (fault_in result) }
@@ -44,9 +45,9 @@ fn write_zeros<D: Door>(door: &mut D, fresh: &[u32]) -> Result<(), StoreFault>
     requires going { (D.store door.old).stop ≡ None }
     requires there { (block : ℕ) → has fresh.now block ≡ true → IsDataBlock (geometry_of_store (D.store door.old)) block }
     requires stamped { D.stamps → (p : Parts) × (p.fresh ≡ fresh.now) × ExplainsZeroed D.allows (D.store door.old) p [] }
-    ensures ok { IsTrue D.visible → OnOk result ((start : PosixTree) (history : List Entry) (p : Parts) → p.fresh ≡ fresh.now → HasZeros (D.store door.old) start history p [] → HasZeros (D.store door.new) start history p p.fresh) }
-    ensures err { IsTrue D.visible → OnErr result ((start : PosixTree) (history : List Entry) (p : Parts) → p.fresh ≡ fresh.now → HasZeros (D.store door.old) start history p [] → HasStopped (D.store door.new) start history p) }
-    ensures moments { IsTrue D.visible → (start : PosixTree) (history : List Entry) (p : Parts) → p.fresh ≡ fresh.now → HasZeros (D.store door.old) start history p []
+    ensures ok { IsTrue D.visible → OnOk result ((start : PosixTree) (history : List Entry) (p : Parts) (known : Known) → p.fresh ≡ fresh.now → HasZeros (D.store door.old) start history p known [] → HasZeros (D.store door.new) start history p known p.fresh) }
+    ensures err { IsTrue D.visible → OnErr result ((start : PosixTree) (history : List Entry) (p : Parts) (known : Known) → p.fresh ≡ fresh.now → HasZeros (D.store door.old) start history p known [] → IsKeptStopped (D.store door.new) start history p known) }
+    ensures moments { IsTrue D.visible → (start : PosixTree) (history : List Entry) (p : Parts) (known : Known) → p.fresh ≡ fresh.now → HasZeros (D.store door.old) start history p known []
         → IsExplainedBetween D.keeps (D.store door.old).sectors start history (D.store door.old).moments (D.store door.new).moments }
     ensures passed { OnOk result (D.store door.new ≡ record (D.store door.old) { moments = (D.store door.new).moments; unsettled = (D.store door.new).unsettled }) }
     ensures rest { D.store door.new ≡ record (D.store door.old) { moments = (D.store door.new).moments; faults = (D.store door.new).faults; unsettled = (D.store door.new).unsettled; stop = (D.store door.new).stop } }
@@ -67,9 +68,9 @@ pub(crate) fn make_ready<D: Door>(door: &mut D, fresh: &[u32]) -> Result<(), Sto
     requires going { (D.store door.old).stop ≡ None }
     requires there { (block : ℕ) → has fresh.now block ≡ true → IsDataBlock (geometry_of_store (D.store door.old)) block }
     requires stamped { D.stamps → (p : Parts) × (p.fresh ≡ fresh.now) × ExplainsAllowed D.allows (D.store door.old) p }
-    ensures ok { IsTrue D.visible → OnOk result ((start : PosixTree) (history : List Entry) (p : Parts) → p.fresh ≡ fresh.now → IsGoing (D.store door.old) start history p → HasSpelled (D.store door.new) start history p) }
-    ensures err { IsTrue D.visible → OnErr result ((start : PosixTree) (history : List Entry) (p : Parts) → p.fresh ≡ fresh.now → IsGoing (D.store door.old) start history p → HasStopped (D.store door.new) start history p) }
-    ensures moments { IsTrue D.visible → (start : PosixTree) (history : List Entry) (p : Parts) → p.fresh ≡ fresh.now → IsGoing (D.store door.old) start history p
+    ensures ok { IsTrue D.visible → OnOk result ((start : PosixTree) (history : List Entry) (p : Parts) (known : Known) → p.fresh ≡ fresh.now → IsKeptGoing (D.store door.old) start history p known → HasSpelled (D.store door.new) start history p known) }
+    ensures err { IsTrue D.visible → OnErr result ((start : PosixTree) (history : List Entry) (p : Parts) (known : Known) → p.fresh ≡ fresh.now → IsKeptGoing (D.store door.old) start history p known → IsKeptStopped (D.store door.new) start history p known) }
+    ensures moments { IsTrue D.visible → (start : PosixTree) (history : List Entry) (p : Parts) (known : Known) → p.fresh ≡ fresh.now → IsKeptGoing (D.store door.old) start history p known
         → IsExplainedBetween D.keeps (D.store door.old).sectors start history (D.store door.old).moments (D.store door.new).moments }
     ensures passed { OnOk result (D.store door.new ≡ record (D.store door.old) { moments = (D.store door.new).moments; unsettled = (D.store door.new).unsettled }) }
     ensures rest { D.store door.new ≡ record (D.store door.old) { moments = (D.store door.new).moments; faults = (D.store door.new).faults; unsettled = (D.store door.new).unsettled; stop = (D.store door.new).stop } }

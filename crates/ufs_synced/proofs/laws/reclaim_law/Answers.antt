@@ -1,4 +1,4 @@
-use Rattle.ufs_synced.proofs.Reclaiming.{checkpoint_fails, checkpoint_may_leave, reclaimed, reclaimed_part, reclaimed_sound}
+use Rattle.ufs_synced.proofs.Reclaiming.{checkpoint_fails, checkpoint_fails_kept, checkpoint_may_leave, reclaimed, reclaimed_kept, reclaimed_part, reclaimed_sound}
 use Rattle.ufs_synced.proofs.laws.reclaim_law.Goals as goal
 
 pub returns-clause-reclaimed : goal.returns-clause-reclaimed
@@ -15,3 +15,9 @@ returns-clause-sound c = reclaimed_sound
 
 pub returns-clause-parts : goal.returns-clause-parts
 returns-clause-parts c = reclaimed_part
+
+pub returns-clause-known : goal.returns-clause-known
+returns-clause-known c = reclaimed_kept c.args.geometry.now c.ready_law.ensures.checkpoint c.form_law.ensures.sound
+
+pub returns-clause-failed : goal.returns-clause-failed
+returns-clause-failed c = checkpoint_fails_kept c.args.geometry.now c.stopping_law.ensures.checkpoint

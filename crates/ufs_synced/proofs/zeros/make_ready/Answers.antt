@@ -6,8 +6,9 @@ use Rattle.ufs_model.specs.PosixTree.{PosixTree}
 use Rattle.ufs_model.specs.declared.data.Entry.{Entry}
 use Rattle.ufs_store.specs.Ledgers.{HasLedger}
 use Rattle.ufs_store.specs.State.{StoreState, geometry_of_store}
-use Rattle.ufs_stored.specs.OnDisk.{HasStopped, IsGoing}
+use Rattle.ufs_stored.specs.Known.{IsKeptGoing, IsKeptStopped, Known, nothing_known}
 use Rattle.ufs_stored.specs.Parts.{Parts}
+use Rattle.ufs_stored.proofs.Known.{nothing_going}
 use Rattle.ufs_stored.proofs.Stamping.{is_going}
 use Rattle.ufs_stored.proofs.Stretches.{explained_joined}
 use Rattle.ufs_synced.specs.Laws.{IsBeside}
@@ -24,7 +25,7 @@ write_zeros-requires-clause-stamped g c stamps =
       record {
         start = e.start;
         history = e.history;
-        zeroed = c.zeros_law.ensures.begin old e.start e.history told.0 (is_going old e.start e.history told.0 c.requires.going e.on_disk);
+        zeroed = c.zeros_law.ensures.begin old e.start e.history told.0 nothing_known (nothing_going old e.start e.history told.0 (is_going old e.start e.history told.0 c.requires.going e.on_disk));
         allowed = e.allowed;
       },
     )
@@ -33,10 +34,10 @@ pub returns-in_err-write_zeros-clause-err : goal.returns-in_err-write_zeros-clau
 returns-in_err-write_zeros-clause-err g c visible =
     let old = g.D.Door.store c.args.door.now in
     let new = g.D.Door.store c.write_zeros.new.door in
-    let stops : (start : PosixTree) (history : List Entry) (p : Parts) → p.fresh ≡ c.args.fresh.now → IsGoing old start history p → HasStopped new start history p =
-    λ start history p same go. c.in_err-write_zeros.ensures.err visible start history p same (c.zeros_law.ensures.begin old start history p go) in
+    let stops : (start : PosixTree) (history : List Entry) (p : Parts) (known : Known) → p.fresh ≡ c.args.fresh.now → IsKeptGoing old start history p known → IsKeptStopped new start history p known =
+    λ start history p known same go. c.in_err-write_zeros.ensures.err visible start history p known same (c.zeros_law.ensures.begin old start history p known go) in
     let p = err_from_is_err_and c.from_residual.result c.from_residual.ensures.1 in
-    subst (λ r. OnErr r ((start : PosixTree) (history : List Entry) (p : Parts) → p.fresh ≡ c.args.fresh.now → IsGoing old start history p → HasStopped new start history p)) (sym p.1) stops
+    subst (λ r. OnErr r ((start : PosixTree) (history : List Entry) (p : Parts) (known : Known) → p.fresh ≡ c.args.fresh.now → IsKeptGoing old start history p known → IsKeptStopped new start history p known)) (sym p.1) stops
 
 pub returns-clause-ok : goal.returns-clause-ok
 returns-clause-ok g c visible =
@@ -48,8 +49,8 @@ returns-clause-ok g c visible =
       new_form = ap geometry_of_store c.settle.ensures.rest ∙ ap geometry_of_store c.write_zeros.ensures.rest ∙ sym c.geometry-geometry.ensures.is;
       unassigned = ap (λ (s : StoreState). s.unassigned) c.settle.ensures.rest;
     } in
-    on_ok_weaker c.settle.result (λ barrier start history p same go. c.zeros_law.ensures.barrier mid new start history p beside (g.met.D.Door.whole visible c.settle.new.self) barrier
-    (c.in_ok-write_zeros.ensures.ok visible start history p same (c.zeros_law.ensures.begin old start history p go))) (c.settle.ensures.ok visible)
+    on_ok_weaker c.settle.result (λ barrier start history p known same go. c.zeros_law.ensures.barrier mid new start history p known beside (g.met.D.Door.whole visible c.settle.new.self) barrier
+    (c.in_ok-write_zeros.ensures.ok visible start history p known same (c.zeros_law.ensures.begin old start history p known go))) (c.settle.ensures.ok visible)
 
 pub returns-clause-err : goal.returns-clause-err
 returns-clause-err g c visible =
@@ -64,9 +65,9 @@ returns-clause-err g c visible =
     let going = ap (λ (s : StoreState). s.stop) c.in_ok-write_zeros.ensures.passed ∙ c.requires.going in
     let device = device_alone mid.stop new.stop going c.settle.result c.settle.ensures.refused c.settle.ensures.stopped in
     let stopped = has_stopped mid.stop new.stop going c.settle.result (stop_is mid.stop new.stop _ going c.settle.ensures.stop) device in
-    on_err_cases c.settle.result _ (λ at start history p same go. c.zeros_law.ensures.barrier_fails mid new start history p p.fresh beside (at (IsSome new.stop) stopped)
+    on_err_cases c.settle.result _ (λ at start history p known same go. c.zeros_law.ensures.barrier_fails mid new start history p known p.fresh beside (at (IsSome new.stop) stopped)
     (at ((l : Ledger) → HasLedger mid l → IsLedgerOf new.sectors new.moments.state l) (c.settle.ensures.err visible))
-    (c.in_ok-write_zeros.ensures.ok visible start history p same (c.zeros_law.ensures.begin old start history p go)))
+    (c.in_ok-write_zeros.ensures.ok visible start history p known same (c.zeros_law.ensures.begin old start history p known go)))
 
 pub returns-clause-stop : goal.returns-clause-stop
 returns-clause-stop g c = stop_is _ _ _ (ap (λ (s : StoreState). s.stop) c.in_ok-write_zeros.ensures.passed ∙ c.requires.going) c.settle.ensures.stop
@@ -84,16 +85,16 @@ returns-clause-passed g c =
     (passed_ok c.settle.result mid new going c.settle.ensures.rest c.settle.ensures.cause c.settle.ensures.stop)
 
 pub returns-in_err-write_zeros-clause-moments : goal.returns-in_err-write_zeros-clause-moments
-returns-in_err-write_zeros-clause-moments g c visible start history p same go =
-    c.write_zeros.ensures.moments visible start history p same (c.zeros_law.ensures.begin (g.D.Door.store c.args.door.now) start history p go)
+returns-in_err-write_zeros-clause-moments g c visible start history p known same go =
+    c.write_zeros.ensures.moments visible start history p known same (c.zeros_law.ensures.begin (g.D.Door.store c.args.door.now) start history p known go)
 
 pub returns-clause-moments : goal.returns-clause-moments
-returns-clause-moments g c visible start history p same go =
+returns-clause-moments g c visible start history p known same go =
     let old = g.D.Door.store c.args.door.now in
     let mid = g.D.Door.store c.write_zeros.new.door in
     let new = g.D.Door.store c.settle.new.self in
-    let z = c.zeros_law.ensures.begin old start history p go in
+    let z = c.zeros_law.ensures.begin old start history p known go in
     explained_joined g.D.Door.keeps start history old.sectors old.moments mid new.moments (ap (λ (s : StoreState). s.sectors) c.write_zeros.ensures.rest)
-    (c.write_zeros.ensures.moments visible start history p same z)
-    (c.zeros_law.ensures.barrier_moments g.D.Door.keeps mid new.moments start history p p.fresh (ap geometry_of_store c.write_zeros.ensures.rest ∙ sym c.geometry-geometry.ensures.is) (c.settle.ensures.crash visible)
-    (c.in_ok-write_zeros.ensures.ok visible start history p same z))
+    (c.write_zeros.ensures.moments visible start history p known same z)
+    (c.zeros_law.ensures.barrier_moments g.D.Door.keeps mid new.moments start history p known p.fresh (ap geometry_of_store c.write_zeros.ensures.rest ∙ sym c.geometry-geometry.ensures.is) (c.settle.ensures.crash visible)
+    (c.in_ok-write_zeros.ensures.ok visible start history p known same z))

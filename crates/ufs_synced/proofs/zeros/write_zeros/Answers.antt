@@ -10,7 +10,7 @@ use Rattle.ufs_model.specs.PosixTree.{PosixTree}
 use Rattle.ufs_model.specs.declared.data.Entry.{Entry}
 use Rattle.ufs_model.proofs.Facts.Histories.{take-push}
 use Rattle.ufs_store.specs.State.{StoreState, geometry_of_store}
-use Rattle.ufs_stored.specs.OnDisk.{HasStopped}
+use Rattle.ufs_stored.specs.Known.{IsKeptStopped, Known, nothing_known}
 use Rattle.ufs_stored.specs.Parts.{Parts}
 use Rattle.ufs_stored.proofs.Stamping.{allowed_on}
 use Rattle.ufs_stored.proofs.Stretches.{explained_joined}
@@ -20,8 +20,8 @@ use Rattle.ufs_synced.proofs.zeros.write_zeros.Goals as goal
 pub loop-place-init : goal.loop-place-init
 loop-place-init g c = record {
   passed = refl;
-  moments = λ visible start history p is z. c.zeros_law.ensures.rest g.D.Door.keeps (g.D.Door.store c.args.door.now) start history p [] (sym c.geometry-geometry.ensures.is) z;
-  zero = λ visible start history p is z. z;
+  moments = λ visible start history p known is z. c.zeros_law.ensures.rest g.D.Door.keeps (g.D.Door.store c.args.door.now) start history p known [] (sym c.geometry-geometry.ensures.is) z;
+  zero = λ visible start history p known is z. z;
 }
 
 pub write_zero-requires-clause-there : goal.write_zero-requires-clause-there
@@ -48,7 +48,7 @@ write_zero-requires-clause-stamped g c stamps =
       record {
         start = e.start;
         history = e.history;
-        zeroed = i.zero (g.met.D.Door.sees stamps) e.start e.history told.0 told.1 e.zeroed;
+        zeroed = i.zero (g.met.D.Door.sees stamps) e.start e.history told.0 nothing_known told.1 e.zeroed;
         allowed = allowed_on g.D.Door.allows e.start e.history (g.D.Door.store c.args.door.now).sectors (g.D.Door.store c.loop-place.door).sectors (ap (λ (s : StoreState). s.sectors) i.passed) e.allowed;
       },
     )
@@ -63,10 +63,10 @@ returns-in_err-write_zero-clause-err g c visible =
     let at : slice_get fresh k ≡ Some block = slice_get-get_or fresh k 0 less in
     let old = g.D.Door.store c.args.door.now in
     let new = g.D.Door.store c.write_zero.new.door in
-    let stops : (start : PosixTree) (history : List Entry) (p : Parts) → p.fresh ≡ fresh → HasZeros old start history p [] → HasStopped new start history p =
-    λ start history p same z. c.in_err-write_zero.ensures.err visible start history p (take k fresh) (ap (λ (xs : List ℕ). has xs block) same ∙ has_at fresh k block at) (i.zero visible start history p same z) in
+    let stops : (start : PosixTree) (history : List Entry) (p : Parts) (known : Known) → p.fresh ≡ fresh → HasZeros old start history p known [] → IsKeptStopped new start history p known =
+    λ start history p known same z. c.in_err-write_zero.ensures.err visible start history p known (take k fresh) (ap (λ (xs : List ℕ). has xs block) same ∙ has_at fresh k block at) (i.zero visible start history p known same z) in
     let p = err_from_is_err_and c.from_residual.result c.from_residual.ensures.1 in
-    subst (λ r. OnErr r ((start : PosixTree) (history : List Entry) (p : Parts) → p.fresh ≡ fresh → HasZeros old start history p [] → HasStopped new start history p)) (sym p.1) stops
+    subst (λ r. OnErr r ((start : PosixTree) (history : List Entry) (p : Parts) (known : Known) → p.fresh ≡ fresh → HasZeros old start history p known [] → IsKeptStopped new start history p known)) (sym p.1) stops
 
 pub loop-place-preserved : goal.loop-place-preserved
 loop-place-preserved g c =
@@ -80,15 +80,15 @@ loop-place-preserved g c =
     let next : suc k ≡ k + 1 = omega arith in
     record {
       passed = c.in_ok-write_zero.ensures.passed ∙ ap (λ (s : StoreState). record s { moments = new.moments; unsettled = new.unsettled }) i.passed;
-      moments = λ visible start history p same z. explained_joined g.D.Door.keeps start history (g.D.Door.store c.args.door.now).sectors (g.D.Door.store c.args.door.now).moments (g.D.Door.store c.loop-place.door) new.moments
-          (ap (λ (s : StoreState). s.sectors) i.passed) (i.moments visible start history p same z)
-          (c.write_zero.ensures.moments visible start history p (take k fresh) (ap (λ (xs : List ℕ). has xs block) same ∙ has_at fresh k block at) (i.zero visible start history p same z));
-      zero = λ visible start history p same z. subst (HasZeros new start history p) (sym (take-push fresh k block at) ∙ ap (λ (n : ℕ). take n fresh) next)
-          (c.in_ok-write_zero.ensures.ok visible start history p (take k fresh) (ap (λ (xs : List ℕ). has xs block) same ∙ has_at fresh k block at) (i.zero visible start history p same z));
+      moments = λ visible start history p known same z. explained_joined g.D.Door.keeps start history (g.D.Door.store c.args.door.now).sectors (g.D.Door.store c.args.door.now).moments (g.D.Door.store c.loop-place.door) new.moments
+          (ap (λ (s : StoreState). s.sectors) i.passed) (i.moments visible start history p known same z)
+          (c.write_zero.ensures.moments visible start history p known (take k fresh) (ap (λ (xs : List ℕ). has xs block) same ∙ has_at fresh k block at) (i.zero visible start history p known same z));
+      zero = λ visible start history p known same z. subst (HasZeros new start history p known) (sym (take-push fresh k block at) ∙ ap (λ (n : ℕ). take n fresh) next)
+          (c.in_ok-write_zero.ensures.ok visible start history p known (take k fresh) (ap (λ (xs : List ℕ). has xs block) same ∙ has_at fresh k block at) (i.zero visible start history p known same z));
     }
 
 pub returns-in_err-write_zero-clause-moments : goal.returns-in_err-write_zero-clause-moments
-returns-in_err-write_zero-clause-moments g c visible start history p same z =
+returns-in_err-write_zero-clause-moments g c visible start history p known same z =
     let fresh = c.args.fresh.now in
     let k : ℕ = c.loop-place.place in
     let i = c.loop-place.invariant in
@@ -96,8 +96,8 @@ returns-in_err-write_zero-clause-moments g c visible start history p same z =
     let block : ℕ = slice_index_or fresh k 0 in
     let at : slice_get fresh k ≡ Some block = slice_get-get_or fresh k 0 less in
     explained_joined g.D.Door.keeps start history (g.D.Door.store c.args.door.now).sectors (g.D.Door.store c.args.door.now).moments (g.D.Door.store c.loop-place.door) (g.D.Door.store c.write_zero.new.door).moments
-    (ap (λ (s : StoreState). s.sectors) i.passed) (i.moments visible start history p same z)
-    (c.write_zero.ensures.moments visible start history p (take k fresh) (ap (λ (xs : List ℕ). has xs block) same ∙ has_at fresh k block at) (i.zero visible start history p same z))
+    (ap (λ (s : StoreState). s.sectors) i.passed) (i.moments visible start history p known same z)
+    (c.write_zero.ensures.moments visible start history p known (take k fresh) (ap (λ (xs : List ℕ). has xs block) same ∙ has_at fresh k block at) (i.zero visible start history p known same z))
 
 pub returns-clause-moments : goal.returns-clause-moments
-returns-clause-moments g c visible start history p same z = c.loop-place.invariant.moments visible start history p same z
+returns-clause-moments g c visible start history p known same z = c.loop-place.invariant.moments visible start history p known same z

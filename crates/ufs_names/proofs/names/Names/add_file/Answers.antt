@@ -27,7 +27,7 @@ returns-in-Ok-clause-space c =
     let spent = block_spent n.tree.dirs c.add_file.new.self.dirs c.args.pool.now c.add_file.new.pool _ c.args.dir c.requires.parent
     (subst (λ (t : NameTable). SpendsBlock t.dirs c.add_file.new.self.dirs c.args.pool.now c.add_file.new.pool (names_above c.args.path.now)) tree c.in-Ok.ensures.block) c.add_file.ensures.apart in
     keeps_made n _ c.args.files.now c.make.new.self c.args.pool.now c.add_file.new.pool c.requires.apart c.self.inside.next c.in-Some.inode c.with.result
-    (ap (map.get c.args.files.now) next ∙ c.requires.no_file) (ap (λ (h : Holding). h.inode) c.with.ensures) spent (c.add_file.ensures.inodes ∙ ap (λ (t : NameTable). length t.dirs.dirs) tree)
+    (ap (map.get n.held) next ∙ c.requires.unheld) (ap (map.get c.args.files.now) next ∙ c.requires.no_file) (ap (λ (h : Holding). h.inode) c.with.ensures) spent (c.add_file.ensures.inodes ∙ ap (λ (t : NameTable). length t.dirs.dirs) tree)
     (c.in_default-put.ensures.ok ∙ ap (λ (n : NamesPart). map.insert n.held c.self.inside.next c.with.result) c.self.view_is)
     c.in_default-make.ensures.ok
 

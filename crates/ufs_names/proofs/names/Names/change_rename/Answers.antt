@@ -68,7 +68,7 @@ returns-clause-loses c other =
 pub returns-clause-space : goal.returns-clause-space
 returns-clause-space c =
     let mid : NamesPart = record { tree = c.rename.new.self; held = c.self.inside.held; next = c.self.inside.next } in
-    keeps_then c.args.self.now mid c.forget_name.new.self c.args.files.now c.args.files.now c.forget_name.new.files c.args.pool.now c.rename.new.pool c.forget_name.new.pool
+    keeps_then c.args.self.now mid c.forget_name.new.self c.args.files.now c.args.files.now c.forget_name.new.files c.args.pool.now c.rename.new.pool c.forget_name.new.pool (ap (λ (n : NamesPart). n.held) c.self.view_is)
     (keeps_dirs c.args.self.now mid c.args.files.now c.args.files.now c.args.pool.now c.rename.new.pool c.requires.apart
     (exchanged c.args.self.now c.self.inside.tree c.rename.new.self (ap (λ (n : NamesPart). n.tree) c.self.view_is) c.args.from.now c.args.to.now c.args.step.to.found c.requires.found c.in_ok-rename.ensures.files
     c.args.pool.now c.rename.new.pool c.args.step.to.dir c.requires.to_dir c.in_ok-rename.ensures.replaced c.in_ok-rename.ensures.block c.in_ok-rename.ensures.apart)

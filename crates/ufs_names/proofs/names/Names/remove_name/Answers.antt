@@ -26,7 +26,7 @@ forget_name-requires-clause-apart c =
 pub returns-clause-space : goal.returns-clause-space
 returns-clause-space c =
     let mid : NamesPart = record { tree = c.remove.new.self; held = c.self.inside.held; next = c.self.inside.next } in
-    keeps_then c.args.self.now mid c.forget_name.new.self c.args.files.now c.args.files.now c.forget_name.new.files c.args.pool.now c.remove.new.pool c.forget_name.new.pool
+    keeps_then c.args.self.now mid c.forget_name.new.self c.args.files.now c.args.files.now c.forget_name.new.files c.args.pool.now c.remove.new.pool c.forget_name.new.pool (ap (λ (n : NamesPart). n.held) c.self.view_is)
     (keeps_dirs c.args.self.now mid c.args.files.now c.args.files.now c.args.pool.now c.remove.new.pool c.requires.apart
     (subst (λ (n : NamesPart). DirExchanges n.tree.dirs c.remove.new.self.dirs c.args.pool.now c.remove.new.pool) c.self.view_is
     (freed c.self.inside.tree.dirs c.remove.new.self.dirs c.args.pool.now c.remove.new.pool (found_at c.self.inside.tree.dirs c.args.path.now) c.remove.ensures.freed c.remove.ensures.apart))
