@@ -1,5 +1,5 @@
 -- A turn of the store in which a checkpoint was made may end.
-use Rattle.std.proofs.Common.{◌≡◌, ℕ, ◌+◌, ◌≤◌, ◌⊎◌, inl, inr, Bool, true, false, cond, eqb, leb, List, [], ◌∷◌, length, map, Option, None, is_some, sym, refl, ap, ◌∙◌, subst, arith}
+use Rattle.std.proofs.Common.{◌≡◌, ℕ, ◌+◌, ◌≤◌, ◌⊎◌, inl, inr, Bool, true, cond, eqb, leb, List, [], ◌∷◌, length, map, Option, None, sym, refl, ap, ◌∙◌, subst, arith}
 use Rattle.std.specs.Prelude.{IsSome, drop}
 use Rattle.std.proofs.lemmas.List.{append-nil}
 use Rattle.std.specs.FinMap as fin
@@ -31,17 +31,19 @@ use Rattle.ufs_stored.proofs.Reading.{begun_readable, stored_readable}
 use Rattle.ufs_joint.specs.Cells.{FileCell, NamesCell, StoreCell, View, store_of, store_since}
 use Rattle.ufs_joint.specs.Checkpoints.{CheckpointsGoOn, CheckpointsMayEnd, HasBegunAnew, IsBareHand, MakesCheckpoint, checkpoint_turn}
 use Rattle.ufs_joint.specs.FileHands.{IsAsBegun, WentOn}
-use Rattle.ufs_joint.specs.Kept.{GoesKnown, IsDiskKept, Known, StoppedKnown}
+use Rattle.ufs_stored.specs.Known.{IsDiskKept, IsKeptGoing, IsKeptStopped, IsMore, Known}
+use Rattle.ufs_joint.specs.NoneLost.{IsHad}
 use Rattle.ufs_joint.specs.Turns.{EndsOnDisk, MayEndTurn, Turn, known_by}
 use Rattle.ufs_joint.specs.Whole.{HasCells}
-use Rattle.ufs_joint.proofs.Disks.{among, drop_behind}
+use Rattle.ufs_joint.proofs.Disks.{among, drop_behind, nothing_behind}
 use Rattle.ufs_joint.proofs.FileTurns.{or_none}
-use Rattle.ufs_joint.proofs.Kept.{IsLess, going_named, less_kept, since_kept}
+use Rattle.ufs_joint.proofs.Kept.{kept_going, since_kept}
+use Rattle.ufs_kept.proofs.Forgetting.{less_is_kept}
 
 -- ---- the disk keeps what it kept
 
 module _ (g : Geometry) (begins : BeginningIsKept g) (empties : EmptiedIsStored g) (old new : StoreState) (start : PosixTree) (history : List Entry) (p : Parts) (known : Known) (form : geometry_of_store old ≡ g) (same : geometry_of_store new ≡ geometry_of_store old)
-    (free : new.unassigned.free ≡ old.unassigned.free) (kept : GoesKnown old start history p known) where
+    (free : new.unassigned.free ≡ old.unassigned.free) (kept : IsKeptGoing old start history p known) where
   abbrev l : Ledger
   l = kept.going.ledger
 
@@ -54,7 +56,7 @@ module _ (g : Geometry) (begins : BeginningIsKept g) (empties : EmptiedIsStored 
   next_form : geometry_of (next_superblock old) ≡ g
   next_form = ap geometry_of (sym kept.going.has.superblock_is) ∙ has_form
 
-  made : HasLedger new (checkpointed old l) → GoesKnown new start history p known
+  made : HasLedger new (checkpointed old l) → IsKeptGoing new start history p known
   made has = record {
     going = record {
       ledger = checkpointed old l;
@@ -64,9 +66,10 @@ module _ (g : Geometry) (begins : BeginningIsKept g) (empties : EmptiedIsStored 
       stored = subst (λ (u : BlockSet). IsStored (checkpointed old l) u start history k p) (sym free) (empties l old.unassigned.free start history k p (next_superblock old) (block_at (home_of l (reads old.moments))) has_form next_form kept.going.stored);
     };
     covers = kept.covers;
+    numbered = kept.numbered;
   }
 
-  stops : IsSome new.stop → (m : Ledger) → geometry_of m.superblock ≡ g → IsLedgerOf new.sectors new.moments.state m → IsLedgerKept m start history k k → AreReadable m (tree_after start history) p → StoppedKnown new start history p known
+  stops : IsSome new.stop → (m : Ledger) → geometry_of m.superblock ≡ g → IsLedgerOf new.sectors new.moments.state m → IsLedgerKept m start history k k → AreReadable m (tree_after start history) p → IsKeptStopped new start history p known
   stops stopped m its has is_kept clean = record {
     stopped = record {
       stopped = stopped;
@@ -83,14 +86,12 @@ module _ (g : Geometry) (begins : BeginningIsKept g) (empties : EmptiedIsStored 
     };
     now = kept.covers;
     maybe = kept.covers;
-    now_named = going_named old start history p known kept;
-    maybe_named = going_named old start history p known kept;
   }
 
   readable : AreReadable l (tree_after start history) p
   readable = stored_readable l old.unassigned.free start history k p kept.going.stored
 
-  failed : IsSome new.stop → HasAny new (l ∷ beginning_next old l ∷ []) → StoppedKnown new start history p known
+  failed : IsSome new.stop → HasAny new (l ∷ beginning_next old l ∷ []) → IsKeptStopped new start history p known
   failed stopped (inl is) = stops stopped l has_form is kept.going.stored.kept readable
   failed stopped (inr (inl is)) =
       stops stopped (beginning_next old l) has_form is (begins l (next_superblock old) (block_at (home_of l (reads old.moments))) start history k k has_form next_form kept.going.stored.kept)
@@ -103,10 +104,10 @@ module _ (g : Geometry) (begins : BeginningIsKept g) (empties : EmptiedIsStored 
 
 -- ---- the turn
 
-abbrev by_files : {A : Type 0} → Option A → ℕ → List (ℕ × FileCell) → Option A
+abbrev pub by_files : {A : Type 0} → Option A → ℕ → List (ℕ × FileCell) → Option A
 by_files had file xs = cond (leb 1 (count eqb file xs + 0)) None had
 
-same_le : (n : ℕ) → n ≤ n
+pub same_le : (n : ℕ) → n ≤ n
 same_le n = omega arith
 
 module _ (g : Geometry) (begins : BeginningIsKept g) (empties : EmptiedIsStored g) (explains : CheckpointsAreExplained g) (keeps visible : Bool) (v : View) (was left : StoreCell) (passed : List Cells) (told : List ℕ)
@@ -125,20 +126,12 @@ module _ (g : Geometry) (begins : BeginningIsKept g) (empties : EmptiedIsStored 
     was_kept = since_kept was [] makes.earlier start history p known begun.kept
 
     -- no more is known
-    less : IsLess (known_by start history t known) known
+    less : IsMore (known_by start history t known) known
     less = record { names = same_le known.names; files = λ file. same_le (known.files file); born = λ file is. sym (or_none (known.born file)) ∙ is }
 
-    nothing : {A : Type 0} (xs : List A) → drop (length xs) xs ≡ []
-    nothing [] = refl
-    nothing (x ∷ xs) = nothing xs
-
     module _ (going : was.stop ≡ None) where
-      goes : IsDiskKept old start history p known → GoesKnown old start history p known
-      goes (inl k) = k
-      goes (inr k) = (let stop = k.stopped.stopped in let clash : false ≡ true = ap is_some (sym going) ∙ stop in absurd cc)
-
-      kept : GoesKnown old start history p known
-      kept = goes was_kept
+      kept : IsKeptGoing old start history p known
+      kept = kept_going old start history p known going was_kept
 
       between : IsExplainedBetween keeps was.sectors start history old.moments new.moments
       between = explains keeps old old.moments new.moments kept.going.ledger start history kept.going.counts (kept.going.formed ∙ form) kept.going.has.superblock_is kept.going.stored.kept (makes.crash seen kept.going.ledger kept.going.has)
@@ -154,18 +147,18 @@ module _ (g : Geometry) (begins : BeginningIsKept g) (empties : EmptiedIsStored 
 
     ends : (new ≡ old) ⊎ ((was.stop ≡ None) × HasBegunAnew old new) → EndsOnDisk was t (λ q. q) start history p known
     ends (inr told) = record {
-      kept = less_kept (store_of left) start history p (known_by start history t known) known less (since_kept left makes.later [] start history p known (after told.0 told.1));
+      kept = less_is_kept (store_of left) start history p (known_by start history t known) known less (since_kept left makes.later [] start history p known (after told.0 told.1));
       picked = λ pick never. absurd never;
       passed = λ cells has. among was.sectors start history (passes told.0).inside (passes told.0).each cells (subst (Has cells) (behind told.0) has);
     }
     ends (inl same) = record {
-      kept = less_kept (store_of left) start history p (known_by start history t known) known less (since_kept left makes.later [] start history p known (subst (λ (s : StoreState). IsDiskKept s start history p known) (sym same) was_kept));
+      kept = less_is_kept (store_of left) start history p (known_by start history t known) known less (since_kept left makes.later [] start history p known (subst (λ (s : StoreState). IsDiskKept s start history p known) (sym same) was_kept));
       picked = λ pick never. absurd never;
       passed = λ cells has. absurd (subst (Has cells) none has);
     }
       where
         none : passed ≡ []
-        none = makes.left_so.went seen ∙ ap (λ (s : StoreState). map (cells_of s.sectors) (drop (length (all old.moments)) (all s.moments))) same ∙ ap (map (cells_of was.sectors)) (nothing (all old.moments))
+        none = makes.left_so.went seen ∙ ap (λ (s : StoreState). map (cells_of s.sectors) (drop (length (all old.moments)) (all s.moments))) same ∙ ap (map (cells_of was.sectors)) (nothing_behind (all old.moments))
 
     went_by : (new ≡ old) ⊎ ((was.stop ≡ None) × HasBegunAnew old new) → WentOn old new
     went_by (inl same) = ([], ap (λ (q : StoreState). all q.moments) same ∙ sym (append-nil (all old.moments)))
@@ -207,6 +200,7 @@ module _ (g : Geometry) (begins : BeginningIsKept g) (empties : EmptiedIsStored 
     once = tt;
     away = λ file place c has absent. absurd has;
     parts = λ tree p cells _ are. are;
+    none_lost = λ p cells numbered b had. subst (λ (q : BlockSet). IsHad p q b) (sym makes.unassigned) had;
     server = λ p cells numbered sound. subst (λ (q : BlockSet). IsSoundServer g q p) (sym makes.unassigned) sound;
     disk = λ seen start history p known around. ends seen start history p known (record { cells = around.cells; knows = around.knows; kept = around.kept }) (makes.made seen);
   }

@@ -31,15 +31,18 @@ use Rattle.ufs_stored.specs.Parts.{Parts}
 use Rattle.ufs_stored.specs.Sound.{IsSoundServer}
 use Rattle.ufs_joint.specs.Cells.{FileCell, NamesCell, Start, View, Word, World, store_of}
 use Rattle.ufs_joint.specs.Draws.{DrawsOnDisk, DrawsTo, IsAround, IsUnknown, Leaves, MayDraw, drawn}
-use Rattle.ufs_joint.specs.Kept.{IsDiskKept, Known}
+use Rattle.ufs_stored.specs.Known.{IsDiskKept, IsMore, Known}
 use Rattle.ufs_joint.specs.Laws.{DrawKeeps, one_more}
 use Rattle.ufs_joint.specs.Picks.{IsAbsent, bytes_at}
 use Rattle.ufs_joint.specs.Sound.{AreChangesTold, ArePastExplained, AreTicketsOnce, DoPartsStay, IsAskedTrue, IsDiskSound, IsExplainedState, IsHeld, IsKeptSince, IsSound, LeadsTo, MayHaveBegun}
-use Rattle.ufs_joint.specs.Whole.{birth_known_by, AreFreeIn, ArePartsIn, ArePoolsApart, HasCells, HasNamesCell, KnowsCells, changes_known, commits_of, hand_of, known_in, name_changes_at, no_blocks, pooled}
-use Rattle.ufs_joint.proofs.Blocks.{or_cases, or_left, or_right, put_back, taken_out}
+use Rattle.ufs_joint.specs.Whole.{birth_known, birth_known_by, AreFreeIn, ArePartsIn, ArePoolsApart, HasCells, HasNamesCell, KnowsCells, changes_known, commits_of, hand_of, known_in, name_changes_at, no_blocks, pooled}
+use Rattle.ufs_joint.proofs.Blocks.{difference_in, has_or, none_in, or_cases, or_left, or_right, put_back, taken_out, union_left, union_right}
 use Rattle.ufs_joint.proofs.Exchange.{kind_exchanged, names_are, nothing_counted, one_exchanged, one_single, single_of}
 use Rattle.ufs_joint.proofs.FaultsTold.{faults_drawn, untold}
-use Rattle.ufs_joint.proofs.Kept.{IsLess, less_kept, moved_kept}
+use Rattle.ufs_joint.proofs.NoneLost.{joined, parted}
+use Rattle.ufs_joint.specs.NoneLost.{HandHas, IsHad}
+use Rattle.ufs_kept.proofs.Forgetting.{less_is_kept}
+use Rattle.ufs_kept.proofs.Pools.{pools_stay}
 use Rattle.ufs_joint.proofs.Parting.{cells_there, commits_after, file_after, freed_fewer, freed_in, names_after, other_pool, own_free, same_cells, same_names_cell, still_apart}
 use Rattle.ufs_joint.proofs.Takes.{take_front, take_whole}
 
@@ -156,6 +159,17 @@ module _ (k : Start) (word : Word) (views : List View) (i : ℕ) (v : View) (f :
 
   server_after : IsSoundServer k.geometry freed next0
   server_after = sound_by_free_blocks k.geometry rest next1 no_blocks freed moves_back (to o.begun o.may_begin).server
+
+  none_lost_after : (b : ℕ) → HandHas k.view b → IsHad next0 freed b
+  none_lost_after b is =
+      joined next1 (pooled l.pools) rest no_blocks freed b (m.pool p1 cells1 refl) (union_right rest (pooled l.pools) b) (union_left rest (pooled l.pools) b)
+      ((to o.begun o.may_begin).none_lost b (parted o.parts o.free (pooled v.pools) rest b no_pool split (o.none_lost b is)))
+    where
+      no_pool : setof.contains o.parts.pool b ≡ true → ⊥
+      no_pool has = none_in b (subst (λ (q : BlockSet). setof.contains q b ≡ true) o.parts_in.pool has)
+
+      split : setof.contains o.free b ≡ true → (setof.contains (pooled v.pools) b ≡ true) ⊎ (setof.contains rest b ≡ true)
+      split free = ⊎_elim (λ x. inl x) (λ x. inr (difference_in o.free (pooled v.pools) b free x)) (has_or (pooled v.pools) b)
 
   parts_after : ArePartsIn next_world next0
   parts_after =
@@ -316,7 +330,7 @@ module _ (k : Start) (word : Word) (views : List View) (i : ℕ) (v : View) (f :
     knows = record {
       files = λ file c has. let is = ap (changes_known k.tree h file) (o.one_hand.files.agree i v at file c has) in omega (arith, is);
       born = λ file c has born. ap (birth_known_by k.tree h G.names.named file) (o.one_hand.files.agree i v at file c has) ∙ or_left c.born (setof.contains G.names.named file) born;
-      named = λ file c u x has also is. ap (birth_known_by k.tree h G.names.named file) (o.one_hand.files.agree i v at file c has) ∙ or_right c.born (setof.contains G.names.named file) (ap (λ (y : NamesCell). setof.contains y.named file) (names_are views i v w at G o.one_hand u x also) ∙ is);
+      named = λ file u x also is. or_right (birth_known k.tree h (G.file file)) (setof.contains G.names.named file) (ap (λ (y : NamesCell). setof.contains y.named file) (names_are views i v w at G o.one_hand u x also) ∙ is);
       names = λ u c has. let is = ap (λ (x : NamesCell). name_changes_at k.tree h x.known) (names_are views i v w at G o.one_hand u c has) in omega (arith, is);
       files_told = λ file c has. let is = ap length (d.told.files file c (o.one_hand.files.agree i v at file c has)) in omega (arith, is);
       names_told = λ u c has. let is = ap length d.told.names in let e = ap (λ (x : NamesCell). name_changes_at k.tree h x.changed) (names_are views i v w at G o.one_hand u c has) in omega (arith, is, e);
@@ -326,8 +340,8 @@ module _ (k : Start) (word : Word) (views : List View) (i : ℕ) (v : View) (f :
     on = m.disk visible k.tree h p1 rest (around k.tree may)
 
     drawn_kept : IsDiskKept (with_free freed S) k.tree longer next0 known
-    drawn_kept = moved_kept (with_free rest S) k.tree longer next1 known no_blocks freed moves_back
-        (on.kept (with_free rest S) known o.formed refl knows (moved_kept (with_free o.free S) k.tree h o.parts known (pooled v.pools) rest moves_out d.kept))
+    drawn_kept = pools_stay (with_free rest S) k.tree longer next1 known no_blocks freed moves_back
+        (on.kept (with_free rest S) known o.formed refl knows (pools_stay (with_free o.free S) k.tree h o.parts known (pooled v.pools) rest moves_out d.kept))
 
     -- ---- what each cell knows
 
@@ -341,9 +355,9 @@ module _ (k : Start) (word : Word) (views : List View) (i : ℕ) (v : View) (f :
     front j low = take_front h (e ∷ []) j (let t = tickets in omega (arith, t, low))
 
     -- no cell knows more than it did
-    knows_no_more : (file : ℕ) (c : FileCell) → next_world.file file ≡ Some c → ((c.known ≡ 0) × (c.born ≡ false) × (setof.contains G.names.named file ≡ false)) ⊎ ((was : FileCell) × (G.file file ≡ Some was) × (c.known ≡ was.known) × (c.born ≡ was.born))
+    knows_no_more : (file : ℕ) (c : FileCell) → next_world.file file ≡ Some c → ((c.known ≡ 0) × (c.born ≡ false)) ⊎ ((was : FileCell) × (G.file file ≡ Some was) × (c.known ≡ was.known) × (c.born ≡ was.born))
     knows_no_more file c is = ⊎_elim
-        (λ has. ⊎_elim (λ (a : IsUnknown v file c). inl (a.known, a.born, ap (λ (y : NamesCell). setof.contains y.named file) (names_are views i v w at G o.one_hand tt a.names a.has_names) ∙ a.unnamed)) (λ (a : (was : FileCell) × Has (file, was) v.files × (c.known ≡ was.known) × (c.born ≡ was.born)). inr (a.0, o.one_hand.files.agree i v at file a.0 a.1, a.2, a.3)) (m.known file c has))
+        (λ has. ⊎_elim (λ (a : IsUnknown c). inl (a.known, a.born)) (λ (a : (was : FileCell) × Has (file, was) v.files × (c.known ≡ was.known) × (c.born ≡ was.born)). inr (a.0, o.one_hand.files.agree i v at file a.0 a.1, a.2, a.3)) (m.known file c has))
         (λ (a : (count eqb file v.files ≡ 0) × (count eqb file l.files ≡ 0) × (G.file file ≡ Some c)). inr (c, a.2, refl, refl))
         (file_case file c is)
 
@@ -370,7 +384,7 @@ module _ (k : Start) (word : Word) (views : List View) (i : ℕ) (v : View) (f :
         names_case
 
     -- of any histories that begin alike
-    less_known : (g g2 : List Entry) → ((q : ℕ) → q ≤ G.store.stamp → take q g ≡ take q g2) → IsLess (known_in k.tree g next_world) (known_in k.tree g2 G)
+    less_known : (g g2 : List Entry) → ((q : ℕ) → q ≤ G.store.stamp → take q g ≡ take q g2) → IsMore (known_in k.tree g next_world) (known_in k.tree g2 G)
     less_known g g2 same = record {
       names = let a = same G.names.known d.told.names_within.1 in let b = ap (λ q. length (name_changes k.tree (take q g))) names_know in let c = ap (λ q. length (name_changes k.tree q)) a in omega (arith, b, c);
       files = λ file. files_at file (next_world.file file) refl;
@@ -380,7 +394,7 @@ module _ (k : Start) (word : Word) (views : List View) (i : ℕ) (v : View) (f :
         files_at : (file : ℕ) (c : Option FileCell) → next_world.file file ≡ c → changes_known k.tree g file c ≤ changes_known k.tree g2 file (G.file file)
         files_at file None is = omega arith
         files_at file (Some c) is = ⊎_elim
-            (λ (a : (c.known ≡ 0) × (c.born ≡ false) × (setof.contains G.names.named file ≡ false)). let z : length (changes_of file k.tree (take c.known g)) ≡ 0 = ap (λ q. length (changes_of file k.tree (take q g))) a.0 in omega (arith, z))
+            (λ (a : (c.known ≡ 0) × (c.born ≡ false)). let z : length (changes_of file k.tree (take c.known g)) ≡ 0 = ap (λ q. length (changes_of file k.tree (take q g))) a.0 in omega (arith, z))
             (λ (a : (was : FileCell) × (G.file file ≡ Some was) × (c.known ≡ was.known) × (c.born ≡ was.born)).
             let here = ap (changes_known k.tree g2 file) a.1 in
             let x = ap (λ q. length (changes_of file k.tree (take q g))) a.2 in
@@ -389,19 +403,19 @@ module _ (k : Start) (word : Word) (views : List View) (i : ℕ) (v : View) (f :
             (knows_no_more file c is)
 
         born_at : (file : ℕ) (c : Option FileCell) → next_world.file file ≡ c → birth_known_by k.tree g next_world.names.named file c ≡ true → birth_known_by k.tree g2 G.names.named file (G.file file) ≡ true
-        born_at file None is born = absurd cc
+        born_at file None is born = or_right (birth_known k.tree g2 (G.file file)) (setof.contains G.names.named file) (sym (ap (λ (y : BlockSet). setof.contains y file) names_named) ∙ born)
         born_at file (Some c) is born =
             let same : setof.contains next_world.names.named file ≡ setof.contains G.names.named file = ap (λ (y : BlockSet). setof.contains y file) names_named in
             let there : (c.born || setof.contains G.names.named file) ≡ true = ap (λ b. c.born || b) (sym same) ∙ born in ⊎_elim
-            (λ (a : (c.known ≡ 0) × (c.born ≡ false) × (setof.contains G.names.named file ≡ false)). ⊎_elim
+            (λ (a : (c.known ≡ 0) × (c.born ≡ false)). ⊎_elim
             (λ x. let clash : true ≡ false = sym x ∙ a.1 in absurd cc)
-            (λ x. let clash : true ≡ false = sym x ∙ a.2 in absurd cc)
+            (λ x. or_right (birth_known k.tree g2 (G.file file)) (setof.contains G.names.named file) x)
             (or_cases c.born (setof.contains G.names.named file) there))
             (λ (a : (was : FileCell) × (G.file file ≡ Some was) × (c.known ≡ was.known) × (c.born ≡ was.born)). ap (birth_known_by k.tree g2 G.names.named file) a.1 ∙ ap (λ b. b || setof.contains G.names.named file) (sym a.3) ∙ there)
             (knows_no_more file c is)
 
     kept_after : IsDiskKept (with_free freed S) k.tree longer next0 (known_in k.tree longer next_world)
-    kept_after = less_kept (with_free freed S) k.tree longer next0 (known_in k.tree longer next_world) known (less_known longer h (λ q low. front q (let s = stamped in omega (arith, low, s)))) drawn_kept
+    kept_after = less_is_kept (with_free freed S) k.tree longer next0 (known_in k.tree longer next_world) known (less_known longer h (λ q low. front q (let s = stamped in omega (arith, low, s)))) drawn_kept
 
     -- ---- the beginnings since the stamp
 
@@ -431,7 +445,7 @@ module _ (k : Start) (word : Word) (views : List View) (i : ℕ) (v : View) (f :
         record {
           parts = was.parts;
           freed = was.freed;
-          kept = less_kept (with_free was.freed S) k.tree (take j h) was.parts (known_in k.tree (take j h) next_world) (known_in k.tree (take j h) G) (less_known (take j h) (take j h) (λ q small. refl)) was.kept;
+          kept = less_is_kept (with_free was.freed S) k.tree (take j h) was.parts (known_in k.tree (take j h) next_world) (known_in k.tree (take j h) G) (less_known (take j h) (take j h) (λ q small. refl)) was.kept;
           sound = was.sound;
           pool = was.pool;
           fewer = λ b is. was.fewer b (fewer_after b is);
@@ -488,7 +502,7 @@ module _ (k : Start) (word : Word) (views : List View) (i : ℕ) (v : View) (f :
             (λ (a : (count eqb file v.files ≡ 0) × (count eqb file l.files ≡ 0) × (G.file file ≡ Some c)). let x = (d.told.within file c a.2).0 in let t = long in let s = tickets in omega (arith, x, t, s))
             (file_case file c is),
         ⊎_elim
-            (λ (a : (c.known ≡ 0) × (c.born ≡ false) × (setof.contains G.names.named file ≡ false)). let z = a.0 in omega (arith, z))
+            (λ (a : (c.known ≡ 0) × (c.born ≡ false)). let z = a.0 in omega (arith, z))
             (λ (a : (was : FileCell) × (G.file file ≡ Some was) × (c.known ≡ was.known) × (c.born ≡ was.born)). let x = (d.told.within file a.0 a.1).1 in let z = a.2 in omega (arith, x, z))
             (knows_no_more file c is),
       );
@@ -543,6 +557,7 @@ module _ (k : Start) (word : Word) (views : List View) (i : ℕ) (v : View) (f :
     free_in = free_after;
     pools_apart = apart_after;
     server = server_after;
+    none_lost = none_lost_after;
     formed = o.formed;
     begun = o.begun;
     may_begin = o.may_begin;

@@ -8,7 +8,11 @@ use Rattle.std.specs.FinMap as fin
 use Rattle.std.specs.FinSet as set
 use Rattle.ufs_alike.proofs.TreeLemmas as alikes
 use Rattle.ufs_bitmap.specs.Blocks.{BlockSet}
+use Rattle.ufs_bitmap.specs.Taking.{has}
+use Rattle.ufs_dir_tree.specs.DirTable.{blocks_at}
+use Rattle.ufs_durable.specs.State.{DurableState, blocks_held}
 use Rattle.ufs_file.specs.Hand.{FileState}
+use Rattle.ufs_names.specs.NamesPart.{NamesPart}
 use Rattle.ufs_model.specs.History.{entries_of, tree_after}
 use Rattle.ufs_model.specs.PosixTree.{PosixTree}
 use Rattle.ufs_model.specs.declared.data.Entry.{Entry}
@@ -22,17 +26,22 @@ use Rattle.ufs_sound.proofs.Keys.{alike, itself}
 use Rattle.ufs_sound.proofs.Owning.{find_has, has_count, has_find, none_some, present_find, same_some}
 use Rattle.ufs_stored.specs.AlwaysLaws.{RestIsExplained}
 use Rattle.ufs_stored.specs.OnDisk.{IsOnDisk}
+use Rattle.ufs_stored.specs.Parts.{durable_in}
+use Rattle.ufs_stored.specs.Stored.{ArePartsOf}
 use Rattle.ufs_joint.specs.Cells.{FileCell, NamesCell, Start, StoreCell, View, Word, World, store_of}
 use Rattle.ufs_joint.specs.Ends.{CanBegin, HoldsAll, IsAlwaysExplained, IsWhole, known_first}
 use Rattle.ufs_joint.specs.Faults.{IsOfSession, faults_in}
-use Rattle.ufs_joint.specs.Kept.{IsDiskKept}
+use Rattle.ufs_stored.specs.Known.{IsDiskKept}
 use Rattle.ufs_joint.specs.Laws.{BeginIsSound, CloseIsWhole}
 use Rattle.ufs_joint.proofs.Disks.{explained_here}
 use Rattle.ufs_joint.specs.Sound.{AreJoined, IsDiskSound, IsExplainedState, IsKeptSince, IsSound}
-use Rattle.ufs_joint.specs.Whole.{IsFreeIn, changes_known, commits_of, hand_of, known_in, no_blocks, pooled}
-use Rattle.ufs_joint.proofs.Blocks.{none_in, pooled_here}
+use Rattle.ufs_joint.specs.Whole.{HasFileCell, IsFreeIn, changes_known, commits_of, hand_of, known_in, no_blocks, pooled}
+use Rattle.ufs_joint.proofs.Blocks.{none_in, pooled_back, pooled_here}
+use Rattle.ufs_joint.proofs.OneFile.{durable_is}
+use Rattle.ufs_joint.specs.NoneLost.{HandHas, InDir, InDropped, InFile, InPool, InStore, IsDropped, IsFree, IsHad, OfDir, OfFile, OfPool}
 use Rattle.ufs_joint.proofs.Exchange.{names_are, store_is}
-use Rattle.ufs_joint.proofs.Kept.{kept_on_disk, less_kept}
+use Rattle.ufs_kept.proofs.Forgetting.{less_is_kept}
+use Rattle.ufs_stored.proofs.Known.{on_disk_of}
 use Rattle.ufs_joint.proofs.Parting.{cells_there}
 
 -- ---- the end
@@ -43,6 +52,9 @@ module _ (k : Start) (word : Word) (views : List View) (i : ℕ) (v : View) (res
 
   store_same : o.world.store ≡ all.store
   store_same = store_is views i v v at o.world o.one_hand tt all.store (subst (Has (tt, all.store)) (sym all.has_store) (inl refl))
+
+  has_names : Has (tt, all.names) v.names
+  has_names = subst (Has (tt, all.names)) (sym all.has_names) (inl refl)
 
   transcripts : (c : ℕ) (p : ClientPart) → Has (c, p) v.clients → p.entries ≡ entries_of c o.history
   transcripts c p has = o.tickets_once.entries c p (o.one_hand.clients.agree i v at c p has)
@@ -74,6 +86,20 @@ module _ (k : Start) (word : Word) (views : List View) (i : ℕ) (v : View) (res
           let same : has.0 ≡ p.1 = same_some has.0 p.1 (sym (o.one_hand.pools.agree i v at p.0 has.0 has.1) ∙ p.2) in
           inr (pooled_here v.pools p.0 has.0 b has.1 (subst (λ (s : BlockSet). set.contains s b ≡ true) (sym same) p.3))
 
+  -- what somebody has the hand has
+  held_still : (b : ℕ) → IsHad o.parts o.free b → HandHas v b
+  held_still b (OfFile file owns) =
+      let c = files file (ap is_some owns.here) in
+      let its = (cells_there views i v at o.world o.one_hand o.parts o.parts_in).files file c.0 c.1 in
+      let number = ((o.leads o.begun o.may_begin).parts.files file c.0.value.file its.file_is).0 in
+      let hand : owns.hand ≡ c.0.value.file = same_some owns.hand c.0.value.file (sym owns.here ∙ its.file_is) in
+      let durable = ap (durable_in o.parts.commits) hand ∙ durable_is o.parts file c.0 number its in
+      InFile file c.0 c.1 (ap (λ (x : DurableState). has (blocks_held x) b) (sym durable) ∙ owns.held)
+  held_still b (OfPool is) = absurd (none_in b (subst (λ (q : BlockSet). set.contains q b ≡ true) o.parts_in.pool is))
+  held_still b (IsFree is) = ⊎_elim (λ x. InStore tt all.store (subst (Has (tt, all.store)) (sym all.has_store) (inl refl)) x) (λ x. InPool x) (freed b is)
+  held_still b (IsDropped is) = InDropped tt all.names has_names (ap (λ (q : BlockSet). set.contains q b) (sym (o.parts_in.names.dropped ∙ ap (λ (c : NamesCell). c.dropped) names_same)) ∙ is)
+  held_still b (OfDir dir is) = InDir tt all.names has_names dir (ap (λ (n : NamesPart). has (blocks_at n.tree.dirs dir) b) (sym (o.parts_in.names.names ∙ ap (λ (c : NamesCell). c.value) names_same)) ∙ is)
+
   module _ (visible : k.is_visible ≡ true) where
     abbrev d : IsDiskSound k word o.history o.world o.parts o.free
     d = o.disk visible
@@ -82,12 +108,12 @@ module _ (k : Start) (word : Word) (views : List View) (i : ℕ) (v : View) (res
     same_start = o.may_begin.seen visible
 
     on_disk : IsOnDisk (with_free o.free (store_of all.store)) o.begun o.history o.parts
-    on_disk = subst (λ (q : StoreCell × PosixTree). IsOnDisk (with_free o.free (store_of q.0)) q.1 o.history o.parts) (λ j. (store_same j, sym same_start j)) (kept_on_disk (with_free o.free (store_of o.world.store)) k.tree o.history o.parts (known_in k.tree o.history o.world) d.kept)
+    on_disk = subst (λ (q : StoreCell × PosixTree). IsOnDisk (with_free o.free (store_of q.0)) q.1 o.history o.parts) (λ j. (store_same j, sym same_start j)) (on_disk_of (with_free o.free (store_of o.world.store)) k.tree o.history o.parts (known_in k.tree o.history o.world) d.kept)
 
     now : (j : ℕ) → o.world.store.stamp ≤ j → j ≤ word.tickets → IsExplainedState o.world.store.sectors k.tree (take j o.history) o.world.store.state
     now j from low =
         let since = d.since j from low in
-        explained_here o.world.store.sectors k.tree (take j o.history) o.world.store.state (rest true (with_free since.freed (store_of o.world.store)) k.tree (take j o.history) since.parts o.formed (kept_on_disk (with_free since.freed (store_of o.world.store)) k.tree (take j o.history) since.parts (known_in k.tree (take j o.history) o.world) since.kept)).after
+        explained_here o.world.store.sectors k.tree (take j o.history) o.world.store.state (rest true (with_free since.freed (store_of o.world.store)) k.tree (take j o.history) since.parts o.formed (on_disk_of (with_free since.freed (store_of o.world.store)) k.tree (take j o.history) since.parts (known_in k.tree (take j o.history) o.world) since.kept)).after
 
     explained : IsAlwaysExplained o.begun word o.history all.store
     explained = subst (λ (q : StoreCell × PosixTree). IsAlwaysExplained q.1 word o.history q.0) (λ j. (store_same j, sym same_start j)) (record { upto = d.past.upto; joined = d.past.joined; stamped = d.past.stamped; within = d.past.within; past = d.past.each; now = now })
@@ -118,6 +144,7 @@ module _ (k : Start) (word : Word) (views : List View) (i : ℕ) (v : View) (res
     free = o.free;
     freed = freed;
     server = o.server;
+    none_lost = λ b is. held_still b (o.none_lost b is);
     on_disk = on_disk;
     explained = explained;
   }
@@ -159,6 +186,11 @@ take_none : (n : ℕ) → ◌≡◌ {A = List Entry} (take n []) []
 take_none zero = refl
 take_none (suc n) = refl
 
+-- who stands in a list of one
+only_one_is : {D : Type 0} (u : Unit {0}) (x d : D) → Has {A = Unit {0} × D} (u, x) ((tt, d) ∷ []) → x ≡ d
+only_one_is {D} u x d (inl is) = ap (λ (q : Unit {0} × D). q.1) is
+only_one_is u x d (inr is) = absurd is
+
 module _ (k : Start) (c : CanBegin k) where
   abbrev first : World
   first = record { client = λ n. find eqb n k.view.clients; asked = λ n. find eqb n k.view.asked; file = λ n. find eqb n k.view.files; pool = λ n. find eqb n k.view.pools; names = c.names; store = c.store }
@@ -182,7 +214,7 @@ module _ (k : Start) (c : CanBegin k) where
   nothing_taken q is = take_none q
 
   kept_first : k.is_visible ≡ true → IsDiskKept (with_free c.store.unassigned.free (store_of c.store)) k.tree [] c.parts (known_in k.tree [] first)
-  kept_first visible = less_kept (store_of c.store) k.tree [] c.parts (known_in k.tree [] first) (known_first k c.names)
+  kept_first visible = less_is_kept (store_of c.store) k.tree [] c.parts (known_in k.tree [] first) (known_first k c.names)
       (record { names = let e = ap (λ h. length (name_changes k.tree h)) (take_none c.names.known) in omega (arith, e); files = λ file. none file (first.file file); born = λ file is. is }) (c.on_disk visible)
     where
       none : (file : ℕ) (x : Option FileCell) → changes_known k.tree [] file x ≤ 0
@@ -200,6 +232,20 @@ module _ (k : Start) (c : CanBegin k) where
     files = λ file x is small. record { file_is = c.files_in file ∙ ap hand_of is; commits_are = c.commits_in file ∙ ap commits_of is };
     names = λ small. c.names_in;
   }
+
+  parts_first : ArePartsOf c.parts k.tree
+  parts_first = c.are k.tree (record { tree = c.tree; alike = alikes.itself k.tree; picked = λ pick has. absurd has; seen = λ _. refl })
+
+  had_first : (b : ℕ) → HandHas k.view b → IsHad c.parts c.store.unassigned.free b
+  had_first b (InFile file x is there) =
+      let found = has_find eqb itself alike file x k.view.files (c.one_file file) is in
+      let its : HasFileCell c.parts file x = record { file_is = c.files_in file ∙ ap hand_of found; commits_are = c.commits_in file ∙ ap commits_of found } in
+      let number = (parts_first.files file x.value.file its.file_is).0 in
+      OfFile file (record { hand = x.value.file; here = its.file_is; held = ap (λ (y : DurableState). has (blocks_held y) b) (durable_is c.parts file x number its) ∙ there })
+  had_first b (InPool is) = (let r = pooled_back k.view.pools b is in absurd (none_in b (subst (λ (q : BlockSet). set.contains q b ≡ true) (c.pools r.0 r.1 r.2) r.3)))
+  had_first b (InStore u s is free) = IsFree (ap (λ (q : StoreCell). set.contains q.unassigned.free b) (sym (only_one_is u s c.store (subst (Has (u, s)) c.has_store is))) ∙ free)
+  had_first b (InDropped u n is gone) = IsDropped (ap (λ (q : BlockSet). set.contains q b) (c.names_in.dropped ∙ ap (λ (q : NamesCell). q.dropped) (sym (only_one_is u n c.names (subst (Has (u, n)) c.has_names is)))) ∙ gone)
+  had_first b (InDir u n is dir there) = OfDir dir (ap (λ (q : NamesPart). has (blocks_at q.tree.dirs dir) b) (c.names_in.names ∙ ap (λ (q : NamesCell). q.value) (sym (only_one_is u n c.names (subst (Has (u, n)) c.has_names is)))) ∙ there)
 
   begin_sound : IsSound k (record { tickets = 0 }) (k.view ∷ [])
   begin_sound = record {
@@ -242,6 +288,7 @@ module _ (k : Start) (c : CanBegin k) where
     free_in = record { back = λ b is. inl is; here = λ b is. ⊎_elim (λ s. s) (λ p. absurd (no_pool p.0 p.1 b p.2 p.3)) is };
     pools_apart = record { pools = λ n m one other b is that has also. absurd (no_pool n one b is has); store = λ n s b is has. absurd (no_pool n s b is has) };
     server = c.server;
+    none_lost = had_first;
     formed = c.formed;
     begun = k.tree;
     may_begin = record { tree = c.tree; alike = alikes.itself k.tree; picked = λ pick h. absurd h; seen = λ _. refl };

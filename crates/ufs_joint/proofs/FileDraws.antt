@@ -6,10 +6,10 @@ use Rattle.std.specs.FinMap as fin
 use Rattle.std.specs.List.{slice_get}
 use Rattle.std.specs.FinSet as setof
 use Rattle.ufs_bitmap.specs.Blocks.{BlockSet}
-use Rattle.ufs_durable.specs.Committing.{OwnsServed}
 use Rattle.ufs_durable.specs.Serving.{IsApplied}
-use Rattle.ufs_durable.specs.Standing.{ReadsServed, StandsServed}
-use Rattle.ufs_durable.specs.State.{DurableState}
+use Rattle.ufs_bitmap.specs.Taking.{has}
+use Rattle.ufs_durable.specs.State.{DurableState, blocks_held}
+use Rattle.ufs_durable.proofs.Requests.{goes_together}
 use Rattle.ufs_file.specs.Content.{own_bytes}
 use Rattle.ufs_file.specs.Hand.{FileState, IsFileOf, IsPosix}
 use Rattle.ufs_layout.specs.declared.geometry.Geometry.{Geometry}
@@ -17,7 +17,6 @@ use Rattle.ufs_model.specs.Asks.{IsAsk, desc_of_fd, fd_asked, fd_named, fd_told,
 use Rattle.ufs_model.specs.Descriptors.{closed}
 use Rattle.ufs_model.specs.FileCalls.{IsFileIn, is_on_file}
 use Rattle.ufs_model.specs.History.{IsLegal, goes_on, is_excused, tree_after}
-use Rattle.ufs_model.specs.Laws.{KeepsTrees}
 use Rattle.ufs_model.specs.Posix.{posix}
 use Rattle.ufs_model.specs.PosixTree.{PosixTree, desc_at, is_number}
 use Rattle.ufs_model.specs.declared.data.Actor.{Actor}
@@ -32,7 +31,6 @@ use Rattle.ufs_names.specs.Laws.{KeepsNames}
 use Rattle.ufs_on_disk.proofs.Going.{parts_by_requests}
 use Rattle.ufs_on_disk.proofs.Sound.{sound_by_requests}
 use Rattle.ufs_prefix.specs.Changes.{change_asked, changes_names, changes_of, file_changed, name_changes, names_of}
-use Rattle.ufs_prefix.specs.StepLaws.{OthersAcknowledgeNothing}
 use Rattle.ufs_prefix.specs.Steps.{is_served}
 use Rattle.ufs_prefix.proofs.Facts.Histories.{changes_of-push, name_changes-push}
 use Rattle.ufs_sound.specs.Draws.{entry_of}
@@ -41,16 +39,18 @@ use Rattle.ufs_sound.specs.Parts.{ClientPart, OwnFds, only_one}
 use Rattle.ufs_sound.specs.declared.fresh.Fresh.{Fresh}
 use Rattle.ufs_sound.proofs.Drawing.{tells_new}
 use Rattle.ufs_stored.specs.Parts.{Parts, durable_in, with_file}
-use Rattle.ufs_stored.specs.Sound.{IsSoundServer}
+use Rattle.ufs_stored.specs.Sound.{IsFileSound, IsSoundServer}
+use Rattle.ufs_stored.proofs.Spaced.{pool_apart}
 use Rattle.ufs_stored.specs.Stored.{ArePartsOf}
 use Rattle.ufs_stored.proofs.FileEntries.{served_goes}
+use Rattle.ufs_kept.specs.Draws.{FileRequestsStayKept}
 use Rattle.ufs_joint.specs.Cells.{FileCell, View}
 use Rattle.ufs_joint.specs.Draws.{DrawsOnDisk, DrawsTo, IsAround, Leaves, MayDraw}
 use Rattle.ufs_joint.specs.FileHands.{FileRequestsMayDraw, IsFileHand, ServesFile, own_desc, served_leaves}
 use Rattle.ufs_joint.specs.Picks.{IsAbsent, bytes_at}
 use Rattle.ufs_joint.specs.Whole.{GoOnBy, HasFileCell, pooled}
-use Rattle.ufs_joint.proofs.Blocks.{pooled_one}
-use Rattle.ufs_joint.proofs.FileKept.{goes_on_known}
+use Rattle.ufs_joint.proofs.Blocks.{in_union, pooled_one, union_left, union_right}
+use Rattle.ufs_joint.proofs.NoneLost.{file_keeps}
 use Rattle.ufs_joint.proofs.OneFile.{durable_is, none_here, one_file_goes, one_here, only_here}
 
 -- ---- what a request on a file leaves as it is
@@ -157,7 +157,7 @@ and_off false = refl
 
 -- ---- the hand
 
-module _ (trees : KeepsTrees) (nothing : OthersAcknowledgeNothing) (names_keep : KeepsNames) (stands : StandsServed) (reads : ReadsServed) (owns : OwnsServed)
+module _ (stays : FileRequestsStayKept) (names_keep : KeepsNames)
     (g : Geometry) (visible : Bool) (v : View) (client : ℕ) (part : ClientPart) (file : ℕ) (cell : FileCell) (n : ℕ) (pool left : BlockSet) (f : Fresh) (ticket : ℕ) (ask : Ask) (server : Actor) (d : Desc) (next : DurableState) (desc : Option Desc) (fds : OwnFds)
     (hand : IsFileHand v client part file cell n pool) (serves : ServesFile client part file cell pool left f ticket ask server d next desc fds) where
   abbrev l : Leaves
@@ -264,6 +264,7 @@ module _ (trees : KeepsTrees) (nothing : OthersAcknowledgeNothing) (names_keep :
       fds = λ fd. this fd (fd_named ask.op) refl ∙ ap (λ (u : PosixTree). desc_at u f.client fd) (sym goes_tree);
       others = λ c not fd. sym (stepped.told.others c fd (inl (λ is. not (is ∙ sym same_client)))) ∙ ap (λ (u : PosixTree). desc_at u c fd) (sym goes_tree);
       parts = subst (ArePartsOf (go p)) (sym goes_tree) (parts_by_requests names_keep g rest t e p cell.value.file next left ask server ticket desc d here serves.on_file asked serves.is of applied a.server serves.served a.parts);
+      none_lost = λ b. file_keeps p cell.value.file next left rest rest here (same_next ∙ sym hand.number) numbered b (kept_by b);
       server = sound_by_requests g rest e p cell.value.file next left ask server ticket desc d numbered here serves.is applied a.server;
       away = λ other place c has absent. (let x = only_file other c has in own_away other place x.0 (ap (λ (y : FileCell). slice_get y.value.file.content.there place) (sym x.1) ∙ absent));
       elsewhere = λ other none _. (let not = other_file other none in ap (λ (u : PosixTree). fin.get u.bytes other) goes_tree ∙ stepped.others other (λ is. not (is ∙ same_next)));
@@ -272,6 +273,25 @@ module _ (trees : KeepsTrees) (nothing : OthersAcknowledgeNothing) (names_keep :
       where
         numbered : (q : ℕ) (s : FileState) → fin.get p.files q ≡ Some s → s.file ≡ q
         numbered q s is = (a.parts.files q s is).0
+
+        whole : IsFileSound g (durable_in p.commits cell.value.file)
+        whole = a.server.each cell.value.file.file cell.value.file here
+
+        -- the file and the pool have the blocks that they had
+        together : setof.union left (setof.from_list (blocks_held next)) ≡ setof.union p.pool (setof.from_list (blocks_held (durable_in p.commits cell.value.file)))
+        together = goes_together (durable_in p.commits cell.value.file) next p.pool left whole.noted (pool_apart rest p cell.value.file here whole.once a.server.apart) ask server ticket e desc d serves.is applied
+
+        had_or : (b : ℕ) → setof.contains (setof.union p.pool (setof.from_list (blocks_held (durable_in p.commits cell.value.file)))) b ≡ true → (has (blocks_held next) b ≡ true) ⊎ ((setof.contains left b ≡ true) ⊎ (setof.contains rest b ≡ true))
+        had_or b is = by (in_union left (setof.from_list (blocks_held next)) b (ap (λ (q : BlockSet). setof.contains q b) together ∙ is))
+          where
+            by : (setof.contains left b ≡ true) ⊎ (has (blocks_held next) b ≡ true) → (has (blocks_held next) b ≡ true) ⊎ ((setof.contains left b ≡ true) ⊎ (setof.contains rest b ≡ true))
+            by (inl x) = inr (inl x)
+            by (inr x) = inl x
+
+        kept_by : (b : ℕ) → (has (blocks_held (durable_in p.commits cell.value.file)) b ≡ true) ⊎ ((setof.contains p.pool b ≡ true) ⊎ (setof.contains rest b ≡ true)) → (has (blocks_held next) b ≡ true) ⊎ ((setof.contains left b ≡ true) ⊎ (setof.contains rest b ≡ true))
+        kept_by b (inr (inr is)) = inr (inr is)
+        kept_by b (inr (inl is)) = had_or b (union_left p.pool (setof.from_list (blocks_held (durable_in p.commits cell.value.file))) b is)
+        kept_by b (inl is) = had_or b (union_right p.pool (setof.from_list (blocks_held (durable_in p.commits cell.value.file))) b is)
 
         was : IsFileIn t next.file.file may_be.bytes
         was = ap (fin.get t.bytes) (same_next ∙ sym hand.number) ∙ may_be.has
@@ -317,8 +337,8 @@ module _ (trees : KeepsTrees) (nothing : OthersAcknowledgeNothing) (names_keep :
 
     disk : DrawsOnDisk g v f l ticket go start history p rest
     disk = record {
-      kept = λ s known formed is_rest knows kept. goes_on_known trees nothing names_keep stands reads owns s start history e p cell.value.file next left ask server ticket desc d legal serves.no_commit here serves.on_file asked serves.is of applied
-          (subst (λ (q : Geometry × BlockSet). IsSoundServer q.0 q.1 p) (λ i. (sym formed i, sym is_rest i)) a.server) known kept;
+      kept = λ s known formed is_rest knows kept. stays s start history e p known cell.value.file next left ask server ticket desc d legal serves.no_commit here serves.on_file asked serves.is of applied
+          (subst (λ (q : Geometry × BlockSet). IsSoundServer q.0 q.1 p) (λ i. (sym formed i, sym is_rest i)) a.server) kept;
       files = λ other c has. inl (ap (λ (x : FileCell). x.changed) (only_file other c has).1);
       others = λ other none _. unchanged other (other_file other none);
       names = λ u c has. absurd has;
@@ -356,6 +376,6 @@ module _ (trees : KeepsTrees) (nothing : OthersAcknowledgeNothing) (names_keep :
           by true = omega arith
           by false = omega arith
 
-pub file_requests_may_draw : KeepsTrees → OthersAcknowledgeNothing → KeepsNames → StandsServed → ReadsServed → OwnsServed → FileRequestsMayDraw
-file_requests_may_draw trees nothing names_keep stands reads owns g visible v client part file cell n pool left f ticket ask server d next desc fds hand serves =
-    may_draw trees nothing names_keep stands reads owns g visible v client part file cell n pool left f ticket ask server d next desc fds hand serves
+pub file_requests_may_draw : FileRequestsStayKept → KeepsNames → FileRequestsMayDraw
+file_requests_may_draw stays names_keep g visible v client part file cell n pool left f ticket ask server d next desc fds hand serves =
+    may_draw stays names_keep g visible v client part file cell n pool left f ticket ask server d next desc fds hand serves

@@ -1,6 +1,6 @@
 -- A turn of the store in which the commit of a file failed may end.
-use Rattle.std.proofs.Common.{◌≡◌, ◌≢◌, ℕ, ◌≤◌, ◌⊎◌, inl, inr, Bool, true, false, cond, ◌||◌, eqb, ne_eqb, leb, List, [], ◌∷◌, length, map, Option, Some, None, is_some, sym, refl, ap, ◌∙◌, subst, arith}
-use Rattle.std.specs.Prelude.{IsSome, drop}
+use Rattle.std.proofs.Common.{◌≡◌, ◌≢◌, ℕ, ◌≤◌, ◌⊎◌, inl, inr, Bool, true, false, cond, ◌||◌, eqb, ne_eqb, leb, List, [], ◌∷◌, length, map, Option, Some, None, sym, refl, ap, ◌∙◌, subst, arith}
+use Rattle.std.specs.Prelude.{drop}
 use Rattle.std.proofs.lemmas.List.{append-nil}
 use Rattle.std.specs.FinMap as fin
 use Rattle.std.specs.List.{slice_get}
@@ -8,10 +8,6 @@ use Rattle.ufs_bitmap.specs.Blocks.{BlockSet}
 use Rattle.ufs_disk.specs.Disk.{Leaves}
 use Rattle.ufs_disk.specs.Moments.{Passes, all}
 use Rattle.ufs_sound.proofs.Keys.{itself}
-use Rattle.ufs_durable.specs.Committing.{CommitsShowAll, FilesMayCommitNext, HasTreeBytes, StagesAreKept, WritesAreKept}
-use Rattle.ufs_durable.specs.Standing.{DirtyMayBeWritten, StandsWhileWritten}
-use Rattle.ufs_durable.specs.Others.{StandsBehindWrites}
-use Rattle.ufs_model.specs.Laws.{KeepsTrees}
 use Rattle.ufs_files.proofs.MapLemmas.{one_or_apart}
 use Rattle.ufs_layout.specs.declared.geometry.Geometry.{Geometry}
 use Rattle.ufs_model.specs.PosixTree.{PosixTree}
@@ -20,26 +16,24 @@ use Rattle.ufs_on_disk.specs.Syncs.{HasFailed, HasWritten, LeavesStages}
 use Rattle.ufs_sound.specs.Owned.{Has, count, find}
 use Rattle.ufs_sound.specs.Parts.{Cells, only_one}
 use Rattle.ufs_store.specs.State.{StoreState, geometry_of_store}
-use Rattle.ufs_stored.specs.AlwaysLaws.{ImagesAreExplained}
-use Rattle.ufs_stored.specs.Laws.{EmptiedIsStored}
 use Rattle.ufs_stored.specs.OnDisk.{IsExplainedBetween, IsExplainedImage}
 use Rattle.ufs_stored.specs.Parts.{Parts, durable_in}
 use Rattle.ufs_stored.specs.Sound.{IsSoundServer}
 use Rattle.ufs_joint.specs.Cells.{FileCell, StoreCell, View, store_of, store_since}
 use Rattle.ufs_joint.specs.FileHands.{FailsFile, FileFailuresGoOn, FileFailuresMayEnd, IsAsBegun, IsSyncHand, WentOn, failed_turn}
-use Rattle.ufs_joint.specs.Kept.{GoesKnown, IsDiskKept, Known}
+use Rattle.ufs_stored.specs.Known.{IsDiskKept, IsKeptGoing, IsMore, Known}
 use Rattle.ufs_store_steps.specs.Cells.{cells_of}
+use Rattle.ufs_joint.specs.NoneLost.{IsHad}
 use Rattle.ufs_joint.specs.Turns.{EndsOnDisk, MayEndTurn, Turn, known_by}
 use Rattle.ufs_joint.specs.Whole.{HasCells, HasFileCell, birth_known, changes_known, file_changes_at}
-use Rattle.ufs_joint.proofs.FileFailing.{failed}
-use Rattle.ufs_joint.proofs.FileWriting.{goes_on}
 use Rattle.ufs_joint.proofs.FileTurns.{or_none}
-use Rattle.ufs_joint.proofs.Disks.{among, drop_behind}
-use Rattle.ufs_joint.proofs.Kept.{IsLess, less_kept, since_kept}
-use Rattle.ufs_joint.proofs.Meanwhile.{explained_between, may_leave}
+use Rattle.ufs_joint.proofs.Disks.{among, drop_behind, nothing_behind}
+use Rattle.ufs_joint.proofs.Kept.{kept_going, since_kept}
+use Rattle.ufs_kept.specs.Files.{FailedFilesStayKept, FilesAreExplained, IsBornHere, WrittenFilesStayKept}
+use Rattle.ufs_kept.proofs.Forgetting.{less_is_kept}
 use Rattle.ufs_joint.proofs.OneFile.{durable_is, none_here, one_here, only_here, same_file_goes}
 
-module _ (dirty : DirtyMayBeWritten) (may_next : FilesMayCommitNext) (writes : WritesAreKept) (shows : CommitsShowAll) (staged : StagesAreKept) (tree_bytes : HasTreeBytes) (trees : KeepsTrees) (stands : StandsWhileWritten) (others : StandsBehindWrites) (g : Geometry) (empties : EmptiedIsStored g) (each : ImagesAreExplained g)
+module _ (fails_known : FailedFilesStayKept) (g : Geometry) (writes_known : WrittenFilesStayKept g) (explains : FilesAreExplained g)
     (keeps visible : Bool) (v : View) (file : ℕ) (cell : FileCell) (was left : StoreCell) (passed : List Cells) (told : List ℕ) (form : geometry_of_store (store_of was) ≡ g) (hand : IsSyncHand visible v file cell was) (fails : FailsFile keeps visible was left cell.value passed told) where
   abbrev t : Turn
   t = failed_turn file cell left passed told
@@ -77,8 +71,11 @@ module _ (dirty : DirtyMayBeWritten) (may_next : FilesMayCommitNext) (writes : W
       birth_is : known.born file ≡ true
       birth_is = around.knows.born file cell has_file hand.born
 
+      born : IsBornHere p known cell.value.file
+      born = record { here = here; born = ap known.born hand.number ∙ birth_is }
+
       -- no more is known than was
-      less : IsLess (known_by start history t known) known
+      less : IsMore (known_by start history t known) known
       less = record { names = omega arith; files = λ other. files_at other (one_or_apart other file); born = λ other. born_at other (one_or_apart other file) }
         where
           files_at : (other : ℕ) → (other ≡ file) ⊎ (other ≢ file) → cond (leb 1 (count eqb other t.files)) (changes_known start history other (find eqb other t.files)) (known.files other) ≤ known.files other
@@ -102,24 +99,15 @@ module _ (dirty : DirtyMayBeWritten) (may_next : FilesMayCommitNext) (writes : W
 
       -- the store went on until it failed
       module _ (going : was.stop ≡ None) where
-        goes : IsDiskKept old start history p known → GoesKnown old start history p known
-        goes (inl k) = k
-        goes (inr k) = (let stop = k.stopped.stopped in let clash : false ≡ true = ap is_some (sym going) ∙ stop in absurd cc)
-
-        kept : GoesKnown old start history p known
-        kept = goes was_kept
-
-        there : IsSome (kept.going.counts.numbers.inode cell.value.file.file)
-        there = subst (λ (q : ℕ). IsSome (kept.going.counts.numbers.inode q)) (sym hand.number) (kept.covers.born file birth_is)
+        kept : IsKeptGoing old start history p known
+        kept = kept_going old start history p known going was_kept
 
         after : HasWritten old new cell.value ⊎ HasFailed old new cell.value → IsDiskKept new start history p known
-        after (inl told) =
-            inl (goes_on old new start history p cell.value.file here known (subst (HasWritten old new) (sym durable) told) kept there (subst EmptiedIsStored (sym form) empties) writes dirty tree_bytes stands others)
-        after (inr told) = inr (failed old new start history p cell.value.file here known fails.fits (subst (HasFailed old new) (sym durable) told) kept there trees writes shows may_next dirty tree_bytes)
+        after (inl told) = inl (writes_known old new start history p known cell.value.file form born (subst (HasWritten old new) (sym durable) told) kept)
+        after (inr told) = inr (fails_known old new start history p known cell.value.file born fails.fits (subst (HasFailed old new) (sym durable) told) kept)
 
         between : IsExplainedBetween keeps was.sectors start history old.moments new.moments
-        between = explained_between g keeps old new start history p cell.value.file (subst (LeavesStages keeps old new) (sym durable) (fails.stages seen))
-            (may_leave g old start history p cell.value.file form here fails.fits (record { going = kept.going; there = there }) writes staged may_next dirty tree_bytes each)
+        between = explains keeps old new start history p known cell.value.file form born fails.fits (subst (LeavesStages keeps old new) (sym durable) (fails.stages seen)) kept
 
         passes : Passes (Leaves (IsExplainedImage was.sectors start history)) old.moments new.moments
         passes = between.between (fails.left_so.keeps_all seen)
@@ -129,7 +117,7 @@ module _ (dirty : DirtyMayBeWritten) (may_next : FilesMayCommitNext) (writes : W
 
         ended : HasWritten old new cell.value ⊎ HasFailed old new cell.value → EndsOnDisk was t (λ q. q) start history p known
         ended told = record {
-          kept = less_kept (store_of left) start history p (known_by start history t known) known less (since_kept left fails.later [] start history p known (after told));
+          kept = less_is_kept (store_of left) start history p (known_by start history t known) known less (since_kept left fails.later [] start history p known (after told));
           picked = λ pick never. absurd never;
           passed = λ cells has. among was.sectors start history passes.inside passes.each cells (subst (Has cells) behind has);
         }
@@ -137,17 +125,13 @@ module _ (dirty : DirtyMayBeWritten) (may_next : FilesMayCommitNext) (writes : W
       ends : (new ≡ old) ⊎ ((was.stop ≡ None) × (HasWritten old new cell.value ⊎ HasFailed old new cell.value)) → EndsOnDisk was t (λ q. q) start history p known
       ends (inr told) = ended told.0 told.1
       ends (inl same) = record {
-        kept = less_kept (store_of left) start history p (known_by start history t known) known less (since_kept left fails.later [] start history p known (subst (λ (s : StoreState). IsDiskKept s start history p known) (sym same) was_kept));
+        kept = less_is_kept (store_of left) start history p (known_by start history t known) known less (since_kept left fails.later [] start history p known (subst (λ (s : StoreState). IsDiskKept s start history p known) (sym same) was_kept));
         passed = λ cells has. absurd (subst (Has cells) none has);
         picked = λ pick never. absurd never;
       }
         where
-          nothing : {A : Type 0} (xs : List A) → drop (length xs) xs ≡ []
-          nothing [] = refl
-          nothing (x ∷ xs) = nothing xs
-
           none : passed ≡ []
-          none = fails.left_so.went seen ∙ ap (λ (s : StoreState). map (cells_of s.sectors) (drop (length (all old.moments)) (all s.moments))) same ∙ ap (map (cells_of was.sectors)) (nothing (all old.moments))
+          none = fails.left_so.went seen ∙ ap (λ (s : StoreState). map (cells_of s.sectors) (drop (length (all old.moments)) (all s.moments))) same ∙ ap (map (cells_of was.sectors)) (nothing_behind (all old.moments))
 
       went_by : (new ≡ old) ⊎ ((was.stop ≡ None) × (HasWritten old new cell.value ⊎ HasFailed old new cell.value)) → WentOn old new
       went_by (inl same) = ([], ap (λ (q : StoreState). all q.moments) same ∙ sym (append-nil (all old.moments)))
@@ -183,6 +167,7 @@ module _ (dirty : DirtyMayBeWritten) (may_next : FilesMayCommitNext) (writes : W
       unpicked = λ pick none e at. absurd none;
     };
     parts = λ tree p cells _ are. are;
+    none_lost = λ p cells numbered b had. subst (λ (q : BlockSet). IsHad p q b) (sym fails.unfreed) had;
     server = λ p cells numbered sound. subst (λ (q : BlockSet). IsSoundServer g q p) (sym fails.unfreed) sound;
     disk = λ seen start history p known around. ends p around.cells seen start history known (record { cells = around.cells; knows = around.knows; kept = around.kept }) (fails.failed seen);
   }
@@ -199,10 +184,8 @@ module _ (dirty : DirtyMayBeWritten) (may_next : FilesMayCommitNext) (writes : W
       )
       by other c (inr is) = absurd is
 
-pub file_failures_may_end : DirtyMayBeWritten → FilesMayCommitNext → WritesAreKept → CommitsShowAll → StagesAreKept → HasTreeBytes → KeepsTrees → StandsWhileWritten → StandsBehindWrites → (g : Geometry) → EmptiedIsStored g → ImagesAreExplained g → FileFailuresMayEnd g
-file_failures_may_end dirty may_next writes shows staged tree_bytes trees stands others g empties each keeps visible v file cell was left passed told form hand fails =
-    may_end dirty may_next writes shows staged tree_bytes trees stands others g empties each keeps visible v file cell was left passed told form hand fails
+pub file_failures_may_end : FailedFilesStayKept → (g : Geometry) → WrittenFilesStayKept g → FilesAreExplained g → FileFailuresMayEnd g
+file_failures_may_end fails_known g writes_known explains keeps visible v file cell was left passed told form hand fails = may_end fails_known g writes_known explains keeps visible v file cell was left passed told form hand fails
 
-pub file_failures_go_on : DirtyMayBeWritten → FilesMayCommitNext → WritesAreKept → CommitsShowAll → StagesAreKept → HasTreeBytes → KeepsTrees → StandsWhileWritten → StandsBehindWrites → (g : Geometry) → EmptiedIsStored g → ImagesAreExplained g → FileFailuresGoOn g
-file_failures_go_on dirty may_next writes shows staged tree_bytes trees stands others g empties each keeps visible v file cell was left passed told form hand fails =
-    went_on dirty may_next writes shows staged tree_bytes trees stands others g empties each keeps visible v file cell was left passed told form hand fails
+pub file_failures_go_on : FailedFilesStayKept → (g : Geometry) → WrittenFilesStayKept g → FilesAreExplained g → FileFailuresGoOn g
+file_failures_go_on fails_known g writes_known explains keeps visible v file cell was left passed told form hand fails = went_on fails_known g writes_known explains keeps visible v file cell was left passed told form hand fails

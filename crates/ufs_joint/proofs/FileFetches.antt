@@ -19,15 +19,15 @@ use Rattle.ufs_stored.specs.Parts.{Parts, durable_in, with_file}
 use Rattle.ufs_stored.specs.Sound.{IsSoundServer}
 use Rattle.ufs_joint.specs.Cells.{FileCell, StoreCell, View, store_of, store_since}
 use Rattle.ufs_joint.specs.FileHands.{FetchesFile, FileFetchesGoOn, FileFetchesMayEnd, IsAsBegun, IsFetchHand, WentOn, fetched_turn}
-use Rattle.ufs_joint.specs.Kept.{IsDiskKept, Known}
+use Rattle.ufs_stored.specs.Known.{IsDiskKept, IsMore, Known}
 use Rattle.ufs_store_steps.specs.Cells.{cells_of}
 use Rattle.ufs_joint.specs.Turns.{EndsOnDisk, MayEndTurn, Turn, known_by}
 use Rattle.ufs_joint.specs.Whole.{HasCells, HasFileCell, birth_known, changes_known, file_changes_at}
 use Rattle.ufs_joint.proofs.Blocks.{or_cases}
-use Rattle.ufs_joint.proofs.FetchKept.{fetches}
+use Rattle.ufs_kept.specs.Files.{FetchesStayKept}
 use Rattle.ufs_joint.proofs.FileTurns.{or_none}
 use Rattle.ufs_file.specs.Content.{IsContentOf, own_bytes}
-use Rattle.ufs_joint.proofs.BlockLemmas.{own_of_content}
+use Rattle.ufs_alike.proofs.BlockLemmas.{own_of_content}
 use Rattle.ufs_stored.proofs.Whole.{tree_may}
 use Rattle.ufs_joint.specs.Picks.{HasPicked, IsUnpicked, Pick, bytes_at, pick_at}
 use Rattle.ufs_joint.proofs.Reading.{as_long, content_read, picks_once, read_has, read_is, unpicked, was_absent}
@@ -35,14 +35,19 @@ use Rattle.ufs_file.specs.Hand.{FileState}
 use Rattle.ufs_model.specs.FileBytes.{bytes_of}
 use Rattle.ufs_on_disk.specs.Fetches.{FetchesAreExplained, FetchesReadTheTree, PartsByFetches, SoundByFetches, with_read}
 use Rattle.ufs_joint.proofs.Disks.{among, drop_behind}
-use Rattle.ufs_joint.proofs.Kept.{IsLess, less_kept, since_kept, kept_on_disk}
+use Rattle.ufs_joint.proofs.Kept.{since_kept}
+use Rattle.ufs_kept.proofs.Forgetting.{less_is_kept}
+use Rattle.ufs_stored.proofs.Known.{on_disk_of}
 use Rattle.ufs_joint.proofs.OneFile.{durable_is, none_here, one_here, one_file_goes, only_here}
 use Rattle.ufs_files.specs.Files.{AreNumbered}
 use Rattle.ufs_stored.specs.Stored.{ArePartsOf}
 use Rattle.ufs_model.specs.History.{tree_after}
-use Rattle.ufs_durable.specs.State.{DurableState}
+use Rattle.ufs_bitmap.specs.Taking.{has}
+use Rattle.ufs_durable.specs.State.{DurableState, blocks_held}
+use Rattle.ufs_joint.specs.NoneLost.{IsHad}
+use Rattle.ufs_joint.proofs.NoneLost.{file_keeps}
 
-module _ (reads_tree : FetchesReadTheTree) (by_parts : PartsByFetches) (by_sound : SoundByFetches) (g : Geometry) (explains : FetchesAreExplained g)
+module _ (stays : FetchesStayKept) (reads_tree : FetchesReadTheTree) (by_parts : PartsByFetches) (by_sound : SoundByFetches) (g : Geometry) (explains : FetchesAreExplained g)
     (sees keeps visible : Bool) (v : View) (file : ℕ) (cell : FileCell) (read : FileState) (was left : StoreCell) (passed : List Cells) (told : List ℕ) (form : geometry_of_store (store_of was) ≡ g) (hand : IsFetchHand visible v file cell was) (fetch : FetchesFile sees keeps visible was left cell.value.file read passed told) where
   abbrev t : Turn
   t = fetched_turn file cell read left passed told
@@ -100,7 +105,7 @@ module _ (reads_tree : FetchesReadTheTree) (by_parts : PartsByFetches) (by_sound
       was_kept = since_kept was [] fetch.earlier start history p known around.kept
 
       content : IsContentOf read.content (bytes_of (tree_after start history).bytes cell.value.file.file)
-      content = reads_tree sees keeps old new start history p cell.value.file read (fetch.seen seen) here fetch.fetched (kept_on_disk old start history p known was_kept)
+      content = reads_tree sees keeps old new start history p cell.value.file read (fetch.seen seen) here fetch.fetched (on_disk_of old start history p known was_kept)
 
       picked : HasPicked t.picks (tree_after start history)
       picked pick has =
@@ -111,7 +116,7 @@ module _ (reads_tree : FetchesReadTheTree) (by_parts : PartsByFetches) (by_sound
           ∙ ap (λ (q : Pick). q.bytes) (sym x.3)
 
       -- no more is known than was
-      less : IsLess (known_by start history t known) known
+      less : IsMore (known_by start history t known) known
       less = record { names = omega arith; files = λ other. files_at other (one_or_apart other file); born = λ other. born_at other (one_or_apart other file) }
         where
           files_at : (other : ℕ) → (other ≡ file) ⊎ (other ≢ file) → cond (leb 1 (count eqb other t.files)) (changes_known start history other (find eqb other t.files)) (known.files other) ≤ known.files other
@@ -138,7 +143,7 @@ module _ (reads_tree : FetchesReadTheTree) (by_parts : PartsByFetches) (by_sound
               sym (or_none (known.born other)) ∙ ap (λ (y : Option FileCell). known.born other || birth_known start history y) (sym a) ∙ born
 
       between : IsExplainedBetween keeps was.sectors start history old.moments new.moments
-      between = explains sees keeps old new start history p cell.value.file read form (fetch.seen seen) fetch.fetched (kept_on_disk old start history p known was_kept)
+      between = explains sees keeps old new start history p cell.value.file read form (fetch.seen seen) fetch.fetched (on_disk_of old start history p known was_kept)
 
       passes : Passes (Leaves (IsExplainedImage was.sectors start history)) old.moments new.moments
       passes = between.between (fetch.left_so.keeps_all seen)
@@ -148,11 +153,17 @@ module _ (reads_tree : FetchesReadTheTree) (by_parts : PartsByFetches) (by_sound
 
       ends : EndsOnDisk was t go start history p known
       ends = record {
-        kept = less_kept (store_of left) start history (go p) (known_by start history t known) known less
-            (since_kept left fetch.later [] start history (go p) known (subst (λ (q : Parts). IsDiskKept new start history q known) same_go (fetches sees keeps old new start history p known cell.value.file read (fetch.seen seen) here fetch.fetched was_kept)));
+        kept = less_is_kept (store_of left) start history (go p) (known_by start history t known) known less
+            (since_kept left fetch.later [] start history (go p) known (subst (λ (q : Parts). IsDiskKept new start history q known) same_go (stays sees keeps old new start history p known cell.value.file read (fetch.seen seen) here fetch.fetched was_kept)));
         picked = picked;
         passed = λ cells has. among was.sectors start history passes.inside passes.each cells (subst (Has cells) behind has);
       }
+
+    -- it has the blocks that it had
+    lost_none : AreNumbered p.files → (b : ℕ) → IsHad p was.unassigned.free b → IsHad (go p) left.unassigned.free b
+    lost_none numbered b had = subst (λ (q : BlockSet). IsHad (go p) q b) (ap (λ (s : StoreState). s.unassigned.free) (sym fetch.fetched.store))
+        (file_keeps p cell.value.file x p.pool was.unassigned.free was.unassigned.free here (ap (λ (q : FileState). q.file) fetch.fetched.rest) numbered b
+        (λ q. ⊎_elim (λ is. inl (ap (λ (y : FileState). has (blocks_held (record (cell.value) { file = y })) b) fetch.fetched.rest ∙ ap (λ (y : DurableState). has (blocks_held y) b) (sym durable) ∙ is)) (λ is. inr is) q) had)
 
     server_by : AreNumbered p.files → IsSoundServer g was.unassigned.free p → IsSoundServer g left.unassigned.free (go p)
     server_by numbered sound = subst (λ (q : BlockSet × Parts). IsSoundServer g q.0 q.1) (λ i. (ap (λ (s : StoreState). s.unassigned.free) (sym fetch.fetched.store) i, same_go i))
@@ -193,6 +204,7 @@ module _ (reads_tree : FetchesReadTheTree) (by_parts : PartsByFetches) (by_sound
           unpicked = subst (λ q. IsUnpicked t.picks q place) (sym is.0) (unpicked cell.value.file read fetch.further file place off);
         };
     parts = λ tree p cells picked are. parts_by p cells tree picked are;
+    none_lost = λ p cells numbered b. lost_none p cells numbered b;
     server = server_by;
     disk = λ seen start history p known around. ends p around.cells seen start history known (record { cells = around.cells; knows = around.knows; kept = around.kept });
   }
@@ -213,8 +225,8 @@ module _ (reads_tree : FetchesReadTheTree) (by_parts : PartsByFetches) (by_sound
   pub went_on : visible ≡ true → (start : PosixTree) (history : List Entry) (p : Parts) (known : Known) → IsAsBegun v was start history p known → WentOn (store_since fetch.earlier was) (store_since fetch.later left)
   went_on seen start history p known begun = (let is = passes p begun.cells seen start history known begun in (is.inside, is.whole))
 
-pub file_fetches_may_end : FetchesReadTheTree → PartsByFetches → SoundByFetches → (g : Geometry) → FetchesAreExplained g → FileFetchesMayEnd g
-file_fetches_may_end reads_tree by_parts by_sound g explains sees keeps visible v file cell read was left passed told form hand fetch = may_end reads_tree by_parts by_sound g explains sees keeps visible v file cell read was left passed told form hand fetch
+pub file_fetches_may_end : FetchesStayKept → FetchesReadTheTree → PartsByFetches → SoundByFetches → (g : Geometry) → FetchesAreExplained g → FileFetchesMayEnd g
+file_fetches_may_end stays reads_tree by_parts by_sound g explains sees keeps visible v file cell read was left passed told form hand fetch = may_end stays reads_tree by_parts by_sound g explains sees keeps visible v file cell read was left passed told form hand fetch
 
-pub file_fetches_go_on : FetchesReadTheTree → PartsByFetches → SoundByFetches → (g : Geometry) → FetchesAreExplained g → FileFetchesGoOn g
-file_fetches_go_on reads_tree by_parts by_sound g explains sees keeps visible v file cell read was left passed told form hand fetch = went_on reads_tree by_parts by_sound g explains sees keeps visible v file cell read was left passed told form hand fetch
+pub file_fetches_go_on : FetchesStayKept → FetchesReadTheTree → PartsByFetches → SoundByFetches → (g : Geometry) → FetchesAreExplained g → FileFetchesGoOn g
+file_fetches_go_on stays reads_tree by_parts by_sound g explains sees keeps visible v file cell read was left passed told form hand fetch = went_on stays reads_tree by_parts by_sound g explains sees keeps visible v file cell read was left passed told form hand fetch

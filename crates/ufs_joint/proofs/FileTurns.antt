@@ -1,21 +1,19 @@
 -- A turn of the store in which a file was committed may end.
-use Rattle.std.proofs.Common.{◌≡◌, ◌≢◌, ℕ, ◌≤◌, ◌⊎◌, inl, inr, Bool, true, false, cond, ◌||◌, eqb, ne_eqb, leb, List, [], ◌∷◌, length, map, Option, Some, None, is_some, sym, refl, ap, ◌∙◌, subst, arith}
-use Rattle.std.specs.Prelude.{IsSome, drop}
+use Rattle.std.proofs.Common.{◌≡◌, ◌≢◌, ℕ, ◌≤◌, ◌⊎◌, inl, inr, Bool, true, false, cond, ◌||◌, eqb, ne_eqb, leb, List, [], ◌∷◌, length, map, Option, Some, None, sym, refl, ap, ◌∙◌, subst, arith}
+use Rattle.std.specs.Prelude.{◌==◌, drop, if◌then◌else◌}
+use Rattle.std.proofs.lemmas.Bool.Decides.{nat_tests}
 use Rattle.std.specs.FinMap as fin
 use Rattle.std.specs.List.{slice_get}
 use Rattle.std.specs.FinSet as set
 use Rattle.ufs_bitmap.specs.Blocks.{BlockSet}
-use Rattle.ufs_bitmap.specs.Taking.{set_of}
+use Rattle.ufs_bitmap.specs.Taking.{has, set_of}
 use Rattle.ufs_disk.specs.Disk.{Leaves}
 use Rattle.ufs_disk.specs.Moments.{Passes, all}
 use Rattle.ufs_sound.proofs.Keys.{itself}
-use Rattle.ufs_durable.specs.Committing.{FilesMayCommitNext, HasTreeBytes, StagesAreKept, WritesAreKept}
-use Rattle.ufs_durable.specs.Standing.{DirtyMayBeWritten}
-use Rattle.ufs_durable.specs.State.{DurableState, file_committed}
+use Rattle.ufs_durable.specs.State.{DurableState, blocks_held, file_committed}
 use Rattle.ufs_files.specs.Files.{AreNumbered}
 use Rattle.ufs_files.proofs.MapLemmas.{one_or_apart}
 use Rattle.ufs_layout.specs.declared.geometry.Geometry.{Geometry}
-use Rattle.ufs_ledger.specs.Kept.{Counts}
 use Rattle.ufs_model.specs.History.{tree_after}
 use Rattle.ufs_model.specs.PosixTree.{PosixTree}
 use Rattle.ufs_model.specs.declared.data.Entry.{Entry}
@@ -25,8 +23,6 @@ use Rattle.ufs_prefix.specs.Changes.{changes_of}
 use Rattle.ufs_sound.specs.Owned.{Has, count, find}
 use Rattle.ufs_sound.specs.Parts.{Cells, only_one}
 use Rattle.ufs_store.specs.State.{StoreState, geometry_of_store}
-use Rattle.ufs_stored.specs.AlwaysLaws.{ImagesAreExplained}
-use Rattle.ufs_stored.specs.Laws.{FilesAreCommitted, FilesAreSettled}
 use Rattle.ufs_stored.specs.OnDisk.{IsExplainedBetween, IsExplainedImage}
 use Rattle.ufs_stored.specs.Parts.{Parts, durable_in, with_file}
 use Rattle.ufs_stored.specs.Sound.{IsSoundServer}
@@ -35,15 +31,18 @@ use Rattle.ufs_stored.proofs.FileEntries.{parts_now}
 use Rattle.ufs_stored.proofs.Whole.{cleaned_stays}
 use Rattle.ufs_joint.specs.Cells.{FileCell, StoreCell, View, store_of, store_since}
 use Rattle.ufs_joint.specs.FileHands.{CommitsFile, FileCommitsGoOn, FileCommitsMayEnd, IsAsBegun, IsSyncHand, WentOn, committed_turn}
-use Rattle.ufs_joint.specs.Kept.{GoesKnown, IsDiskKept, Known}
+use Rattle.ufs_stored.specs.Known.{IsDiskKept, IsKeptGoing, IsMore, Known, with_file_known}
 use Rattle.ufs_joint.specs.Sound.{IsExplainedState}
 use Rattle.ufs_store_steps.specs.Cells.{cells_of}
 use Rattle.ufs_joint.specs.Turns.{EndsOnDisk, MayEndTurn, Turn, known_by}
 use Rattle.ufs_joint.specs.Whole.{HasCells, HasFileCell, birth_known, changes_known, file_changes_at}
-use Rattle.ufs_joint.proofs.FileCommits.{IsCommittedKnown, synced}
 use Rattle.ufs_joint.proofs.Disks.{among, drop_behind}
-use Rattle.ufs_joint.proofs.Kept.{since_kept}
-use Rattle.ufs_joint.proofs.Meanwhile.{explained_between, may_leave}
+use Rattle.ufs_joint.proofs.Kept.{kept_going, since_kept}
+use Rattle.ufs_kept.specs.Files.{FilesAreExplained, FilesAreKnown, IsBornHere}
+use Rattle.ufs_kept.proofs.Forgetting.{less_is_kept}
+use Rattle.ufs_ledger.specs.Laws.{raised}
+use Rattle.ufs_joint.specs.NoneLost.{IsHad}
+use Rattle.ufs_joint.proofs.NoneLost.{commit_keeps, file_keeps}
 use Rattle.ufs_joint.proofs.OneFile.{durable_is, none_here, one_file_goes, one_here}
 use Rattle.ufs_joint.proofs.Takes.{fewer_changes}
 
@@ -51,7 +50,14 @@ pub or_none : (a : Bool) → (a || false) ≡ a
 or_none true = refl
 or_none false = refl
 
-module _ (committed : FilesAreCommitted) (settled : FilesAreSettled) (dirty : DirtyMayBeWritten) (may_next : FilesMayCommitNext) (writes : WritesAreKept) (staged : StagesAreKept) (tree_bytes : HasTreeBytes) (g : Geometry) (each : ImagesAreExplained g)
+-- what is raised at one number
+raised_here : (files : ℕ → ℕ) (file n other : ℕ) → other ≡ file → raised files file n other ≡ n
+raised_here files file n other same = let e : (other == file) ≡ true = grind (arith, nat_tests, same) in ap (λ (b : Bool). if b then n else files other) e
+
+raised_else : (files : ℕ → ℕ) (file n other : ℕ) → other ≢ file → raised files file n other ≡ files other
+raised_else files file n other not = let e : (other == file) ≡ false = ne_eqb other file not in ap (λ (b : Bool). if b then n else files other) e
+
+module _ (syncs : FilesAreKnown) (g : Geometry) (explains : FilesAreExplained g)
     (keeps visible : Bool) (v : View) (file : ℕ) (cell : FileCell) (was left : StoreCell) (passed : List Cells) (form : geometry_of_store (store_of was) ≡ g) (hand : IsSyncHand visible v file cell was) (commits : CommitsFile keeps visible was left cell.value passed) where
   abbrev t : Turn
   t = committed_turn file cell was left passed
@@ -92,6 +98,13 @@ module _ (committed : FilesAreCommitted) (settled : FilesAreSettled) (dirty : Di
         (subst (λ (x : DurableState). IsSoundServer g (set.union was.unassigned.free (set_of x.dropped)) (with_file (file_committed x) p.pool p)) durable
         (sound_by_syncs g was.unassigned.free p cell.value.file numbered here sound))
 
+    -- the blocks that it dropped are unassigned now
+    lost_none : AreNumbered p.files → (b : ℕ) → IsHad p was.unassigned.free b → IsHad (go p) left.unassigned.free b
+    lost_none numbered b had = subst (λ (q : BlockSet). IsHad (go p) q b) (sym commits.freed)
+        (file_keeps p cell.value.file (file_committed cell.value) p.pool was.unassigned.free (set.union was.unassigned.free (set_of cell.value.dropped)) here refl numbered b
+        (subst (λ (x : DurableState). (has (blocks_held x) b ≡ true) ⊎ ((set.contains p.pool b ≡ true) ⊎ (set.contains was.unassigned.free b ≡ true))
+        → (has (blocks_held (file_committed cell.value)) b ≡ true) ⊎ ((set.contains p.pool b ≡ true) ⊎ (set.contains (set.union was.unassigned.free (set_of cell.value.dropped)) b ≡ true))) (sym durable) (commit_keeps cell.value p.pool was.unassigned.free b)) had)
+
     -- ---- the disk
 
     module _ (seen : visible ≡ true) (start : PosixTree) (history : List Entry) (known : Known) (around : IsAsBegun v was start history p known) where
@@ -101,61 +114,57 @@ module _ (committed : FilesAreCommitted) (settled : FilesAreSettled) (dirty : Di
       abbrev new : StoreState
       new = store_since commits.later left
 
-      -- the store goes on
-      going : IsDiskKept old start history p known → GoesKnown old start history p known
-      going (inl k) = k
-      going (inr k) = (let stop = k.stopped.stopped in let clash : false ≡ true = ap is_some (sym commits.going) ∙ stop in absurd cc)
-
-      kept : GoesKnown old start history p known
-      kept = going (since_kept was [] commits.earlier start history p known around.kept)
+      kept : IsKeptGoing old start history p known
+      kept = kept_going old start history p known commits.going (since_kept was [] commits.earlier start history p known around.kept)
 
       birth_is : known.born file ≡ true
       birth_is = around.knows.born file cell has_file hand.born
 
-      there : IsSome (kept.going.counts.numbers.inode cell.value.file.file)
-      there = subst (λ (q : ℕ). IsSome (kept.going.counts.numbers.inode q)) (sym hand.number) (kept.covers.born file birth_is)
+      born : IsBornHere p known cell.value.file
+      born = record { here = here; born = ap known.born hand.number ∙ birth_is }
 
       told : HasSynced old new (durable_in p.commits cell.value.file)
       told = subst (HasSynced old new) (sym durable) (commits.synced seen)
 
-      after : IsCommittedKnown new start history (go p) known cell.value.file.file (length (changes_of cell.value.file.file start history))
-      after = subst (λ (x : DurableState). IsCommittedKnown new start history (with_file (file_committed x) p.pool p) known cell.value.file.file (length (changes_of cell.value.file.file start history))) durable
-          (synced old new start history p cell.value.file here known kept there committed settled dirty may_next commits.fits told)
+      abbrev so_many : ℕ
+      so_many = length (changes_of cell.value.file.file start history)
 
-      abbrev counts : Counts
-      counts = after.kept.going.counts
+      after : IsKeptGoing new start history (go p) (with_file_known cell.value.file.file so_many known)
+      after = subst (λ (x : DurableState). IsKeptGoing new start history (with_file (file_committed x) p.pool p) (with_file_known cell.value.file.file so_many known)) durable
+          (syncs old new start history p known cell.value.file born commits.fits told kept)
 
-      covered : (other : ℕ) → (other ≡ file) ⊎ (other ≢ file) → cond (leb 1 (count eqb other t.files)) (changes_known start history other (find eqb other t.files)) (known.files other) ≤ counts.files other
-      covered other (inl is) =
-          let a = one_here file other is done in
-          let b : eqb other file ≡ true = ap (eqb other) (sym is) ∙ itself other in
-          let c : cond (leb 1 (count eqb other t.files)) (changes_known start history other (find eqb other t.files)) (known.files other) ≡ file_changes_at start history other was.stamp =
-          (λ i. cond (leb 1 (a i)) (changes_known start history other (cond (b i) (Some done) None)) (known.files other)) in
-          let d = fewer_changes other start history was.stamp in
-          let e = after.all in
-          let same : other ≡ cell.value.file.file = is ∙ sym hand.number in
-          let x : length (changes_of other start history) ≡ length (changes_of cell.value.file.file start history) = ap (λ q. length (changes_of q start history)) same in
-          let y : counts.files other ≡ counts.files cell.value.file.file = ap counts.files same in
-          omega (arith, c, d, e, x, y)
-      covered other (inr not) =
-          let a = none_here file other not done in
-          let c : cond (leb 1 (count eqb other t.files)) (changes_known start history other (find eqb other t.files)) (known.files other) ≡ known.files other = (λ i. cond (leb 1 (a i)) (changes_known start history other (find eqb other t.files)) (known.files other)) in
-          let d = after.kept.covers.files other in
-          omega (arith, c, d)
+      -- no more is known than that
+      less : IsMore (known_by start history t known) (with_file_known cell.value.file.file so_many known)
+      less = record { names = omega arith; files = λ other. covered other (one_or_apart other file); born = λ other. births other (one_or_apart other file) }
+        where
+          covered : (other : ℕ) → (other ≡ file) ⊎ (other ≢ file) → cond (leb 1 (count eqb other t.files)) (changes_known start history other (find eqb other t.files)) (known.files other) ≤ raised known.files cell.value.file.file so_many other
+          covered other (inl is) =
+              let a = one_here file other is done in
+              let b : eqb other file ≡ true = ap (eqb other) (sym is) ∙ itself other in
+              let c : cond (leb 1 (count eqb other t.files)) (changes_known start history other (find eqb other t.files)) (known.files other) ≡ file_changes_at start history other was.stamp =
+              (λ i. cond (leb 1 (a i)) (changes_known start history other (cond (b i) (Some done) None)) (known.files other)) in
+              let d = fewer_changes other start history was.stamp in
+              let same : other ≡ cell.value.file.file = is ∙ sym hand.number in
+              let x : length (changes_of other start history) ≡ so_many = ap (λ q. length (changes_of q start history)) same in
+              let y : raised known.files cell.value.file.file so_many other ≡ so_many = raised_here known.files cell.value.file.file so_many other same in
+              omega (arith, c, d, x, y)
+          covered other (inr not) =
+              let a = none_here file other not done in
+              let c : cond (leb 1 (count eqb other t.files)) (changes_known start history other (find eqb other t.files)) (known.files other) ≡ known.files other = (λ i. cond (leb 1 (a i)) (changes_known start history other (find eqb other t.files)) (known.files other)) in
+              let y : raised known.files cell.value.file.file so_many other ≡ known.files other = raised_else known.files cell.value.file.file so_many other (λ e. not (e ∙ hand.number)) in
+              omega (arith, c, y)
 
-      births : (other : ℕ) → (other ≡ file) ⊎ (other ≢ file) → (known.born other || birth_known start history (find eqb other t.files)) ≡ true → IsSome (counts.numbers.inode other)
-      births other (inl is) born = after.kept.covers.born other (ap known.born is ∙ birth_is)
-      births other (inr not) born =
-          let a : find eqb other t.files ≡ None = ap (λ b. cond b (Some done) None) (ne_eqb other file not) in
-          let b : known.born other ≡ true = sym (or_none (known.born other)) ∙ ap (λ (x : Option FileCell). known.born other || birth_known start history x) (sym a) ∙ born in
-          after.kept.covers.born other b
+          births : (other : ℕ) → (other ≡ file) ⊎ (other ≢ file) → (known.born other || birth_known start history (find eqb other t.files)) ≡ true → known.born other ≡ true
+          births other (inl is) born = ap known.born is ∙ birth_is
+          births other (inr not) born =
+              let a : find eqb other t.files ≡ None = ap (λ b. cond b (Some done) None) (ne_eqb other file not) in
+              sym (or_none (known.born other)) ∙ ap (λ (x : Option FileCell). known.born other || birth_known start history x) (sym a) ∙ born
 
       now_kept : IsDiskKept new start history (go p) (known_by start history t known)
-      now_kept = inl (record { going = after.kept.going; covers = record { names = after.kept.covers.names; files = λ other. covered other (one_or_apart other file); born = λ other. births other (one_or_apart other file) } })
+      now_kept = less_is_kept new start history (go p) (known_by start history t known) (with_file_known cell.value.file.file so_many known) less (inl after)
 
       between : IsExplainedBetween keeps was.sectors start history old.moments new.moments
-      between = explained_between g keeps old new start history p cell.value.file (subst (LeavesStages keeps old new) (sym durable) (commits.stages seen))
-          (may_leave g old start history p cell.value.file form here commits.fits (record { going = kept.going; there = there }) writes staged may_next dirty tree_bytes each)
+      between = explains keeps old new start history p known cell.value.file form born commits.fits (subst (LeavesStages keeps old new) (sym durable) (commits.stages seen)) kept
 
       passes : Passes (Leaves (IsExplainedImage was.sectors start history)) old.moments new.moments
       passes = between.between (commits.left_so.keeps_all seen)
@@ -200,6 +209,7 @@ module _ (committed : FilesAreCommitted) (settled : FilesAreSettled) (dirty : Di
       unpicked = λ pick none e at. absurd none;
     };
     parts = λ tree p cells _. parts_by p cells tree;
+    none_lost = λ p cells numbered b. lost_none p cells numbered b;
     server = server_by;
     disk = λ seen start history p known around. ends p around.cells seen start history known (record { cells = around.cells; knows = around.knows; kept = around.kept });
   }
@@ -215,10 +225,8 @@ module _ (committed : FilesAreCommitted) (settled : FilesAreSettled) (dirty : Di
   pub went_on : visible ≡ true → (start : PosixTree) (history : List Entry) (p : Parts) (known : Known) → IsAsBegun v was start history p known → WentOn (store_since commits.earlier was) (store_since commits.later left)
   went_on seen start history p known begun = (let is = passes p begun.cells seen start history known begun in (is.inside, is.whole))
 
-pub file_commits_may_end : FilesAreCommitted → FilesAreSettled → DirtyMayBeWritten → FilesMayCommitNext → WritesAreKept → StagesAreKept → HasTreeBytes → (g : Geometry) → ImagesAreExplained g → FileCommitsMayEnd g
-file_commits_may_end committed settled dirty may_next writes staged tree_bytes g each keeps visible v file cell was left passed form hand commits =
-    may_end committed settled dirty may_next writes staged tree_bytes g each keeps visible v file cell was left passed form hand commits
+pub file_commits_may_end : FilesAreKnown → (g : Geometry) → FilesAreExplained g → FileCommitsMayEnd g
+file_commits_may_end syncs g explains keeps visible v file cell was left passed form hand commits = may_end syncs g explains keeps visible v file cell was left passed form hand commits
 
-pub file_commits_go_on : FilesAreCommitted → FilesAreSettled → DirtyMayBeWritten → FilesMayCommitNext → WritesAreKept → StagesAreKept → HasTreeBytes → (g : Geometry) → ImagesAreExplained g → FileCommitsGoOn g
-file_commits_go_on committed settled dirty may_next writes staged tree_bytes g each keeps visible v file cell was left passed form hand commits =
-    went_on committed settled dirty may_next writes staged tree_bytes g each keeps visible v file cell was left passed form hand commits
+pub file_commits_go_on : FilesAreKnown → (g : Geometry) → FilesAreExplained g → FileCommitsGoOn g
+file_commits_go_on syncs g explains keeps visible v file cell was left passed form hand commits = went_on syncs g explains keeps visible v file cell was left passed form hand commits

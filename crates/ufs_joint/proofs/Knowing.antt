@@ -5,21 +5,23 @@ use lib.ListN.{get_elem?}
 use Rattle.std.specs.FinSet as setof
 use Rattle.ufs_bitmap.specs.Blocks.{BlockSet}
 use Rattle.ufs_model.specs.History.{tree_after}
+use Rattle.ufs_names.specs.NamesPart.{NamesPart}
 use Rattle.ufs_on_disk.specs.Requests.{with_free}
 use Rattle.ufs_on_disk.proofs.Sound.{sound_by_free_blocks}
 use Rattle.ufs_sound.specs.Owned.{Has}
 use Rattle.ufs_stored.specs.Laws.{MovesBlocks}
 use Rattle.ufs_joint.specs.Cells.{NamesCell, Start, StoreCell, View, Word, World, store_of}
 use Rattle.ufs_joint.specs.Draws.{IsAround}
-use Rattle.ufs_joint.specs.Kept.{IsDiskKept}
+use Rattle.ufs_stored.specs.Known.{IsDiskKept}
 use Rattle.ufs_joint.specs.Known.{Knows, KnowsDisk}
 use Rattle.ufs_joint.specs.Laws.{HandsKnow}
 use Rattle.ufs_joint.specs.Sound.{IsSound}
-use Rattle.ufs_joint.specs.Whole.{HasCells, birth_known_by, changes_known, known_in, name_changes_at, pooled}
+use Rattle.ufs_joint.specs.Whole.{HasCells, birth_known, birth_known_by, changes_known, known_in, name_changes_at, pooled}
 use Rattle.ufs_joint.proofs.Blocks.{difference_in, not_in, or_left, or_right, taken_out}
 use Rattle.ufs_joint.proofs.Exchange.{names_are, store_is}
 use Rattle.ufs_joint.proofs.FaultsTold.{untold}
-use Rattle.ufs_joint.proofs.Kept.{moved_kept}
+use Rattle.ufs_joint.proofs.Few.{few, few_files}
+use Rattle.ufs_kept.proofs.Pools.{pools_stay}
 use Rattle.ufs_joint.proofs.Parting.{cells_there, other_pool, own_free, own_not_store, same_cells}
 use Rattle.ufs_joint.proofs.TurnEnding.{lends_all}
 
@@ -70,12 +72,12 @@ module _ (k : Start) (word : Word) (views : List View) (i : ℕ) (v : View) (o :
         knows = record {
           files = λ file c has. let x = ap (changes_known k.tree o.history file) (o.one_hand.files.agree i v at file c has) in omega (arith, x);
           born = λ file c has born. ap (birth_known_by k.tree o.history G.names.named file) (o.one_hand.files.agree i v at file c has) ∙ or_left c.born (setof.contains G.names.named file) born;
-          named = λ file c w x has also is. ap (birth_known_by k.tree o.history G.names.named file) (o.one_hand.files.agree i v at file c has) ∙ or_right c.born (setof.contains G.names.named file) (ap (λ (y : NamesCell). setof.contains y.named file) (names_are views i v v at G o.one_hand w x also) ∙ is);
+          named = λ file w x also is. or_right (birth_known k.tree o.history (G.file file)) (setof.contains G.names.named file) (ap (λ (y : NamesCell). setof.contains y.named file) (names_are views i v v at G o.one_hand w x also) ∙ is);
           names = λ w c has. let x = ap (λ (x : NamesCell). name_changes_at k.tree o.history x.known) (names_are views i v v at G o.one_hand w c has) in omega (arith, x);
           files_told = λ file c has. let x = ap length (d.told.files file c (o.one_hand.files.agree i v at file c has)) in omega (arith, x);
           names_told = λ w c has. let x = ap length d.told.names in let y = ap (λ (x : NamesCell). name_changes_at k.tree o.history x.changed) (names_are views i v v at G o.one_hand w c has) in omega (arith, x, y);
         };
-        kept = moved_kept (with_free o.free (store_of s)) k.tree o.history o.parts (known_in k.tree o.history G) (setof.difference o.free old) old moves
+        kept = pools_stay (with_free o.free (store_of s)) k.tree o.history o.parts (known_in k.tree o.history G) (setof.difference o.free old) old moves
             (subst (λ (q : StoreCell). IsDiskKept (with_free o.free (store_of q)) k.tree o.history o.parts (known_in k.tree o.history G)) is d.kept);
       }
 
@@ -89,10 +91,19 @@ module _ (k : Start) (word : Word) (views : List View) (i : ℕ) (v : View) (o :
     rest = rest;
     around = around;
     unassigned = unassigned;
+    few = few k word views o;
+    next = λ u c has.
+        let names = ap (λ (n : NamesPart). n.next) (cells.names u c has).names in
+        let same = (o.leads o.begun o.may_begin).parts.names.next in
+        let made = few_files o.begun o.history in
+        let first = o.may_begin.alike.next in
+        let long = o.tickets_once.tickets in
+        omega (arith, names, same, made, first, long);
     asked = λ c a p ha hp. o.asked.kept c a p (o.one_hand.asked.agree i v at c a ha) (o.one_hand.clients.agree i v at c p hp);
     disk = knows_disk;
     changed = λ visible file c has. let x = (o.disk visible).told.within file c (o.one_hand.files.agree i v at file c has) in let y = x.0 in let z = x.1 in let t = o.tickets_once.tickets in let a = (o.disk visible).past.stamped in let b = (o.disk visible).past.within in (omega (arith, y, t), omega (arith, z, a, b));
     names_changed = λ visible u c has. let x = (o.disk visible).told.names_within.0 in let t = o.tickets_once.tickets in let e = ap (λ (y : NamesCell). y.changed) (names_are views i v v at G o.one_hand u c has) in omega (arith, x, t, e);
+    names_known = λ visible u c has. let x = (o.disk visible).told.names_within.1 in let a = (o.disk visible).past.stamped in let b = (o.disk visible).past.within in let e = ap (λ (y : NamesCell). y.known) (names_are views i v v at G o.one_hand u c has) in omega (arith, x, a, b, e);
   }
 
 pub hands_know : HandsKnow

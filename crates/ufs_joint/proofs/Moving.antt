@@ -135,6 +135,7 @@ module _ (k : Start) (word : Word) (views : List View) (i : ℕ) (v : View) (was
     free_in = free_then;
     pools_apart = apart_then;
     server = o.server;
+    none_lost = o.none_lost;
     formed = ap (λ (s : StoreCell). geometry_of_store (store_of s)) (sym it_is) ∙ o.formed;
     begun = o.begun;
     may_begin = o.may_begin;

@@ -3,9 +3,9 @@ use Rattle.std.proofs.Common.{◌≡◌, ◌⊎◌, inl, inr, ℕ, zero, suc, �
 use Rattle.std.specs.Prelude.{slice_get}
 use Rattle.std.proofs.lemmas.List.{drop_at, length-replicate, take_all}
 use Rattle.ufs_alike.specs.Alike.{AreAlike}
-use Rattle.ufs_joint.proofs.BlockLemmas.{length-own, own_next}
-use Rattle.ufs_joint.proofs.BlockTreeLemmas.{blocks_alike, blocks_else, blocks_marked, blocks_same, with_blocks}
-use Rattle.ufs_joint.proofs.MergedLemmas.{AreAsMany}
+use Rattle.ufs_alike.proofs.BlockLemmas.{length-own, own_next}
+use Rattle.ufs_alike.proofs.BlockTreeLemmas.{blocks_alike, blocks_else, blocks_marked, blocks_same, with_blocks}
+use Rattle.ufs_alike.proofs.MergedLemmas.{AreAsMany}
 use Rattle.ufs_alike.proofs.TreeLemmas.{itself, through}
 use Rattle.ufs_file.specs.Content.{own_bytes}
 use Rattle.ufs_model.specs.FileBytes.{bytes_of}

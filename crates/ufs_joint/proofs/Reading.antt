@@ -2,7 +2,7 @@
 use Rattle.std.proofs.Common.{◌≡◌, ℕ, zero, suc, ◌+◌, ◌*◌, ◌-◌, ◌<◌, ◌⊎◌, inl, inr, Bool, true, false, min, List, [], ◌∷◌, length, Option, Some, None, sym, refl, ap, ◌∙◌, subst, arith}
 use Rattle.std.specs.Prelude.{slice_get}
 use Rattle.std.proofs.lemmas.Option.{slice_get-get_or, slice_get_within}
-use Rattle.ufs_joint.proofs.BlockLemmas.{content_of_own, length-own, own_of_content}
+use Rattle.ufs_alike.proofs.BlockLemmas.{content_of_own, length-own, own_of_content}
 use Rattle.ufs_file.specs.Content.{IsContentOf, own_bytes}
 use Rattle.ufs_file.specs.Hand.{FileState}
 use Rattle.ufs_file.proofs.UnreadLemmas.{content_itself}

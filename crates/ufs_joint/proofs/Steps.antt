@@ -18,7 +18,7 @@ use Rattle.ufs_store.specs.State.{geometry_of_store}
 use Rattle.ufs_stored.specs.AlwaysLaws.{RestIsExplained}
 use Rattle.ufs_joint.specs.Cells.{Start, StoreCell, View, Word, World, both_of, given_of, kept_of, spent, store_of}
 use Rattle.ufs_joint.specs.Faults.{AreFaultsOnce}
-use Rattle.ufs_joint.specs.Kept.{IsDiskKept}
+use Rattle.ufs_stored.specs.Known.{IsDiskKept}
 use Rattle.ufs_joint.specs.Laws.{LookKeeps, AskKeeps, JoinKeeps, SplitKeeps, TurnBeginKeeps}
 use Rattle.ufs_joint.specs.Marks.{MayAsk, asking}
 use Rattle.ufs_joint.proofs.Disks.{explained_here}
@@ -27,7 +27,7 @@ use Rattle.ufs_joint.specs.Turns.{begun_at, rested, turn_begun}
 use Rattle.ufs_joint.specs.Whole.{AreFreeIn, ArePoolsApart, commits_of, hand_of, known_in}
 use Rattle.ufs_joint.proofs.Exchange.{kind_exchanged, one_exchanged, store_is}
 use Rattle.ufs_joint.proofs.FaultsTold.{faults_join, faults_same, faults_split, faults_stay}
-use Rattle.ufs_joint.proofs.Kept.{kept_on_disk}
+use Rattle.ufs_stored.proofs.Known.{on_disk_of}
 use Rattle.ufs_joint.proofs.Takes.{take_whole}
 
 -- ---- the same world, by other views
@@ -49,6 +49,7 @@ other_views k word views more o held seen faults = record {
   free_in = o.free_in;
   pools_apart = o.pools_apart;
   server = o.server;
+  none_lost = o.none_lost;
   formed = o.formed;
   begun = o.begun;
   may_begin = o.may_begin;
@@ -242,6 +243,7 @@ module _ (k : Start) (word : Word) (views : List View) (i : ℕ) (v : View) (c :
     free_in = record { back = o.free_in.back; here = o.free_in.here };
     pools_apart = record { pools = o.pools_apart.pools; store = o.pools_apart.store };
     server = o.server;
+    none_lost = o.none_lost;
     formed = o.formed;
     begun = o.begun;
     may_begin = o.may_begin;
@@ -299,7 +301,7 @@ module _ (k : Start) (word : Word) (views : List View) (i : ℕ) (v : View) (s :
     explained : (j : ℕ) → o.world.store.stamp ≤ j → j ≤ n → IsExplainedState s.sectors k.tree (take j o.history) s.state
     explained j from low =
         let since = d.since j from low in
-        let at_rest = rest true (with_free since.freed (store_of o.world.store)) k.tree (take j o.history) since.parts o.formed (kept_on_disk (with_free since.freed (store_of o.world.store)) k.tree (take j o.history) since.parts (known_in k.tree (take j o.history) o.world) since.kept) in
+        let at_rest = rest true (with_free since.freed (store_of o.world.store)) k.tree (take j o.history) since.parts o.formed (on_disk_of (with_free since.freed (store_of o.world.store)) k.tree (take j o.history) since.parts (known_in k.tree (take j o.history) o.world) since.kept) in
         subst (λ (q : StoreCell). IsExplainedState q.sectors k.tree (take j o.history) q.state) it_is (explained_here o.world.store.sectors k.tree (take j o.history) o.world.store.state at_rest.after)
 
     kept_now : IsDiskKept (with_free o.free (store_of (begun_at n s))) k.tree o.history o.parts (known_in k.tree o.history then)
@@ -369,6 +371,7 @@ module _ (k : Start) (word : Word) (views : List View) (i : ℕ) (v : View) (s :
     free_in = subst (λ (q : StoreCell). AreFreeIn (record o.world { store = record q { stamp = n; past = rested n s ∷ s.past } }) o.free) it_is (record { back = o.free_in.back; here = o.free_in.here });
     pools_apart = subst (λ (q : StoreCell). ArePoolsApart (record o.world { store = record q { stamp = n; past = rested n s ∷ s.past } })) it_is (record { pools = o.pools_apart.pools; store = o.pools_apart.store });
     server = o.server;
+    none_lost = o.none_lost;
     formed = ap (λ (q : StoreCell). geometry_of_store (store_of q)) (sym it_is) ∙ o.formed;
     begun = o.begun;
     may_begin = o.may_begin;

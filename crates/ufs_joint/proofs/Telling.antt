@@ -18,11 +18,12 @@ use Rattle.ufs_joint.specs.Laws.{TellKeeps}
 use Rattle.ufs_joint.specs.Marks.{births_told, with_birth}
 use Rattle.ufs_joint.specs.Picks.{IsAbsent}
 use Rattle.ufs_joint.specs.Sound.{IsDiskSound, IsHeld, IsSound}
-use Rattle.ufs_joint.specs.Whole.{ArePartsIn, birth_known_by, changes_known, commits_of, hand_of, known_in}
+use Rattle.ufs_joint.specs.Whole.{ArePartsIn, birth_known, birth_known_by, changes_known, commits_of, hand_of, known_in}
 use Rattle.ufs_joint.proofs.Blocks.{or_cases, or_left, or_right}
 use Rattle.ufs_joint.proofs.Exchange.{kind_exchanged, names_are, single_of}
 use Rattle.ufs_joint.proofs.FaultsTold.{faults_same}
-use Rattle.ufs_joint.proofs.Kept.{IsLess, less_kept}
+use Rattle.ufs_stored.specs.Known.{IsMore}
+use Rattle.ufs_kept.proofs.Forgetting.{less_is_kept}
 
 module _ (k : Start) (word : Word) (views : List View) (i : ℕ) (v : View) (names : NamesCell) (o : IsSound k word views) (at : get_elem? views i ≡ some v) (has : v.names ≡ (tt, names) ∷ []) where
   abbrev G : World
@@ -98,7 +99,7 @@ module _ (k : Start) (word : Word) (views : List View) (i : ℕ) (v : View) (nam
     pool = o.parts_in.pool;
   }
 
-  less : (g : List Entry) → IsLess (known_in k.tree g next) (known_in k.tree g G)
+  less : (g : List Entry) → IsMore (known_in k.tree g next) (known_in k.tree g G)
   less g = record { names = omega arith; files = λ file. files_at file (next.file file) refl; born = λ file. born_at file (next.file file) refl }
     where
       files_at : (file : ℕ) (c : Option FileCell) → next.file file ≡ c → changes_known k.tree g file c ≤ changes_known k.tree g file (G.file file)
@@ -109,7 +110,7 @@ module _ (k : Start) (word : Word) (views : List View) (i : ℕ) (v : View) (nam
           omega (arith, a, b)
 
       born_at : (file : ℕ) (c : Option FileCell) → next.file file ≡ c → birth_known_by k.tree g G.names.named file c ≡ true → birth_known_by k.tree g G.names.named file (G.file file) ≡ true
-      born_at file None is born = absurd cc
+      born_at file None is born = or_right (birth_known k.tree g (G.file file)) (setof.contains G.names.named file) born
       born_at file (Some c) is born =
           let x = file_case file c is in
           ap (birth_known_by k.tree g G.names.named file) x.was ∙ ⊎_elim (λ b. x.born b) (λ b. or_right x.before.born (setof.contains G.names.named file) b) (or_cases c.born (setof.contains G.names.named file) born)
@@ -118,7 +119,7 @@ module _ (k : Start) (word : Word) (views : List View) (i : ℕ) (v : View) (nam
   disk_then visible =
       let d = o.disk visible in
       record {
-        kept = less_kept (with_free o.free (store_of G.store)) k.tree o.history o.parts (known_in k.tree o.history next) (known_in k.tree o.history G) (less o.history) d.kept;
+        kept = less_is_kept (with_free o.free (store_of G.store)) k.tree o.history o.parts (known_in k.tree o.history next) (known_in k.tree o.history G) (less o.history) d.kept;
         told = record {
           files = λ file c is. let x = file_case file c is in d.told.files file x.before x.was ∙ ap (λ q. changes_of file k.tree (take q o.history)) (sym x.changed);
           within = λ file c is. let x = file_case file c is in let y = d.told.within file x.before x.was in let a = x.changed in let b = x.known in let p = y.0 in let q = y.1 in (omega (arith, a, p), omega (arith, b, q));
@@ -128,7 +129,7 @@ module _ (k : Start) (word : Word) (views : List View) (i : ℕ) (v : View) (nam
         since = λ j from low. let s = d.since j from low in record {
           parts = s.parts;
           freed = s.freed;
-          kept = less_kept (with_free s.freed (store_of G.store)) k.tree (take j o.history) s.parts (known_in k.tree (take j o.history) next) (known_in k.tree (take j o.history) G) (less (take j o.history)) s.kept;
+          kept = less_is_kept (with_free s.freed (store_of G.store)) k.tree (take j o.history) s.parts (known_in k.tree (take j o.history) next) (known_in k.tree (take j o.history) G) (less (take j o.history)) s.kept;
           sound = s.sound;
           pool = s.pool;
           fewer = s.fewer;
@@ -158,6 +159,7 @@ module _ (k : Start) (word : Word) (views : List View) (i : ℕ) (v : View) (nam
     free_in = record { back = o.free_in.back; here = o.free_in.here };
     pools_apart = record { pools = o.pools_apart.pools; store = o.pools_apart.store };
     server = o.server;
+    none_lost = o.none_lost;
     formed = o.formed;
     begun = o.begun;
     may_begin = o.may_begin;

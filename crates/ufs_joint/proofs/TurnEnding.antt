@@ -4,7 +4,7 @@ use mathlib.Core.Option.{some}
 use native.Mathlib.Decide.{dec_le}
 use lib.ListN.{get_elem?}
 use Rattle.std.specs.FinSet as setof
-use Rattle.ufs_joint.proofs.BlockLemmas.{length-own}
+use Rattle.ufs_alike.proofs.BlockLemmas.{length-own}
 use Rattle.ufs_alike.proofs.TreeLemmas.{either_way, through, trees}
 use Rattle.ufs_bitmap.specs.Blocks.{BlockSet}
 use Rattle.ufs_files.specs.Files.{AreNumbered}
@@ -27,16 +27,20 @@ use Rattle.ufs_stored.specs.Parts.{Parts, ThePool, Unassigned}
 use Rattle.ufs_stored.specs.Sound.{IsSoundServer}
 use Rattle.ufs_stored.proofs.Whole.{tree_may}
 use Rattle.ufs_joint.specs.Cells.{FileCell, NamesCell, Start, StoreCell, View, Word, World, store_of}
-use Rattle.ufs_joint.specs.Kept.{IsDiskKept}
+use Rattle.ufs_stored.specs.Known.{IsDiskKept}
 use Rattle.ufs_joint.specs.Laws.{TurnEndKeeps}
 use Rattle.ufs_joint.specs.Picks.{HasPicked, IsAbsent, IsUnpicked, Pick, bytes_at}
 use Rattle.ufs_joint.specs.Sound.{AreChangesTold, AreJoined, ArePastExplained, IsDiskSound, IsExplainedState, IsHeld, IsKeptSince, IsSound, LeadsTo, MayHaveBegun}
 use Rattle.ufs_joint.specs.Turns.{AreFaultsTold, EndsOnDisk, IsTurnAround, MayEndTurn, Turn, ended_at, known_by, named_by, names_known_by, turn_ended, went}
 use Rattle.ufs_joint.specs.Whole.{AreFreeIn, ArePartsIn, ArePoolsApart, hand_of, HasCells, HasFileCell, HasNamesCell, IsFreeIn, KnowsCells, birth_known, birth_known_by, changes_known, file_changes_at, known_in, name_changes_at, no_blocks}
-use Rattle.ufs_joint.proofs.Blocks.{difference_in, in_difference, in_union, not_in, or_cases, or_left, or_right, put_back, union_left, union_right}
+use Rattle.ufs_joint.proofs.Blocks.{difference_in, has_or, in_difference, in_union, none_in, not_in, or_cases, or_left, or_right, put_back, union_left, union_right}
+use Rattle.ufs_joint.proofs.NoneLost.{joined, parted}
+use Rattle.ufs_joint.specs.NoneLost.{HandHas, IsHad}
 use Rattle.ufs_joint.proofs.Exchange.{kind_exchanged, names_are, nothing_counted, one_exchanged, one_single, single_of, store_is}
 use Rattle.ufs_joint.proofs.FaultsTold.{faults_told}
-use Rattle.ufs_joint.proofs.Kept.{kept_numbered, less_kept, moved_kept}
+use Rattle.ufs_joint.proofs.Kept.{kept_numbered}
+use Rattle.ufs_kept.proofs.Forgetting.{less_is_kept}
+use Rattle.ufs_kept.proofs.Pools.{pools_stay}
 use Rattle.ufs_joint.proofs.Parting.{cells_there, commits_after, file_after, file_else, file_here, names_after, other_pool, same_cells, same_file_cell, same_names_cell}
 use Rattle.ufs_joint.proofs.Picking.{FitsIn, IsPicked, picked_same, picked_tree, with_picks}
 use Rattle.ufs_joint.proofs.Takes.{fewer_changes, fewer_name_changes, length_take, take_take}
@@ -157,14 +161,14 @@ module _ (k : Start) (word : Word) (views : List View) (i : ℕ) (v : View) (t :
       knows = record {
         files = λ file c has. let is = ap (changes_known k.tree g file) (o.one_hand.files.agree i v at file c has) in omega (arith, is);
         born = λ file c has born. ap (birth_known_by k.tree g G.names.named file) (o.one_hand.files.agree i v at file c has) ∙ or_left c.born (setof.contains G.names.named file) born;
-        named = λ file c u x has also is. ap (birth_known_by k.tree g G.names.named file) (o.one_hand.files.agree i v at file c has) ∙ or_right c.born (setof.contains G.names.named file) (ap (λ (y : NamesCell). setof.contains y.named file) (names_are views i v v at G o.one_hand u x also) ∙ is);
+        named = λ file u x also is. or_right (birth_known k.tree g (G.file file)) (setof.contains G.names.named file) (ap (λ (y : NamesCell). setof.contains y.named file) (names_are views i v v at G o.one_hand u x also) ∙ is);
         names = λ u c has. let is = ap (λ (x : NamesCell). name_changes_at k.tree g x.known) (names_are views i v v at G o.one_hand u c has) in omega (arith, is);
         files_told = files_told;
         names_told = names_told;
       }
 
       lent_kept : IsDiskKept (store_of m.was) k.tree g lent (known_in k.tree g G)
-      lent_kept = moved_kept (with_free free (store_of m.was)) k.tree g parts (known_in k.tree g G) (setof.difference free old) old moves_out
+      lent_kept = pools_stay (with_free free (store_of m.was)) k.tree g parts (known_in k.tree g G) (setof.difference free old) old moves_out
           (subst (λ (s : StoreCell). IsDiskKept (with_free free (store_of s)) k.tree g parts (known_in k.tree g G)) was_there kept)
 
       pub turn_around : IsTurnAround k.geometry v m.was k.tree g lent (known_in k.tree g G)
@@ -207,34 +211,31 @@ module _ (k : Start) (word : Word) (views : List View) (i : ℕ) (v : View) (t :
       abbrev birth_then : ℕ → Bool
       birth_then file = named_by k.tree g t t.names file || (birth_known_by k.tree g G.names.named file (G.file file) || birth_known k.tree g (find eqb file t.files))
 
-      in_world : (file : ℕ) (c : FileCell) → next_world.file file ≡ Some c → (before : FileCell) × (G.file file ≡ Some before)
-      in_world file c is = ⊎_elim
-          (λ has. let x = m.files file c has in (x.0, o.one_hand.files.agree i v at file x.0 x.1))
-          (λ (x : (count eqb file v.files ≡ 0) × (count eqb file t.files ≡ 0) × (G.file file ≡ Some c)). (c, x.2))
-          (file_case file c is)
-
       was_known : (file : ℕ) → birth_known_by k.tree g G.names.named file (G.file file) ≡ true → birth_then file ≡ true
       was_known file is = or_right (named_by k.tree g t t.names file) _ (or_left (birth_known_by k.tree g G.names.named file (G.file file)) (birth_known k.tree g (find eqb file t.files)) is)
+
+      named_known : (file : ℕ) → setof.contains next_world.names.named file ≡ true → birth_then file ≡ true
+      named_known file named = ⊎_elim
+          (λ there. or_left (named_by k.tree g t t.names file) _ there)
+          (λ there. was_known file (or_right (birth_known k.tree g (G.file file)) (setof.contains G.names.named file) there))
+          (named_less t.names file named)
 
       born_less : (file : ℕ) → birth_known_by k.tree g next_world.names.named file (next_world.file file) ≡ true → birth_then file ≡ true
       born_less file = by (next_world.file file) refl
         where
           by : (c : Option FileCell) → next_world.file file ≡ c → birth_known_by k.tree g next_world.names.named file c ≡ true → birth_then file ≡ true
-          by None is born = absurd cc
+          by None is born = named_known file born
           by (Some c) is born = ⊎_elim
               (λ own. ⊎_elim
               (λ has. or_right (named_by k.tree g t t.names file) _ (or_right (birth_known_by k.tree g G.names.named file (G.file file)) (birth_known k.tree g (find eqb file t.files)) (ap (birth_known k.tree g) (has_find eqb itself alike file c t.files (single_files file) has) ∙ own)))
               (λ (x : (count eqb file v.files ≡ 0) × (count eqb file t.files ≡ 0) × (G.file file ≡ Some c)). was_known file (ap (birth_known_by k.tree g G.names.named file) x.2 ∙ or_left c.born (setof.contains G.names.named file) own))
               (file_case file c is))
-              (λ named. ⊎_elim
-              (λ there. or_left (named_by k.tree g t t.names file) _ there)
-              (λ there. let x = in_world file c is in was_known file (ap (birth_known_by k.tree g G.names.named file) x.1 ∙ or_right x.0.born (setof.contains G.names.named file) there))
-              (named_less t.names file named))
+              (λ named. named_known file named)
               (or_cases c.born (setof.contains next_world.names.named file) born)
 
       pub left_kept : IsDiskKept (with_free freed (store_of (ended_at n t))) k.tree g left (known_in k.tree g next_world)
-      left_kept = less_kept (with_free freed (store_of t.store)) k.tree g left (known_in k.tree g next_world) (known_by k.tree g t (known_in k.tree g G)) (record { names = names_less t.names; files = files_less; born = born_less })
-          (moved_kept (store_of t.store) k.tree g (m.next lent) (known_by k.tree g t (known_in k.tree g G)) no_blocks freed moves_back ends.kept)
+      left_kept = less_is_kept (with_free freed (store_of t.store)) k.tree g left (known_in k.tree g next_world) (known_by k.tree g t (known_in k.tree g G)) (record { names = names_less t.names; files = files_less; born = born_less })
+          (pools_stay (store_of t.store) k.tree g (m.next lent) (known_by k.tree g t (known_in k.tree g G)) no_blocks freed moves_back ends.kept)
 
   -- ---- the parts as they are
 
@@ -261,6 +262,17 @@ module _ (k : Start) (word : Word) (views : List View) (i : ℕ) (v : View) (t :
 
   cells0 : HasCells v lent0
   cells0 = lent_cells o.parts o.free o.parts_in.pool cells_now inside_now o.server numbered_now
+
+  none_lost_after : (b : ℕ) → HandHas k.view b → IsHad next0 freed0 b
+  none_lost_after b is =
+      joined (m.next lent0) (setof.difference o.free old) new no_blocks freed0 b (m.pool lent0 cells0) (union_right new (setof.difference o.free old) b) (union_left new (setof.difference o.free old) b)
+      (m.none_lost lent0 cells0 numbered_now b (parted o.parts o.free (setof.difference o.free old) old b no_pool split (o.none_lost b is)))
+    where
+      no_pool : setof.contains o.parts.pool b ≡ true → ⊥
+      no_pool has = none_in b (subst (λ (q : BlockSet). setof.contains q b ≡ true) o.parts_in.pool has)
+
+      split : setof.contains o.free b ≡ true → (setof.contains (setof.difference o.free old) b ≡ true) ⊎ (setof.contains old b ≡ true)
+      split free = ⊎_elim (λ x. inr x) (λ x. inl (difference_in o.free old b free x)) (has_or old b)
 
   parts_after : ArePartsIn next_world next0
   parts_after =
@@ -532,6 +544,7 @@ module _ (k : Start) (word : Word) (views : List View) (i : ℕ) (v : View) (t :
     free_in = free_after;
     pools_apart = apart_after;
     server = server_after;
+    none_lost = none_lost_after;
     formed = m.formed ∙ ap (λ (s : StoreCell). geometry_of_store (store_of s)) (sym was_there) ∙ o.formed;
     begun = begun_after;
     may_begin = may_begin_after;

@@ -12,7 +12,7 @@ use Rattle.ufs_store.specs.State.{StoreState, geometry_of_store}
 use Rattle.ufs_stored.specs.Parts.{Parts}
 use Rattle.ufs_joint.specs.Cells.{StoreCell, View, store_of, store_since}
 use Rattle.ufs_joint.specs.FileHands.{IsAsBegun, LeavesStore, WentOn}
-use Rattle.ufs_joint.specs.Kept.{Known}
+use Rattle.ufs_stored.specs.Known.{Known}
 use Rattle.ufs_joint.specs.Turns.{MayEndTurn, Turn}
 
 -- The hand has the store's cell, and neither a file nor the names.

@@ -21,7 +21,8 @@ use Rattle.ufs_stored.specs.Parts.{Parts}
 use Rattle.ufs_stored.specs.Sound.{IsSoundServer}
 use Rattle.ufs_stored.specs.Stored.{ArePartsOf}
 use Rattle.ufs_joint.specs.Cells.{FileCell, NamesCell, View}
-use Rattle.ufs_joint.specs.Kept.{IsDiskKept, Known}
+use Rattle.ufs_joint.specs.NoneLost.{IsHad}
+use Rattle.ufs_stored.specs.Known.{IsDiskKept, Known}
 use Rattle.ufs_joint.specs.Picks.{IsAbsent, bytes_at}
 use Rattle.ufs_joint.specs.Whole.{GoOnBy, HasCells, KnowsCells, pooled}
 
@@ -75,6 +76,8 @@ module _ (g : Geometry) (v : View) (f : Fresh) (l : Leaves) (n : ℕ) (next : Pa
     pub others : (c : ℕ) → c ≢ f.client → (fd : ℕ) → desc_at (tree_after start history) c fd ≡ desc_at (tree_after start longer) c fd
     pub parts : ArePartsOf (next p) (tree_after start longer)
     pub server : IsSoundServer g rest (next p)
+    -- no block is lost
+    pub none_lost : (block : ℕ) → IsHad p rest block → IsHad (next p) rest block
     -- a block that isn't in memory then wasn't before, and stays as it was
     pub away : (file place : ℕ) (c : FileCell) → Has (file, c) l.files → IsAbsent c place
         → ((was : FileCell) × Has (file, was) v.files × IsAbsent was place) × (bytes_at (tree_after start longer) file place ≡ bytes_at (tree_after start history) file place)
@@ -91,13 +94,10 @@ module _ (g : Geometry) (v : View) (f : Fresh) (l : Leaves) (n : ℕ) (next : Pa
     pub names : (u : Unit {0}) (c : NamesCell) → Has (u, c) l.names → (c.changed ≡ suc n) ⊎ (Has (u, c) v.names × (name_changes start longer ≡ name_changes start history))
     pub no_names : l.names ≡ [] → name_changes start longer ≡ name_changes start history
 
--- Of a new file nothing is known. The names make it, and no commit has it.
-pub record IsUnknown (v : View) (file : ℕ) (c : FileCell) : Type 0 where
+-- Of a new file nothing is known.
+pub record IsUnknown (c : FileCell) : Type 0 where
   pub known : c.known ≡ 0
   pub born : c.born ≡ false
-  pub names : NamesCell
-  pub has_names : Has (tt, names) v.names
-  pub unnamed : set.contains names.named file ≡ false
 
 -- What is asked of a draw by its own hand.
 pub record MayDraw (g : Geometry) (visible : Bool) (v : View) (f : Fresh) (l : Leaves) (n : ℕ) : Type 0 where
@@ -122,7 +122,7 @@ pub record MayDraw (g : Geometry) (visible : Bool) (v : View) (f : Fresh) (l : L
   pub pools_apart : (m k : ℕ) (one other : BlockSet) (block : ℕ) → Has (m, one) l.pools → Has (k, other) l.pools → set.contains one block ≡ true → set.contains other block ≡ true → m ≡ k
   pub fewer : (block : ℕ) → set.contains (pooled l.pools) block ≡ true → set.contains (pooled v.pools) block ≡ true
   -- no more is known as committed
-  pub known : (file : ℕ) (c : FileCell) → Has (file, c) l.files → IsUnknown v file c ⊎ ((was : FileCell) × Has (file, was) v.files × (c.known ≡ was.known) × (c.born ≡ was.born))
+  pub known : (file : ℕ) (c : FileCell) → Has (file, c) l.files → IsUnknown c ⊎ ((was : FileCell) × Has (file, was) v.files × (c.known ≡ was.known) × (c.born ≡ was.born))
   pub names_known : (u : Unit {0}) (c : NamesCell) → Has (u, c) l.names → (was : NamesCell) × Has (u, was) v.names × (c.known ≡ was.known) × (c.named ≡ was.named)
   -- from each tree and history, with whichever others
   pub to : (start : PosixTree) (history : List Entry) (p : Parts) (rest : BlockSet) → IsAround g v n start history p rest → DrawsTo g v f l n next start history p rest

@@ -21,7 +21,8 @@ use Rattle.ufs_stored.specs.Sound.{IsSoundServer}
 use Rattle.ufs_stored.specs.Stored.{ArePartsOf}
 use Rattle.ufs_joint.specs.Cells.{FileCell, NamesCell, Start, StoreCell, View, Word, store_of}
 use Rattle.ufs_joint.specs.Faults.{IsOfSession}
-use Rattle.ufs_joint.specs.Kept.{IsDiskKept, Known}
+use Rattle.ufs_joint.specs.NoneLost.{HandHas}
+use Rattle.ufs_stored.specs.Known.{IsDiskKept, Known}
 use Rattle.ufs_joint.specs.Picks.{Pick}
 use Rattle.ufs_joint.specs.Sound.{AreJoined, IsExplainedState, MayHaveBegun}
 use Rattle.ufs_joint.specs.Whole.{HasCells, HasNamesCell, birth_known_by, commits_of, hand_of, no_blocks, pooled}
@@ -115,5 +116,7 @@ pub record IsWhole (k : Start) (word : Word) (v : View) (store : StoreCell) : Ty
   pub free : BlockSet
   pub freed : (block : ℕ) → set.contains free block ≡ true → (set.contains store.unassigned.free block ≡ true) ⊎ (set.contains (pooled v.pools) block ≡ true)
   pub server : IsSoundServer k.geometry free parts
+  -- no block is lost: each that the first hand had this one has
+  pub none_lost : (block : ℕ) → HandHas k.view block → HandHas v block
   pub on_disk : k.is_visible ≡ true → IsOnDisk (with_free free (store_of store)) start history parts
   pub explained : k.is_visible ≡ true → IsAlwaysExplained start word history store

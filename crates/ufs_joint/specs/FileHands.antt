@@ -36,7 +36,7 @@ use Rattle.ufs_sound.specs.declared.fresh.Fresh.{Fresh}
 use Rattle.ufs_model.specs.declared.data.Entry.{Entry}
 use Rattle.ufs_store.specs.State.{StoreState, geometry_of_store}
 use Rattle.ufs_stored.specs.Parts.{Parts}
-use Rattle.ufs_joint.specs.Kept.{IsDiskKept, Known}
+use Rattle.ufs_stored.specs.Known.{IsDiskKept, Known}
 use Rattle.ufs_joint.specs.Whole.{HasCells, KnowsCells}
 use Rattle.ufs_joint.specs.Cells.{FileCell, StoreCell, View, store_of, store_since}
 use Rattle.ufs_joint.specs.Disks.{states_behind}

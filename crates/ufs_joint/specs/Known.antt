@@ -1,5 +1,5 @@
 -- What a hand knows of all else by its own cells.
-use Rattle.std.specs.Prelude.{ℕ, ◌≡◌, ◌≤◌, ◌⊎◌, true, List}
+use Rattle.std.specs.Prelude.{ℕ, ◌≡◌, ◌+◌, ◌*◌, ◌≤◌, ◌⊎◌, true, List}
 use Rattle.std.specs.FinSet as set
 use Rattle.ufs_bitmap.specs.Blocks.{BlockSet}
 use Rattle.ufs_model.specs.PosixTree.{PosixTree}
@@ -10,7 +10,7 @@ use Rattle.ufs_sound.specs.Parts.{AskedPart, ClientPart}
 use Rattle.ufs_stored.specs.Parts.{Parts}
 use Rattle.ufs_joint.specs.Cells.{FileCell, NamesCell, Start, StoreCell, View, store_of}
 use Rattle.ufs_joint.specs.Draws.{IsAround}
-use Rattle.ufs_joint.specs.Kept.{IsDiskKept, Known}
+use Rattle.ufs_stored.specs.Known.{IsDiskKept, Known}
 use Rattle.ufs_joint.specs.Picks.{Pick}
 use Rattle.ufs_joint.specs.Sound.{MayHaveBegun}
 use Rattle.ufs_joint.specs.Whole.{HasCells, KnowsCells}
@@ -36,9 +36,13 @@ pub record Knows (k : Start) (tickets : ℕ) (v : View) : Type 0 where
   pub around : IsAround k.geometry v tickets start history parts rest
   -- what is unassigned is of the rest
   pub unassigned : (u : Unit {0}) (s : StoreCell) → Has (u, s) v.store → (block : ℕ) → set.contains s.unassigned.free block ≡ true → set.contains rest block ≡ true
+  -- the tickets are few, and no more files were made: so the next one's number is low
+  pub few : tickets ≤ 16 * 65536
+  pub next : (u : Unit {0}) (c : NamesCell) → Has (u, c) v.names → c.value.next ≤ k.tree.next + tickets
   -- a client that comes back has what it had, or has its answer
   pub asked : (c : ℕ) (a : AskedPart) (p : ClientPart) → Has (c, a) v.asked → Has (c, p) v.clients → IsStill a p ⊎ IsAnswered a p
   pub disk : k.is_visible ≡ true → (u : Unit {0}) (s : StoreCell) → Has (u, s) v.store → KnowsDisk k v history s
   -- no cell tells a later ticket: so it didn't change since a turn that begins now, and what is known was so
   pub changed : k.is_visible ≡ true → (file : ℕ) (c : FileCell) → Has (file, c) v.files → (c.changed ≤ tickets) × (c.known ≤ tickets)
   pub names_changed : k.is_visible ≡ true → (u : Unit {0}) (c : NamesCell) → Has (u, c) v.names → c.changed ≤ tickets
+  pub names_known : k.is_visible ≡ true → (u : Unit {0}) (c : NamesCell) → Has (u, c) v.names → c.known ≤ tickets

@@ -1,10 +1,10 @@
 pub mod Cells
 pub mod Codes
 pub mod Disks
-pub mod Kept
 pub mod Picks
 pub mod Faults
 pub mod Whole
+pub mod NoneLost
 pub mod Sound
 pub mod Draws
 pub mod Turns
@@ -13,6 +13,9 @@ pub mod Ends
 pub mod Laws
 pub mod FileHands
 pub mod Checkpoints
+pub mod NamesHands
+pub mod NamesTurns
+pub mod Moves
+pub mod Reclaims
 pub mod Rule
 pub mod Known
-pub mod Moves

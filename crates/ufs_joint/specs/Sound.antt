@@ -27,7 +27,8 @@ use Rattle.ufs_stored.specs.Sound.{IsSoundServer}
 use Rattle.ufs_stored.specs.Stored.{ArePartsOf}
 use Rattle.ufs_joint.specs.Cells.{FileCell, Start, StoreCell, View, Word, World, store_of}
 use Rattle.ufs_joint.specs.Faults.{AreFaultsOnce}
-use Rattle.ufs_joint.specs.Kept.{IsDiskKept}
+use Rattle.ufs_joint.specs.NoneLost.{HandHas, IsHad}
+use Rattle.ufs_stored.specs.Known.{IsDiskKept}
 use Rattle.ufs_joint.specs.Picks.{HasPicked, IsAbsent, IsUnpicked, Pick, bytes_at}
 use Rattle.ufs_joint.specs.Whole.{AreFreeIn, ArePartsIn, ArePoolsApart, HasFileCell, HasNamesCell, known_in, no_blocks}
 
@@ -148,6 +149,8 @@ pub record IsSound (k : Start) (word : Word) (views : List View) : Type 0 where
   pub free_in : AreFreeIn world free
   pub pools_apart : ArePoolsApart world
   pub server : IsSoundServer k.geometry free parts
+  -- no block is lost: what the first hand has somebody has
+  pub none_lost : (block : ℕ) → HandHas k.view block → IsHad parts free block
   pub formed : geometry_of_store (store_of world.store) ≡ k.geometry
   -- from each tree with which the session may have begun, of which there is one, the history leads to them
   pub begun : PosixTree

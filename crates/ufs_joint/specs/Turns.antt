@@ -14,7 +14,8 @@ use Rattle.ufs_stored.specs.Parts.{Parts}
 use Rattle.ufs_stored.specs.Sound.{IsSoundServer}
 use Rattle.ufs_stored.specs.Stored.{ArePartsOf}
 use Rattle.ufs_joint.specs.Cells.{FileCell, NamesCell, StoreCell, View, store_of}
-use Rattle.ufs_joint.specs.Kept.{IsDiskKept, Known}
+use Rattle.ufs_joint.specs.NoneLost.{IsHad}
+use Rattle.ufs_stored.specs.Known.{IsDiskKept, Known}
 use Rattle.ufs_joint.specs.Picks.{ArePicksOnce, HasPicked, IsAbsent, IsUnpicked, Pick}
 use Rattle.ufs_joint.specs.Sound.{IsExplainedState}
 use Rattle.ufs_joint.specs.Whole.{GoOnBy, HasCells, KnowsCells, birth_known, changes_known, name_changes_at}
@@ -135,5 +136,7 @@ pub record MayEndTurn (g : Geometry) (visible : Bool) (v : View) (t : Turn) : Ty
   -- and the parts are those of each tree that has it
   pub parts : (tree : PosixTree) (p : Parts) → HasCells v p → HasPicked t.picks tree → ArePartsOf p tree → ArePartsOf (next p) tree
   pub server : (p : Parts) → HasCells v p → AreNumbered p.files → IsSoundServer g was.unassigned.free p → IsSoundServer g t.store.unassigned.free (next p)
+  -- no block is lost
+  pub none_lost : (p : Parts) → HasCells v p → AreNumbered p.files → (block : ℕ) → IsHad p was.unassigned.free block → IsHad (next p) t.store.unassigned.free block
   -- from each tree and history, with whichever others
   pub disk : visible ≡ true → (start : PosixTree) (history : List Entry) (p : Parts) (known : Known) → IsTurnAround g v was start history p known → EndsOnDisk was t next start history p known

@@ -1,2 +1,3 @@
 pub mod Small
 mod RowSteps
+mod NamesRowSteps

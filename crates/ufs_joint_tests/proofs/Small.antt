@@ -216,6 +216,7 @@ module _ (n : NamesPart) (s : StoreState) (tickets : ℕ) where
       others = λ c not x. ap (λ (u : PosixTree). desc_at u c x) (sym same_tree);
       parts = subst (ArePartsOf p) (sym same_tree) a.parts;
       server = a.server;
+      none_lost = λ b is. is;
       away = λ file place c has. absurd has;
       elsewhere = λ file _ _. ap (λ (u : PosixTree). fin.get u.bytes file) same_tree;
       new = λ file none some. absurd (omega (arith, some));
