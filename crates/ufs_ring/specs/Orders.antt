@@ -1,5 +1,5 @@
 -- What the rule of a shared ring says.
-use Rattle.std.specs.Prelude.{◌≡◌, ◌≤◌, ◌==◌, ℕ, List, [], ◌∷◌, ◌++◌, length, if◌then◌else◌}
+use Rattle.std.specs.Prelude.{◌≡◌, ◌≤◌, ◌==◌, ℕ, Bool, true, List, [], ◌∷◌, ◌++◌, length, if◌then◌else◌}
 use mathlib.Core.Option.{some}
 use lib.ListN.{get_elem?}
 use Rattle.ufs_ring.specs.declared.ruled.Trail.{Trail}
@@ -37,3 +37,16 @@ module _ {T : Type 0} where
     pub taken : List (ℕ × T)
     pub order : items_of put ≡ items_of taken ++ items
     pub mine : Fits put taken p v
+
+  -- ---- what all ends have put and taken
+
+  -- each item passes the test
+  abbrev pub AllPass : (T → Bool) → List T → Type 0
+  AllPass test [] = Unit {0}
+  AllPass test (x ∷ xs) = (test x ≡ true) × AllPass test xs
+
+  abbrev pub HavePut : (T → Bool) → List (Trail T) → Type 0
+  HavePut test ends = (p : ℕ) (v : Trail T) → get_elem? ends p ≡ some v → AllPass test v.put
+
+  abbrev pub HaveTaken : (T → Bool) → List (Trail T) → Type 0
+  HaveTaken test ends = (p : ℕ) (v : Trail T) → get_elem? ends p ≡ some v → AllPass test v.taken

@@ -7,7 +7,10 @@ mod ruled;
 ghost use Rattle.std.specs.Prelude.{◌≡◌, MatchResult, MatchOption};
 
 pub use plain::{PlainRing, taken_is_a_front_of_put};
-pub use ruled::{InOrder, RuledRing, SharedRing, Trail, every_order_is_a_front, shared_ring};
+pub use ruled::{
+    InOrder, RuledRing, SharedRing, Trail, every_order_is_a_front, shared_ring,
+    what_is_taken_was_put,
+};
 
 /// A bounded ring, as one actor has it. No call takes memory.
 pub trait Ring<T> {

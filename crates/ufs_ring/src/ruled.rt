@@ -1,8 +1,7 @@
 //! The ring that threads share: an end of it for each actor.
-ghost use Rattle.std.specs.Prelude.{◌≡◌, ◌<◌, List, [], IfOk};
-ghost use Rattle.crossbeam_queue.specs.Passes.{ruled_capacity};
-ghost use Rattle.ufs_ring.specs.Orders.{Keeps, items_of};
-ghost use Rattle.ufs_ring.specs.Ends.{end};
+ghost use Rattle.std.specs.Prelude.{◌≡◌, ◌<◌, Bool, List, IfOk};
+ghost use Rattle.ufs_ring.specs.Orders.{HavePut, HaveTaken, Keeps, items_of};
+ghost use Rattle.ufs_ring.specs.Ends.{new_end, room_of};
 ghost use Rattle.ufs_ring.specs.Runs.{IsFrontOf};
 
 use crate::Ring;
@@ -69,14 +68,14 @@ pub type SharedRing<T> = RuledArrayQueue<T, Trail<T>, InOrder>;
 #[tactic(auto, using(crate::proofs::RuleLemmas::begins))]
 pub fn shared_ring<T>(alloc: Global, capacity: usize) -> Result<SharedRing<T>, Memory>
     requires { 0 < capacity }
-    ensures { IfOk result (λ r. ruled_capacity r ≡ capacity) }
+    ensures { IfOk result (λ r. room_of r ≡ capacity) }
 {
     let (queue, _) = SharedRing::ruled(alloc, capacity)?;
     Ok(queue)
 }
 
-/// One end of a shared ring, seen as what it has put and taken. What was taken by all ends is a front of what was put
-/// by all of them; a refusal tells that the ring was full, or empty, at a moment of the call.
+/// One end of a shared ring, seen as which ring it is of, and what it has put and taken. What was taken by all ends is a front of
+/// what was put by all of them; a refusal tells that the ring was full, or empty, at a moment of the call.
 #[derive(Drop)]
 pub struct RuledRing<'a, T, R: Wait> {
     rt: &'a R,
@@ -98,10 +97,10 @@ impl<'a, T, R: Wait> Model for RuledRing<'a, T, R> {
 }
 
 impl<'a, T, R: Wait> RuledRing<'a, T, R> {
-    /// An end that has put and taken nothing.
+    /// An end of this ring that has put and taken nothing.
     #[tactic(auto, using(crate::proofs::RuleLemmas::admits))]
     pub fn new(rt: &'a R, queue: &'a SharedRing<T>) -> RuledRing<'a, T, R>
-        ensures { result ≡ end [] [] (ruled_capacity queue.now) }
+        ensures { result ≡ new_end queue.now }
     {
         let pass = queue.pass();
         RuledRing { rt, queue, pass }
@@ -133,4 +132,9 @@ impl<'a, T, R: Wait> Ring<T> for RuledRing<'a, T, R> {
 #[tactic(auto, using(crate::proofs::RuleLemmas::order_is_front))]
 pub fn every_order_is_a_front<T>()
     ensures { (items : List T) (ends : List (Trail T)) (k : Keeps items ends) → IsFrontOf (items_of k.taken) (items_of k.put) }
+{}
+
+/// Nor does an end take what no end put: where each item that some end has put passes a test, so does each that some end has taken.
+pub fn what_is_taken_was_put<T>()
+    ensures { (test : T → Bool) (items : List T) (ends : List (Trail T)) → Keeps items ends → HavePut test ends → HaveTaken test ends }
 {}
