@@ -1,16 +1,24 @@
--- The unassigned blocks that contracts see of a store before a turn and behind it are those of its cell.
-use Rattle.std.proofs.Common.{◌≡◌, ℕ, Bool, Result, Ok, Err, sym, ap, ◌∙◌, subst}
+-- What contracts see of a store before a turn and behind it is that of its cell.
+use Rattle.std.proofs.Common.{◌≡◌, ℕ, Bool, Option, Result, Ok, Err, sym, ap, ◌∙◌, subst}
 use Rattle.std.specs.Prelude.{OnOk}
 use Rattle.ufs_bitmap.specs.Blocks.{BlockSet}
 use Rattle.ufs_joint.specs.Cells.{Start, StoreCell, View}
+use Rattle.ufs_store.specs.Refusals.{stop_after}
 use Rattle.ufs_store.specs.State.{StoreState}
 use Rattle.ufs_store.specs.declared.fault.StoreFault.{StoreFault}
 use Rattle.ufs_turns.specs.HeldStore.{HasStoreAlone, IsHeldStore}
-use Rattle.ufs_turns.specs.Lent.{GainsBlocks, free_in}
+use Rattle.ufs_turns.specs.Lent.{GainsBlocks, free_in, stop_in}
 
 module _ (k : Start) (visible keeps : Bool) (v w u : View) (s : StoreState) (home : IsHeldStore k visible keeps v s) (seen : v ≡ u) (cell : StoreCell) (back : HasStoreAlone cell w) (so : BlockSet → BlockSet → Type 0) where
   pub in_cells : so s.unassigned.free cell.unassigned.free → so (free_in u.store) (free_in w.store)
   in_cells is = subst (λ (x : BlockSet × BlockSet). so x.0 x.1) (λ i. (sym (ap (λ (q : View). free_in q.store) (sym seen) ∙ ap free_in home.store.has) i, sym (ap free_in back.store) i)) is
+
+module _ (k : Start) (visible keeps : Bool) (v w u : View) (s : StoreState) (home : IsHeldStore k visible keeps v s) (seen : v ≡ u) where
+  pub stop_before : stop_in u.store ≡ s.stop
+  stop_before = ap (λ (q : View). stop_in q.store) (sym seen) ∙ ap stop_in home.store.has
+
+  pub stop_behind : (cell : StoreCell) (told : Option ℕ) → HasStoreAlone cell w → cell.stop ≡ stop_after s.stop told → stop_in w.store ≡ stop_after (stop_in u.store) told
+  stop_behind cell told back is = ap stop_in back.store ∙ is ∙ ap (λ (q : Option ℕ). stop_after q told) (sym stop_before)
 
 -- a way that doesn't tell which blocks these were
 pub some_gained : (r : Result (Unit {0}) StoreFault) (missing : ℕ) (had left old new : BlockSet) → OnOk r (GainsBlocks missing had left old new) → OnOk r ((h : BlockSet) × (l : BlockSet) × GainsBlocks missing h l old new)

@@ -3,4 +3,5 @@ pub mod Turning
 pub mod Syncing
 pub mod Emptying
 pub mod Pools
+pub mod Committing
 mod FreeBlocks

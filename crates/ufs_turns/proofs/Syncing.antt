@@ -28,7 +28,7 @@ use Rattle.ufs_on_disk.specs.Syncs.{HasFailed, HasSynced, HasWritten, LeavesStag
 use Rattle.ufs_sound.specs.Owned.{each}
 use Rattle.ufs_sound.proofs.Owning.{has_append}
 use Rattle.ufs_store_steps.specs.Cells.{cells_of}
-use Rattle.ufs_joint.specs.Kept.{Known}
+use Rattle.ufs_stored.specs.Known.{Known}
 use Rattle.ufs_model.specs.declared.data.Entry.{Entry}
 use Rattle.std.proofs.lemmas.List.{length-append, map-append}
 use Rattle.ufs_sound.specs.Parts.{Cells, Stretch}

@@ -16,7 +16,7 @@ use Rattle.ufs_stored.specs.Parts.{Parts}
 use Rattle.ufs_joint.specs.Cells.{Start, StoreCell, View, store_since}
 use Rattle.ufs_joint.specs.Disks.{cell_of, states_behind}
 use Rattle.ufs_joint.specs.FileHands.{IsAsBegun, LeavesStore, WentOn}
-use Rattle.ufs_joint.specs.Kept.{Known}
+use Rattle.ufs_stored.specs.Known.{Known}
 use Rattle.ufs_joint.specs.Known.{Knows}
 use Rattle.ufs_joint.specs.Turns.{AreFaultsTold, begun_at, rested, turn_begun}
 use Rattle.ufs_joint.proofs.Disks.{drop_behind, store_as_cell}

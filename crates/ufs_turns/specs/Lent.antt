@@ -1,10 +1,11 @@
 -- What a turn of the store says of the hand that is lent to it.
-use Rattle.std.specs.Prelude.{ℕ, ◌≡◌, ◌+◌, ◌≤◌, ◌<◌, Bool, true, List, [], ◌∷◌, Option, Some}
+use Rattle.std.specs.Prelude.{ℕ, ◌≡◌, ◌+◌, ◌≤◌, ◌<◌, Bool, true, List, [], ◌∷◌, Option, None, Some, Result, Err}
 use Rattle.std.specs.FinSet as set
 use Rattle.ufs_bitmap.specs.Blocks.{BlockSet}
 use Rattle.ufs_durable.specs.State.{DurableState}
 use Rattle.ufs_joint.specs.Cells.{FileCell, StoreCell, View}
 use Rattle.ufs_store.specs.Blocks.{AreApart, MovesLowest}
+use Rattle.ufs_store.specs.Refusals.{stop_after}
 use Rattle.ufs_store.specs.declared.fault.StoreFault.{StoreFault}
 use Rattle.ufs_store.specs.declared.fault.StoreFault.TheVariants as refusal
 
@@ -77,6 +78,21 @@ free_in (c ∷ cs) = c.1.unassigned.free
 abbrev pub used_in : List (Unit {0} × StoreCell) → ℕ
 used_in [] = 0
 used_in (c ∷ cs) = c.1.journal.used
+
+-- the fault at which the store stopped
+abbrev pub stop_in : List (Unit {0} × StoreCell) → Option ℕ
+stop_in [] = None
+stop_in (c ∷ cs) = c.1.stop
+
+-- Behind a turn the store has stopped where it had before, or at the fault that the turn told, where its cell is told.
+abbrev pub StopsByFault : Option View → Option View → Option ℕ → Type 0
+StopsByFault (Some v) (Some w) told = stop_in w.store ≡ stop_after (stop_in v.store) told
+StopsByFault _ _ told = Unit {0}
+
+-- A turn of a store that had stopped says so, where its cell is told.
+abbrev pub TellsStop : {A : Type 0} → Option View → Result A StoreFault → Type 0
+TellsStop (Some v) result = (fault : ℕ) → stop_in v.store ≡ Some fault → result ≡ Err (refusal.Stopped fault)
+TellsStop None result = Unit {0}
 
 -- So it is with the unassigned blocks before a turn and behind it, where they are told.
 abbrev pub AreTold : Option View → Option View → (BlockSet → BlockSet → Type 0) → Type 0

@@ -6,15 +6,18 @@ ghost use Rattle.ufs_layout.specs.Areas.{IsGeometry};
 ghost use Rattle.ufs_file.specs.Hand.{HasNeeded};
 ghost use Rattle.ufs_durable.specs.Fetching.{IsReadOn};
 ghost use Rattle.ufs_durable.specs.State.{file_committed, state_of};
-ghost use Rattle.ufs_joint.specs.Cells.{FileCell, StoreCell};
+ghost use Rattle.ufs_joint.specs.Cells.{FileCell, NamesCell, StoreCell};
 ghost use Rattle.ufs_joint.specs.Known.{Knows};
 ghost use Rattle.ufs_joint.specs.Turns.{MayEndTurn};
-ghost use Rattle.ufs_store.specs.Refusals.{fault_in, is_no_space, is_own};
+ghost use Rattle.ufs_names.specs.Notes.{with_notes};
+ghost use Rattle.ufs_store.specs.Refusals.{fault_in, is_no_space, is_own, stop_after};
 ghost use Rattle.ufs_store.specs.declared.fault.StoreFault.TheVariants as refusal;
 ghost use Rattle.ufs_turns.specs.HeldStore.{HasNothing, HasStoreAlone, IsHeldStore, IsStoreIn, begun_view, ended_view, sync_turn};
-ghost use Rattle.ufs_turns.specs.Lent.{GainsBlocks, HasCommitted, IsBare, IsBeside, IsBesidePools, IsFileIn, LacksBlocks, LendsFile, LendsPool, free_in, used_in};
+ghost use Rattle.ufs_turns.specs.Lent.{GainsBlocks, HasCommitted, IsBare, IsBeside, IsBesidePools, IsFileIn, LacksBlocks, LendsFile, LendsPool, free_in, stop_in, used_in};
+ghost use Rattle.ufs_turns.specs.NamesLent.{HaveCommitted, LendsNames};
 ghost use Rattle.ufs_turns.specs.Told.{fault_told, told_list};
 
+use crate::commits::commit_lent;
 use crate::space::{checkpoint_lent, give_lent, take_lent};
 use crate::syncs::{sync_store, told_by, told_of};
 use std::marker::{Brand, Model};
@@ -26,6 +29,7 @@ use ufs_joint::{
 };
 use ufs_layout::Geometry;
 use ufs_model::{Desc, Op, PartName};
+use ufs_names::Names;
 use ufs_on_disk::file_sync_law;
 use ufs_store::{Door, StoreFault};
 
@@ -87,6 +91,8 @@ impl<N: Naming, D: Door> HeldStore<N, D> {
         ensures unfreed { OnErr result (free_in self.new.store ≡ free_in self.old.store) }
         ensures faults { hand.new.faults ≡ told_list (fault_told (fault_in result)) ++ hand.old.faults }
         ensures stop { (fault : ℕ) → result ≡ Err (refusal.Stopped fault) → hand.new.stop ≡ Some fault }
+        ensures halts { stop_in self.new.store ≡ stop_after (stop_in self.old.store) (fault_in result) }
+        ensures halted { (fault : ℕ) → stop_in self.old.store ≡ Some fault → result ≡ Err (refusal.Stopped fault) }
         ensures refused { IfErr result (λ fault. is_no_space fault ≡ false) }
     {
         let HeldStore { hand: own, store } = self;
@@ -122,6 +128,37 @@ impl<N: Naming, D: Door> HeldStore<N, D> {
         let read = fetch_lent(table, hand, store, file, commits, op, desc);
         give_back(table, own, hand);
         read
+    }
+
+    /// Commits the names, as `Turns` says.
+    pub fn commit_names(
+        &mut self,
+        table: &HandTable<N>,
+        hand: &mut Hand<N>,
+        names: &mut Names,
+        fresh: &mut Vec<u32>,
+    ) -> Result<(), StoreFault>
+        requires lent { (cell : NamesCell) × LendsNames cell hand.old × (cell.value ≡ names.old) × (cell.fresh ≡ fresh.old.items) }
+        ensures ok { OnOk result ((cell : NamesCell) → LendsNames cell hand.old → HaveCommitted N.start.is_visible cell hand.new) }
+        ensures err { OnErr result ((cell : NamesCell) → LendsNames cell hand.old → LendsNames cell hand.new) }
+        ensures away { hand.new.store ≡ [] }
+        ensures beside { IsBeside hand.old hand.new }
+        ensures committed { OnOk result (names.new ≡ with_notes (Some []) names.old) }
+        ensures spent { OnOk result (fresh.new.items ≡ []) }
+        ensures kept { OnErr result (names.new ≡ names.old) }
+        ensures unspent { OnErr result (fresh.new.items ≡ fresh.old.items) }
+        ensures free { free_in self.new.store ≡ free_in self.old.store }
+        ensures faults { hand.new.faults ≡ told_list (fault_told (fault_in result)) ++ hand.old.faults }
+        ensures stop { (fault : ℕ) → result ≡ Err (refusal.Stopped fault) → hand.new.stop ≡ Some fault }
+        ensures halts { stop_in self.new.store ≡ stop_after (stop_in self.old.store) (fault_in result) }
+        ensures halted { (fault : ℕ) → stop_in self.old.store ≡ Some fault → result ≡ Err (refusal.Stopped fault) }
+        ensures refused { IfErr result (λ fault. is_no_space fault ≡ false) }
+    {
+        let HeldStore { hand: own, store } = self;
+        lend(table, own, hand);
+        let committed = commit_lent(table, hand, store, names, fresh);
+        give_back(table, own, hand);
+        committed
     }
 
     /// Gives a pool blocks, as `Turns` says.
@@ -170,6 +207,8 @@ impl<N: Naming, D: Door> HeldStore<N, D> {
         ensures beside { IsBeside hand.old hand.new }
         ensures faults { hand.new.faults ≡ told_list (fault_told (fault_in result)) ++ hand.old.faults }
         ensures stop { (fault : ℕ) → result ≡ Err (refusal.Stopped fault) → hand.new.stop ≡ Some fault }
+        ensures halts { stop_in self.new.store ≡ stop_after (stop_in self.old.store) (fault_in result) }
+        ensures halted { (fault : ℕ) → stop_in self.old.store ≡ Some fault → result ≡ Err (refusal.Stopped fault) }
         ensures refused { IfErr result (λ fault. is_no_space fault ≡ false) }
     {
         let HeldStore { hand: own, store } = self;
@@ -236,6 +275,8 @@ fn sync_lent<N: Naming, D: Door>(
     ensures unfreed { OnErr result ((D.store store.new).unassigned.free ≡ (D.store store.old).unassigned.free) }
     ensures faults { hand.new.faults ≡ told_list (fault_told (fault_in result)) ++ hand.old.faults }
     ensures stop { (fault : ℕ) → result ≡ Err (refusal.Stopped fault) → hand.new.stop ≡ Some fault }
+    ensures halts { (D.store store.new).stop ≡ stop_after (D.store store.old).stop (fault_in result) }
+    ensures halted { (fault : ℕ) → (D.store store.old).stop ≡ Some fault → result ≡ Err (refusal.Stopped fault) }
     ensures refused { IfErr result (λ fault. is_no_space fault ≡ false) }
 {
     // For the prover alone.

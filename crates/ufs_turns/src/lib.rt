@@ -1,6 +1,7 @@
 //! Turns of the store: each call is one hold of the store, by a server that lends the hand of what it is about.
 #![tactic(auto)]
 
+mod commits;
 mod held_store;
 mod space;
 mod syncs;

@@ -6,7 +6,7 @@ ghost use Rattle.ufs_layout.specs.Areas.{IsGeometry};
 ghost use Rattle.ufs_joint.specs.Cells.{StoreCell};
 ghost use Rattle.ufs_joint.specs.Moves.{MayMoveBlocks};
 ghost use Rattle.ufs_joint.specs.Turns.{MayEndTurn};
-ghost use Rattle.ufs_store.specs.Refusals.{fault_in, is_no_space};
+ghost use Rattle.ufs_store.specs.Refusals.{fault_in, is_no_space, stop_after};
 ghost use Rattle.ufs_store.specs.declared.fault.StoreFault.TheVariants as refusal;
 ghost use Rattle.ufs_turns.specs.HeldStore.{IsStoreIn, bare_turn, ended_view, moved_view};
 ghost use Rattle.ufs_turns.specs.Lent.{GainsBlocks, IsBeside, IsBesidePools, LacksBlocks};
@@ -38,6 +38,8 @@ pub(crate) fn checkpoint_lent<N: Naming, D: Door>(
     ensures beside { IsBeside hand.old hand.new }
     ensures faults { hand.new.faults ≡ told_list (fault_told (fault_in result)) ++ hand.old.faults }
     ensures stop { (fault : ℕ) → result ≡ Err (refusal.Stopped fault) → hand.new.stop ≡ Some fault }
+    ensures halts { (D.store store.new).stop ≡ stop_after (D.store store.old).stop (fault_in result) }
+    ensures halted { (fault : ℕ) → (D.store store.old).stop ≡ Some fault → result ≡ Err (refusal.Stopped fault) }
     ensures refused { IfErr result (λ fault. is_no_space fault ≡ false) }
 {
     let geometry = store.geometry();

@@ -6,7 +6,7 @@ ghost use Rattle.ufs_layout.specs.Areas.{is_inode_number};
 ghost use Rattle.ufs_durable.specs.State.{IsNoted, state_of};
 ghost use Rattle.ufs_durable.specs.Writes.{AreDataBlocks};
 ghost use Rattle.ufs_store.specs.Blocks.{MayReturn};
-ghost use Rattle.ufs_store.specs.Refusals.{fault_in, fault_of, is_no_space};
+ghost use Rattle.ufs_store.specs.Refusals.{fault_in, fault_of, is_no_space, stop_after};
 ghost use Rattle.ufs_store.specs.State.{geometry_of_store};
 ghost use Rattle.ufs_store.specs.declared.fault.StoreFault.{StoreFault};
 ghost use Rattle.ufs_store.specs.declared.fault.StoreFault.TheVariants as refusal;
@@ -30,6 +30,8 @@ pub(crate) fn sync_store<D: Door>(
     ensures ok { OnOk result (HasPassed D.visible D.keeps (D.store store.old) (D.store store.new) (state_of file.old commits.old) (state_of file.new commits.new)) }
     ensures err { (fault : StoreFault) → result ≡ Err fault → HasNotPassed D.visible D.keeps (D.store store.old) (D.store store.new) (state_of file.old commits.old) (state_of file.new commits.new) (fault_of fault) }
     ensures stopped { (fault : ℕ) → result ≡ Err (refusal.Stopped fault) → (D.store store.new).stop ≡ Some fault }
+    ensures halts { (D.store store.new).stop ≡ stop_after (D.store store.old).stop (fault_in result) }
+    ensures halted { (fault : ℕ) → (D.store store.old).stop ≡ Some fault → result ≡ Err (refusal.Stopped fault) }
     ensures refused { IfErr result (λ fault. is_no_space fault ≡ false) }
 {
     fitting_law(file);
@@ -45,6 +47,8 @@ pub(crate) fn checkpoint_store<D: Door>(store: &mut D) -> Result<(), StoreFault>
     ensures made { HasMade D.visible D.keeps (D.store store.old) (D.store store.new) (fault_in result) }
     ensures room { OnOk result ((D.store store.new).journal.used ≡ 0) }
     ensures stopped { (fault : ℕ) → result ≡ Err (refusal.Stopped fault) → (D.store store.new).stop ≡ Some fault }
+    ensures halts { (D.store store.new).stop ≡ stop_after (D.store store.old).stop (fault_in result) }
+    ensures halted { (fault : ℕ) → (D.store store.old).stop ≡ Some fault → result ≡ Err (refusal.Stopped fault) }
     ensures refused { IfErr result (λ fault. is_no_space fault ≡ false) }
 {
     store.checkpoint()

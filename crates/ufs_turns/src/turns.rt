@@ -5,10 +5,12 @@ ghost use Rattle.ufs_bitmap.specs.Taking.{set_of};
 ghost use Rattle.ufs_file.specs.Hand.{HasNeeded};
 ghost use Rattle.ufs_durable.specs.Fetching.{IsReadOn};
 ghost use Rattle.ufs_durable.specs.State.{file_committed, state_of};
-ghost use Rattle.ufs_joint.specs.Cells.{FileCell, View};
+ghost use Rattle.ufs_names.specs.Notes.{with_notes};
+ghost use Rattle.ufs_joint.specs.Cells.{FileCell, NamesCell, View};
 ghost use Rattle.ufs_store.specs.Refusals.{fault_in, is_no_space, is_own};
 ghost use Rattle.ufs_store.specs.declared.fault.StoreFault.TheVariants as refusal;
-ghost use Rattle.ufs_turns.specs.Lent.{AreTold, GainsBlocks, HasCommitted, IsBare, IsBeside, IsBesidePools, LacksBlocks, LendsFile, LendsPool, used_in};
+ghost use Rattle.ufs_turns.specs.Lent.{AreTold, GainsBlocks, HasCommitted, IsBare, IsBeside, IsBesidePools, LacksBlocks, LendsFile, LendsPool, StopsByFault, TellsStop, used_in};
+ghost use Rattle.ufs_turns.specs.NamesLent.{HaveCommitted, LendsNames};
 ghost use Rattle.ufs_turns.specs.Told.{fault_told, told_list};
 
 use ufs_bitmap::Pool;
@@ -16,6 +18,7 @@ use ufs_durable::FileCommits;
 use ufs_file::FileHand;
 use ufs_joint::{Hand, Naming};
 use ufs_model::{Desc, Op};
+use ufs_names::Names;
 use ufs_store::StoreFault;
 
 /// A way to the store of session `N`. Each call is a turn: nobody else comes to the store meanwhile. What its contracts say
@@ -45,6 +48,8 @@ pub trait Turns<N: Naming> {
         ensures telling { is_some (tells self.new) ≡ is_some (tells self.old) }
         ensures faults { hand.new.faults ≡ told_list (fault_told (fault_in result)) ++ hand.old.faults }
         ensures stop { (fault : ℕ) → result ≡ Err (refusal.Stopped fault) → hand.new.stop ≡ Some fault }
+        ensures halts { StopsByFault (tells self.old) (tells self.new) (fault_in result) }
+        ensures halted { TellsStop (tells self.old) result }
         ensures refused { IfErr result (λ fault. is_no_space fault ≡ false) };
 
     /// Reads the blocks of a file that a request on a descriptor of it needs and that aren't in memory. What was read stays, also
@@ -68,6 +73,32 @@ pub trait Turns<N: Naming> {
         ensures beside { IsBeside hand.old hand.new }
         ensures faults { hand.new.faults ≡ told_list (fault_told (fault_in result)) ++ hand.old.faults }
         ensures refused { IfErr result (λ fault. IsTrue (is_own fault)) };
+
+    /// Commits the names, with zeros for the blocks that directories took since the last such turn. Where it passes, all that changed of
+    /// the names is known as committed, nothing is noted and no block is fresh; else the hand has what it had, and was told the fault by
+    /// which it failed, or that the store has stopped.
+    fn commit_names(
+        &mut self,
+        hand: &mut Hand<N>,
+        names: &mut Names,
+        fresh: &mut Vec<u32>,
+    ) -> Result<(), StoreFault>
+        requires lent { (cell : NamesCell) × LendsNames cell hand.old × (cell.value ≡ names.old) × (cell.fresh ≡ fresh.old.items) }
+        ensures ok { OnOk result ((cell : NamesCell) → LendsNames cell hand.old → HaveCommitted N.start.is_visible cell hand.new) }
+        ensures err { OnErr result ((cell : NamesCell) → LendsNames cell hand.old → LendsNames cell hand.new) }
+        ensures away { hand.new.store ≡ [] }
+        ensures beside { IsBeside hand.old hand.new }
+        ensures committed { OnOk result (names.new ≡ with_notes (Some []) names.old) }
+        ensures spent { OnOk result (fresh.new.items ≡ []) }
+        ensures kept { OnErr result (names.new ≡ names.old) }
+        ensures unspent { OnErr result (fresh.new.items ≡ fresh.old.items) }
+        ensures free { AreTold (tells self.old) (tells self.new) (λ had has. has ≡ had) }
+        ensures telling { is_some (tells self.new) ≡ is_some (tells self.old) }
+        ensures faults { hand.new.faults ≡ told_list (fault_told (fault_in result)) ++ hand.old.faults }
+        ensures stop { (fault : ℕ) → result ≡ Err (refusal.Stopped fault) → hand.new.stop ≡ Some fault }
+        ensures halts { StopsByFault (tells self.old) (tells self.new) (fault_in result) }
+        ensures halted { TellsStop (tells self.old) result }
+        ensures refused { IfErr result (λ fault. is_no_space fault ≡ false) };
 
     /// Gives a pool the lowest unassigned blocks: so many, and 64 more where there are. Where there are fewer it says how many there
     /// were, and nothing moves. No call of the disk.
@@ -107,5 +138,7 @@ pub trait Turns<N: Naming> {
         ensures beside { IsBeside hand.old hand.new }
         ensures faults { hand.new.faults ≡ told_list (fault_told (fault_in result)) ++ hand.old.faults }
         ensures stop { (fault : ℕ) → result ≡ Err (refusal.Stopped fault) → hand.new.stop ≡ Some fault }
+        ensures halts { StopsByFault (tells self.old) (tells self.new) (fault_in result) }
+        ensures halted { TellsStop (tells self.old) result }
         ensures refused { IfErr result (λ fault. is_no_space fault ≡ false) };
 }

@@ -6,6 +6,7 @@ use ufs_durable::FileCommits;
 use ufs_file::FileHand;
 use ufs_joint::{Hand, HandTable, Naming};
 use ufs_model::{Desc, Op};
+use ufs_names::Names;
 use ufs_store::{Door, StoreFault};
 
 /// To a store that it borrows.
@@ -38,6 +39,15 @@ impl<'a, N: Naming, D: Door> Turns<N> for Direct<'a, N, D> {
         desc: Desc,
     ) -> Result<(), StoreFault> {
         self.held.fetch(self.table, hand, file, commits, op, desc)
+    }
+
+    fn commit_names(
+        &mut self,
+        hand: &mut Hand<N>,
+        names: &mut Names,
+        fresh: &mut Vec<u32>,
+    ) -> Result<(), StoreFault> {
+        self.held.commit_names(self.table, hand, names, fresh)
     }
 
     fn give_pool(
@@ -93,6 +103,17 @@ impl<'a, N: Naming, D: Door, R: Wait> Turns<N> for Locked<'a, N, D, R> {
         self.held
             .lock(self.rt)
             .fetch(self.table, hand, file, commits, op, desc)
+    }
+
+    fn commit_names(
+        &mut self,
+        hand: &mut Hand<N>,
+        names: &mut Names,
+        fresh: &mut Vec<u32>,
+    ) -> Result<(), StoreFault> {
+        self.held
+            .lock(self.rt)
+            .commit_names(self.table, hand, names, fresh)
     }
 
     fn give_pool(

@@ -11,7 +11,7 @@ use Rattle.ufs_layout.specs.declared.geometry.Geometry.{Geometry}
 use Rattle.ufs_on_disk.specs.Syncs.{IsSpaceOf, MaySync}
 use Rattle.ufs_sound.specs.Owned.{Has}
 use Rattle.ufs_joint.specs.Turns.{MayEndTurn}
-use Rattle.ufs_store.specs.Refusals.{fault_of}
+use Rattle.ufs_store.specs.Refusals.{fault_in, fault_of, stop_after}
 use Rattle.ufs_store.specs.State.{geometry_of_store}
 use Rattle.ufs_turns.specs.HeldStore.{sync_turn}
 use Rattle.ufs_turns.specs.Told.{told_list}
@@ -135,3 +135,15 @@ returns-in-Ok-clause-freed g c = c.in-Ok.ensures.ok.freed
 
 pub returns-in-Err-clause-unfreed : goal.returns-in-Err-clause-unfreed
 returns-in-Err-clause-unfreed g c = ap (λ (q : Space). q.free) (c.sync_store.ensures.err c.in-Err.fault c.in-Err.is).unfreed
+
+pub returns-in-Ok-clause-halts : goal.returns-in-Ok-clause-halts
+returns-in-Ok-clause-halts g c = c.sync_store.ensures.halts ∙ ap (λ (r : _). stop_after (g.D.Door.store c.args.store.now).stop (fault_in r)) c.in-Ok.is
+
+pub returns-in-Err-clause-halts : goal.returns-in-Err-clause-halts
+returns-in-Err-clause-halts g c = c.sync_store.ensures.halts ∙ ap (λ (r : _). stop_after (g.D.Door.store c.args.store.now).stop (fault_in r)) c.in-Err.is
+
+pub returns-in-Ok-clause-halted : goal.returns-in-Ok-clause-halted
+returns-in-Ok-clause-halted g c fault is = sym c.in-Ok.is ∙ c.sync_store.ensures.halted fault is
+
+pub returns-in-Err-clause-halted : goal.returns-in-Err-clause-halted
+returns-in-Err-clause-halted g c fault is = sym c.in-Err.is ∙ c.sync_store.ensures.halted fault is

@@ -40,3 +40,6 @@ pub returns-clause-stopped : goal.returns-clause-stopped
 returns-clause-stopped g c fault is =
     let was = (c.checkpoint.ensures.stopped fault).0 is in
     ap (λ (s : StoreState). s.stop) (c.checkpoint.ensures.still fault was) ∙ was
+
+pub returns-clause-halted : goal.returns-clause-halted
+returns-clause-halted g c fault is = (c.checkpoint.ensures.stopped fault).1 is

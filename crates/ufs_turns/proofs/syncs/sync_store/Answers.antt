@@ -85,3 +85,15 @@ pub returns-in-Err-clause-stopped : goal.returns-in-Err-clause-stopped
 returns-in-Err-clause-stopped g c fault is =
     let was = (c.fsync.ensures.stopped fault).0 (c.in-Err.is ∙ is) in
     ap (λ (s : StoreState). s.stop) (c.fsync.ensures.still fault was) ∙ was
+
+pub returns-in-Ok-clause-halts : goal.returns-in-Ok-clause-halts
+returns-in-Ok-clause-halts g c = c.fsync.ensures.stop ∙ ap (stop_after (g.D.Door.store c.args.store.now).stop) (ap fault_in c.in-Ok.is)
+
+pub returns-in-Err-clause-halts : goal.returns-in-Err-clause-halts
+returns-in-Err-clause-halts g c = c.fsync.ensures.stop ∙ ap (stop_after (g.D.Door.store c.args.store.now).stop) (ap fault_in c.in-Err.is)
+
+pub returns-in-Ok-clause-halted : goal.returns-in-Ok-clause-halted
+returns-in-Ok-clause-halted g c fault is = sym c.in-Ok.is ∙ (c.fsync.ensures.stopped fault).1 is
+
+pub returns-in-Err-clause-halted : goal.returns-in-Err-clause-halted
+returns-in-Err-clause-halted g c fault is = sym c.in-Err.is ∙ (c.fsync.ensures.stopped fault).1 is

@@ -1,12 +1,12 @@
 use Rattle.ufs_bitmap.specs.Blocks.{BlockSet}
-use Rattle.std.proofs.Common.{◌≡◌, ℕ, ◌∙◌, ◌++◌, List, ap}
+use Rattle.std.proofs.Common.{◌≡◌, ℕ, ◌∙◌, ◌++◌, List, ap, sym}
 use Rattle.std.specs.Prelude.{OnOk, Result, Ok, Err}
 use Rattle.ufs_joint.specs.Disks.{cell_of}
 use Rattle.ufs_store.specs.Refusals.{fault_in}
 use Rattle.ufs_store.specs.declared.fault.StoreFault.{StoreFault}
 use Rattle.ufs_turns.specs.Lent.{used_in}
 use Rattle.ufs_turns.specs.Told.{fault_told, told_list}
-use Rattle.ufs_turns.proofs.FreeBlocks.{in_cells}
+use Rattle.ufs_turns.proofs.FreeBlocks.{in_cells, stop_before, stop_behind}
 use Rattle.ufs_turns.proofs.held_store.HeldStore.checkpoint.Goals as goal
 
 pub invariant_of-self : goal.invariant_of-self
@@ -40,3 +40,14 @@ returns-clause-free g c =
     let alone = c.give_back.ensures.home (cell_of st.stamp st.past t) st.has in
     in_cells g.N.Naming.start g.D.Door.visible g.D.Door.keeps c.self.inside.hand c.give_back.new.own c.args.self.now (g.D.Door.store c.self.inside.store) c.self.invariant.1 c.self.view_is (cell_of st.stamp st.past t) alone
     (λ (had has : BlockSet). has ≡ had) c.checkpoint_lent-made.ensures.free
+
+pub returns-clause-halts : goal.returns-clause-halts
+returns-clause-halts g c =
+    let t = g.D.Door.store c.checkpoint_lent-made.new.store in
+    let st = c.checkpoint_lent-made.ensures.store in
+    let alone = c.give_back.ensures.home (cell_of st.stamp st.past t) st.has in
+    stop_behind g.N.Naming.start g.D.Door.visible g.D.Door.keeps c.self.inside.hand c.give_back.new.own c.args.self.now (g.D.Door.store c.self.inside.store) c.self.invariant.1 c.self.view_is (cell_of st.stamp st.past t) (fault_in c.checkpoint_lent-made.result) alone c.checkpoint_lent-made.ensures.halts
+
+pub returns-clause-halted : goal.returns-clause-halted
+returns-clause-halted g c fault is =
+    c.checkpoint_lent-made.ensures.halted fault (sym (stop_before g.N.Naming.start g.D.Door.visible g.D.Door.keeps c.self.inside.hand c.give_back.new.own c.args.self.now (g.D.Door.store c.self.inside.store) c.self.invariant.1 c.self.view_is) ∙ is)

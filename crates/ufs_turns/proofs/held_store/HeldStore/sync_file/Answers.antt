@@ -2,12 +2,12 @@ use Rattle.ufs_bitmap.specs.Taking.{set_of}
 use Rattle.ufs_bitmap.specs.Blocks.{BlockSet}
 use Rattle.std.specs.FinSet as set
 use Rattle.std.specs.Prelude.{OnErr, OnOk, Result, Ok, Err}
-use Rattle.std.proofs.Common.{◌≡◌, ℕ, ◌∙◌, ◌++◌, List, ap}
+use Rattle.std.proofs.Common.{◌≡◌, ℕ, ◌∙◌, ◌++◌, List, ap, sym}
 use Rattle.ufs_joint.specs.Disks.{cell_of}
 use Rattle.ufs_store.specs.declared.fault.StoreFault.{StoreFault}
 use Rattle.ufs_store.specs.Refusals.{fault_in}
 use Rattle.ufs_turns.specs.Told.{fault_told, told_list}
-use Rattle.ufs_turns.proofs.FreeBlocks.{in_cells}
+use Rattle.ufs_turns.proofs.FreeBlocks.{in_cells, stop_before, stop_behind}
 use Rattle.ufs_turns.proofs.held_store.HeldStore.sync_file.Goals as goal
 
 pub invariant_of-self : goal.invariant_of-self
@@ -49,3 +49,14 @@ returns-clause-unfreed g c =
     let alone = c.give_back.ensures.home (cell_of st.stamp st.past t) st.has in
     in_cells g.N.Naming.start g.D.Door.visible g.D.Door.keeps c.self.inside.hand c.give_back.new.own c.args.self.now (g.D.Door.store c.self.inside.store) c.self.invariant.1 c.self.view_is (cell_of st.stamp st.past t) alone
     (λ (had has : BlockSet). OnErr c.sync_lent-synced.result (has ≡ had)) c.sync_lent-synced.ensures.unfreed
+
+pub returns-clause-halts : goal.returns-clause-halts
+returns-clause-halts g c =
+    let t = g.D.Door.store c.sync_lent-synced.new.store in
+    let st = c.sync_lent-synced.ensures.store in
+    let alone = c.give_back.ensures.home (cell_of st.stamp st.past t) st.has in
+    stop_behind g.N.Naming.start g.D.Door.visible g.D.Door.keeps c.self.inside.hand c.give_back.new.own c.args.self.now (g.D.Door.store c.self.inside.store) c.self.invariant.1 c.self.view_is (cell_of st.stamp st.past t) (fault_in c.sync_lent-synced.result) alone c.sync_lent-synced.ensures.halts
+
+pub returns-clause-halted : goal.returns-clause-halted
+returns-clause-halted g c fault is =
+    c.sync_lent-synced.ensures.halted fault (sym (stop_before g.N.Naming.start g.D.Door.visible g.D.Door.keeps c.self.inside.hand c.give_back.new.own c.args.self.now (g.D.Door.store c.self.inside.store) c.self.invariant.1 c.self.view_is) ∙ is)

@@ -1,0 +1,7 @@
+use Rattle.std.proofs.Common.{inl, inr}
+use Rattle.ufs_turns.specs.NamesLent.{names_turn}
+use Rattle.ufs_turns.proofs.commits.end_names.Goals as goal
+
+pub mark-requires-clause-may : goal.mark-requires-clause-may
+mark-requires-clause-may g c =
+    inr (inr (inl (record { turn = names_turn c.args.done c.args.told (g.D.Door.store c.args.store.now) c.args.hand.now; may = c.requires.may; is = c.requires.leaves })))
