@@ -5,4 +5,5 @@ pub mod Plain
 pub mod Requests
 pub mod Rows
 pub mod Servers
+pub mod Shared
 pub mod There

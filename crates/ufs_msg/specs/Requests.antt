@@ -1,5 +1,5 @@
 -- A request on its way, with the hand of the client that asked it.
-use Rattle.std.specs.Prelude.{ℕ, ◌≡◌, ◌<◌, ◌⊎◌, Bool, true, [], ◌∷◌, length, Option, Some, None, refl}
+use Rattle.std.specs.Prelude.{ℕ, ◌≡◌, ◌<◌, ◌⊎◌, Bool, true, [], ◌∷◌, length, Option, Some, refl}
 use Rattle.std.specs.FinMap as fin
 use Rattle.std.specs.Coded.{Coded, code_by, coded×, coded_bool}
 use Rattle.ufs_joint.specs.Cells.{Start, View}

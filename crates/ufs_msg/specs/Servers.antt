@@ -1,5 +1,5 @@
 -- A ring for each server.
-use Rattle.std.specs.Prelude.{ℕ, ◌-◌, ◌≡◌}
+use Rattle.std.specs.Prelude.{◌-◌, ◌≡◌}
 use Rattle.ufs_model.specs.declared.data.Actor.{Actor}
 use Rattle.ufs_model.specs.declared.data.Actor.TheVariants as actor
 use Rattle.ufs_msg.specs.Rows.{HappensAt, IsSoAt}

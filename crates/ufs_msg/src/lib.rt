@@ -10,6 +10,7 @@ mod request;
 mod rows;
 mod ruled;
 mod servers;
+mod shared;
 
 pub use answer::{Answer, Redirected, Served};
 pub use letter::Letter;
@@ -18,3 +19,4 @@ pub use post::{ClientPost, ServerPost};
 pub use request::{Hinted, Request};
 pub use ruled::{Inbox, RuledClientPost, RuledServerPost};
 pub use servers::PerServer;
+pub use shared::SharedRings;

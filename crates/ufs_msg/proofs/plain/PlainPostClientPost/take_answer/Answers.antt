@@ -1,4 +1,4 @@
-use Rattle.std.proofs.Common.{◌≡◌, sym, subst, ◌∙◌}
+use Rattle.std.proofs.Common.{◌∙◌}
 use Rattle.ufs_ring.specs.Buffers.{HasLost, IsEmpty}
 use Rattle.ufs_msg.specs.Rows.{IsSoAt}
 use Rattle.ufs_msg.proofs.Addressing.{addressed_taken}
