@@ -1,0 +1,4 @@
+pub mod Drawing
+pub mod After
+pub mod Excusing
+pub mod Birth

@@ -1,0 +1,5 @@
+pub mod Asking
+pub mod Held
+pub mod Drawn
+pub mod Serving
+pub mod Births

@@ -1,0 +1,145 @@
+// A request that couldn't be done is excused, by a hand that has its client and the file.
+ghost use Rattle.std.specs.Prelude.{ℕ, ◌≡◌, ◌≢◌, ◌≤◌, suc, [], IsTrue, true, false, None, Some};
+ghost use Rattle.ufs_bitmap.specs.Blocks.{BlockSet};
+ghost use Rattle.ufs_durable.specs.State.{state_of};
+ghost use Rattle.ufs_file.specs.Hand.{IsEntryOf, IsFileOf, IsOf};
+ghost use Rattle.ufs_model.specs.Asks.{IsAsk};
+ghost use Rattle.ufs_model.specs.Excuses.{ExcuseFits};
+ghost use Rattle.ufs_model.specs.FileCalls.{file_refusal};
+ghost use Rattle.ufs_model.specs.PosixTree.{PosixTree};
+ghost use Rattle.ufs_model.specs.declared.data.Desc.{Desc};
+ghost use Rattle.ufs_model.specs.declared.data.Excuse.TheVariants as excuse;
+ghost use Rattle.ufs_model.specs.declared.data.Reply.TheVariants as reply;
+ghost use Rattle.ufs_sound.specs.Draws.{left_faults};
+ghost use Rattle.ufs_sound.specs.Owned.{times};
+ghost use Rattle.ufs_sound.specs.Parts.{ClientPart};
+ghost use Rattle.ufs_joint.specs.Cells.{FileCell};
+ghost use Rattle.ufs_joint.specs.Draws.{drawn};
+ghost use Rattle.ufs_joint.specs.FileHands.{IsFileHand};
+ghost use Rattle.ufs_store.specs.Refusals.{fault_of, is_no_space, is_own};
+ghost use Rattle.ufs_store.specs.declared.fault.StoreFault.TheVariants as refusal;
+ghost use Rattle.ufs_turns.specs.Told.{fault_told, told_list};
+ghost use Rattle.ufs_held.specs.Asking.{Asks, IsAnswered, IsGuest, faults_of, is_of_turn};
+ghost use Rattle.ufs_held.specs.Drawn.{fresh_of, kept_leaves};
+ghost use Rattle.ufs_held.specs.Held.{IsHeld, first_cell};
+ghost use Rattle.ufs_held.specs.Serving.{is_of_read};
+
+use crate::held::Served;
+use crate::syncs::draw_kept;
+use std::marker::Brand;
+use std::mem;
+use ufs_base::Lack;
+use ufs_durable::FileCommits;
+use ufs_file::FileHand;
+use ufs_joint::{Hand, HandTable, Naming, an_excuse_is_drawn};
+use ufs_model::{Actor, Ask, Entry, Excuse, PartName, Reply, a_file_goes_on_by_itself};
+use ufs_sound::Fresh;
+use ufs_store::StoreFault;
+
+// The excuse for what a turn of the store refused. The last number of the disk's count may be told twice, so it is no fault's.
+pub(crate) fn excuse_of(fault: StoreFault) -> Excuse
+    requires { is_no_space fault ≡ false }
+    ensures kind { is_of_turn result ≡ true }
+    ensures read { IsTrue (is_own fault) → is_of_read result ≡ true }
+    ensures used { told_list (fault_told (fault_of fault)) ≡ faults_of result }
+    ensures stopped { (number : ℕ) → result ≡ excuse.Stopped number → fault ≡ refusal.Stopped number }
+{
+    match fault {
+        StoreFault::Device { fault } if fault < u64::MAX => Excuse::Device { fault },
+        StoreFault::Device { .. } => Excuse::from(Lack::AtEnd),
+        StoreFault::Stopped { fault } => Excuse::Stopped { fault },
+        StoreFault::Lack(lack) => Excuse::from(lack),
+        StoreFault::NoSpace { .. } => unreachable!(),
+    }
+}
+
+// Draws the entry with the excuse. The file is as it was. The hand was told of just the fault that excuses.
+pub(crate) fn serve_excused<N: Naming>(
+    table: &HandTable<N>,
+    right: &mut Hand<N>,
+    file: &FileHand,
+    commits: &FileCommits,
+    ask: Ask,
+    guest: Hand<N>,
+    by: Actor,
+    cause: Excuse,
+) -> Served<N>
+    requires held { IsHeld (state_of file.now commits.now) right.old }
+    requires guest { (part : ClientPart) × (n : ℕ) × (pool : BlockSet) × IsGuest ask.client part n pool guest × Asks part ask × (n ≢ file.now.file) }
+    requires named { IsOf ask.desc file.now.file }
+    requires allowed { (d : Desc) → ask.desc ≡ Some d → file_refusal file.now.content.bytes d ask.op ≡ None }
+    requires kind { is_of_turn cause ≡ true }
+    requires told { right.old.faults ≡ faults_of cause }
+    requires stopped { (fault : ℕ) → cause ≡ excuse.Stopped fault → right.old.stop ≡ Some fault }
+    ensures held { IsHeld (state_of file.now commits.now) right.new }
+    ensures calm { right.new.faults ≡ [] }
+    ensures entry { IsEntryOf ask by result.entry.ticket result.entry }
+    ensures replied { result.entry.reply ≡ reply.Excused cause }
+    ensures desc { result.desc ≡ ask.desc }
+    ensures guest { (part : ClientPart) (n : ℕ) (pool : BlockSet) → IsGuest ask.client part n pool guest → n ≢ file.now.file → (after : ClientPart) × IsAnswered part result.entry result.desc after × IsGuest ask.client after n pool result.guest }
+    ensures cell { first_cell (state_of file.now commits.now) right.new.files ≡ first_cell (state_of file.now commits.now) right.old.files }
+    ensures faults { result.guest.faults ≡ guest.faults }
+    ensures stop { (fault : ℕ) → cause ≡ excuse.Stopped fault → result.guest.stop ≡ Some fault }
+    ensures later { guest.seen ≤ result.entry.ticket }
+    ensures seen { result.guest.seen ≡ suc result.entry.ticket }
+{
+    a_file_goes_on_by_itself();
+    right.join(table, guest);
+    let desc = ask.desc;
+    let entry = draw_excused(table, right, ask, by, cause);
+    let own = right.split(table, PartName::File(file.file()));
+    let guest = mem::replace(right, own);
+    // For the prover alone.
+    let _ = commits;
+    Served { entry, desc, guest }
+}
+
+// Draws the entry, with the excuse.
+fn draw_excused<N: Naming>(
+    table: &HandTable<N>,
+    right: &mut Hand<N>,
+    ask: Ask,
+    by: Actor,
+    cause: Excuse,
+) -> Entry
+    requires hand { (part : ClientPart) × (file : ℕ) × (cell : FileCell) × (n : ℕ) × (pool : BlockSet) × IsFileHand right.old ask.client part file cell n pool × Asks part ask × ((t : PosixTree) → IsFileOf cell.value.file t → IsAsk t ask → ExcuseFits t ask.client ask.op cause) }
+    requires device { (fault : ℕ) → cause ≡ excuse.Device fault → 1 ≤ times fault right.old.faults }
+    requires stopped { (fault : ℕ) → cause ≡ excuse.Stopped fault → right.old.stop ≡ Some fault }
+    ensures entry { IsEntryOf ask by result.ticket result }
+    ensures replied { result.reply ≡ reply.Excused cause }
+    ensures cells { right.new ≡ drawn result.ticket (fresh_of result) (kept_leaves right.old) right.old }
+    ensures later { right.old.seen ≤ result.ticket }
+{
+    an_excuse_is_drawn();
+    let Ask {
+        client,
+        seq,
+        op,
+        desc: _,
+        fd: _,
+        last: _,
+    } = ask;
+    let fresh = Fresh {
+        client,
+        seq,
+        by,
+        op,
+        reply: Reply::Excused(cause),
+    };
+    let ticket = draw_kept::<N, Brand>(table, right, &fresh);
+    let Fresh {
+        client,
+        seq,
+        by,
+        op,
+        reply,
+    } = fresh;
+    Entry {
+        ticket,
+        client,
+        seq,
+        by,
+        op,
+        reply,
+    }
+}

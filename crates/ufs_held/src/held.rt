@@ -1,0 +1,263 @@
+// A file, what is known of its commits, and the right to its cell.
+ghost use Rattle.std.specs.Prelude.{ℕ, List, ◌≡◌, ◌≢◌, ◌≤◌, ◌∷◌, ◌||◌, suc, [], true, false, None, Some, is_some};
+ghost use Rattle.std.specs.FinSet as set;
+ghost use Rattle.ufs_bitmap.specs.Blocks.{BlockSet};
+ghost use Rattle.ufs_bitmap.specs.Taking.{set_of};
+ghost use Rattle.ufs_model.specs.declared.data.Op.TheVariants as op;
+ghost use Rattle.ufs_model.specs.declared.data.Reply.TheVariants as reply;
+ghost use Rattle.ufs_file.specs.Content.{IsContentOf};
+ghost use Rattle.ufs_file.specs.Hand.{FileState, HasNeeded, IsEntryOf, IsExcusedFor, IsOf, whole_as};
+ghost use Rattle.ufs_layout.specs.Areas.{IsGeometry};
+ghost use Rattle.ufs_model.specs.Bounds.{IsBounded};
+ghost use Rattle.ufs_model.specs.FileCalls.{file_refusal, file_step};
+ghost use Rattle.ufs_model.specs.History.{is_excused};
+ghost use Rattle.ufs_model.specs.declared.data.Desc.{Desc};
+ghost use Rattle.ufs_model.specs.declared.data.Excuse.{Excuse};
+ghost use Rattle.ufs_model.specs.declared.data.Excuse.TheVariants as excuse;
+ghost use Rattle.ufs_durable.specs.Serving.{IsServedKept};
+ghost use Rattle.ufs_durable.specs.State.{file_committed, state_of, whole_of};
+ghost use Rattle.ufs_prefix.specs.Changes.{asks_commit};
+ghost use Rattle.ufs_sound.specs.Parts.{ClientPart};
+ghost use Rattle.ufs_joint.specs.Cells.{NamesCell};
+ghost use Rattle.ufs_turns.specs.Lent.{AreTold};
+ghost use Rattle.ufs_held.specs.Asking.{Asks, IsAnswered, IsGuest, IsSyncReply};
+ghost use Rattle.ufs_held.specs.Births.{HasStill};
+ghost use Rattle.ufs_held.specs.Held.{HasFileAlone, IsHeld, first_cell};
+ghost use Rattle.ufs_held.specs.Serving.{IsReadFor, IsServeCause, read_as};
+
+use crate::births::tell_lent;
+use crate::serving::{serve_lent, serve_ready};
+use crate::syncs::sync_lent;
+use std::marker::Model;
+use ufs_bitmap::Pool;
+use ufs_durable::FileCommits;
+use ufs_extent::Extents;
+use ufs_file::FileHand;
+use ufs_joint::{Hand, HandTable, Naming};
+use ufs_layout::Geometry;
+use ufs_model::{Actor, Ask, Desc, Entry};
+use ufs_turns::Turns;
+
+/// A file as a server of session `N` holds it. Contracts see its cell, which tells what the file has.
+#[derive(Drop)]
+pub struct HeldFile<N: Naming> {
+    hand: FileHand,
+    commits: FileCommits,
+    right: Hand<N>,
+}
+
+impl<N: Naming> Model for HeldFile<N> {
+    ghost use Rattle.std.specs.Prelude.{◌≡◌, []};
+    ghost use Rattle.ufs_durable.specs.State.{state_of};
+    ghost use Rattle.ufs_joint.specs.Cells.{FileCell};
+    ghost use Rattle.ufs_joint.specs.Codes.{file_code};
+    ghost use Rattle.ufs_held.specs.Held.{IsHeld, first_cell};
+
+    ghost Value = { FileCell };
+
+    ghost coded = { file_code };
+
+    ghost view = { λ h. first_cell (state_of h.hand h.commits) h.right.files };
+
+    ghost invariant = { λ h. IsHeld (state_of h.hand h.commits) h.right × (h.right.faults ≡ []) };
+}
+
+/// What a request was answered, and the hand that came with it.
+#[derive(Drop)]
+pub struct Served<N: Naming> {
+    pub entry: Entry,
+    /// What the request's descriptor stands for afterwards.
+    pub desc: Option<Desc>,
+    pub guest: Hand<N>,
+}
+
+/// The blocks of a file that is no more, and the right to its cell. Those that it dropped since its last commit are what `commits`
+/// tells.
+#[derive(Drop)]
+pub struct Dropped<N: Naming> {
+    pub hand: Hand<N>,
+    pub extents: Extents,
+    pub commits: FileCommits,
+}
+
+impl<N: Naming> HeldFile<N> {
+    pub fn new(hand: FileHand, commits: FileCommits, right: Hand<N>) -> HeldFile<N>
+        requires held { IsHeld (state_of hand commits) right }
+        requires calm { right.faults ≡ [] }
+        ensures { result ≡ first_cell (state_of hand commits) right.files }
+    {
+        HeldFile {
+            hand,
+            commits,
+            right,
+        }
+    }
+
+    pub fn into_parts(self) -> (FileHand, FileCommits, Hand<N>)
+        ensures value { self.value ≡ state_of result.0 result.1 }
+        ensures hand { HasFileAlone self result.2 }
+        ensures calm { result.2.faults ≡ [] }
+    {
+        let HeldFile {
+            hand,
+            commits,
+            right,
+        } = self;
+        (hand, commits, right)
+    }
+
+    /// All its blocks, with the right to its cell, for who draws that the file is no more. Takes no memory.
+    pub fn drop_blocks(self) -> Dropped<N>
+        ensures extents { result.extents ≡ self.value.file.extents }
+        ensures quarantine { result.commits.dropped ≡ self.value.dropped }
+        ensures hand { HasFileAlone self result.hand }
+        ensures calm { result.hand.faults ≡ [] }
+    {
+        let HeldFile {
+            hand,
+            commits,
+            right,
+        } = self;
+        Dropped {
+            hand: right,
+            extents: hand.drop_blocks(),
+            commits,
+        }
+    }
+
+    /// Tells the file its birth, where the names, which this hand has, know it as committed. Takes no memory.
+    pub fn tell_born(&mut self, table: &HandTable<N>, names: &mut Hand<N>, geometry: &Geometry)
+        requires formed { IsGeometry geometry.now }
+        requires its { geometry.now ≡ N.start.geometry }
+        requires names { (cell : NamesCell) × (names.old.names ≡ (tt, cell) ∷ []) }
+        ensures told { (cell : NamesCell) → names.old.names ≡ (tt, cell) ∷ [] → self.new ≡ record self.old { born = self.old.born || set.contains cell.named self.old.value.file.file } }
+        ensures still { HasStill names.old names.new }
+    {
+        let HeldFile {
+            hand,
+            commits,
+            right,
+        } = self;
+        tell_lent(table, right, hand, commits, names, geometry)
+    }
+
+    /// Serves a request on a descriptor of the file that commits nothing, where it is refused or the blocks that it needs are in memory.
+    /// The hand that comes with it has its client and the server's pool; it goes back with one more entry.
+    pub fn serve_here(
+        &mut self,
+        table: &HandTable<N>,
+        ask: Ask,
+        guest: Hand<N>,
+        by: Actor,
+        pool: &mut Pool,
+    ) -> Served<N>
+        requires guest { (part : ClientPart) × (n : ℕ) × IsGuest ask.client part n pool.old guest × Asks part ask × (n ≢ self.old.value.file.file) }
+        requires no_commit { asks_commit ask.op ≡ false }
+        requires bounded { IsBounded ask.op }
+        requires named { IsOf ask.desc self.old.value.file.file }
+        requires there { (d : Desc) → ask.desc ≡ Some d → file_refusal self.old.value.file.content.bytes d ask.op ≡ None → HasNeeded self.old.value.file.content d ask.op }
+        ensures entry { IsEntryOf ask by result.entry.ticket result.entry }
+        ensures guest { (part : ClientPart) (n : ℕ) → IsGuest ask.client part n pool.old guest → n ≢ self.old.value.file.file → (after : ClientPart) × IsAnswered part result.entry result.desc after × IsGuest ask.client after n pool.new result.guest }
+        ensures number { self.new.value.file.file ≡ self.old.value.file.file }
+        ensures served { is_excused result.entry.reply ≡ false → (d : Desc) → ask.desc ≡ Some d → (bytes : List ℕ) → IsContentOf self.old.value.file.content bytes
+            → IsServedKept (whole_of bytes (self.old.value)) (whole_of (file_step bytes d ask.op).bytes (self.new.value)) pool.old pool.new d ask.op result.entry.reply result.desc }
+        ensures excused { (x : Excuse) → result.entry.reply ≡ reply.Excused x → (d : Desc) → ask.desc ≡ Some d → (bytes : List ℕ) → IsContentOf self.old.value.file.content bytes → IsExcusedFor (whole_as bytes self.old.value.file) d ask.op pool.old x }
+        ensures untaken { is_excused result.entry.reply ≡ true → pool.new ≡ pool.old }
+        ensures kept { is_excused result.entry.reply ≡ true → self.new ≡ self.old }
+        ensures changed { is_excused result.entry.reply ≡ false → self.new.changed ≡ suc result.entry.ticket }
+        ensures known { self.new.known ≡ self.old.known }
+        ensures born { self.new.born ≡ self.old.born }
+        // no fault that the guest was told before excuses it
+        ensures faults { result.guest.faults ≡ guest.faults }
+        ensures later { guest.seen ≤ result.entry.ticket }
+        ensures seen { result.guest.seen ≡ suc result.entry.ticket }
+    {
+        let HeldFile {
+            hand,
+            commits,
+            right,
+        } = self;
+        serve_ready(table, right, hand, commits, ask, guest, by, pool)
+    }
+
+    /// Serves an `fsync` of the file, whose birth is known as committed: commits the file in one turn of the store, and acknowledges
+    /// it. Where the commit fails, the request is excused by the fault or by the stop of the store, and the file is as it was.
+    pub fn sync<T: Turns<N>>(
+        &mut self,
+        table: &HandTable<N>,
+        ask: Ask,
+        guest: Hand<N>,
+        by: Actor,
+        door: &mut T,
+    ) -> Served<N>
+        requires guest { (part : ClientPart) × (n : ℕ) × (pool : BlockSet) × IsGuest ask.client part n pool guest × Asks part ask × (n ≢ self.old.value.file.file) }
+        requires fsync { (fd : ℕ) × (ask.op ≡ op.Fsync fd) }
+        requires named { IsOf ask.desc self.old.value.file.file }
+        requires born { self.old.born ≡ true }
+        ensures entry { IsEntryOf ask by result.entry.ticket result.entry }
+        ensures replied { IsSyncReply result.entry.reply }
+        ensures desc { result.desc ≡ ask.desc }
+        ensures guest { (part : ClientPart) (n : ℕ) (pool : BlockSet) → IsGuest ask.client part n pool guest → n ≢ self.old.value.file.file → (after : ClientPart) × IsAnswered part result.entry result.desc after × IsGuest ask.client after n pool result.guest }
+        ensures committed { result.entry.reply ≡ reply.Done → self.new.value ≡ file_committed self.old.value }
+        ensures known { result.entry.reply ≡ reply.Done → N.start.is_visible ≡ true → self.new.changed ≤ self.new.known }
+        ensures kept { is_excused result.entry.reply ≡ true → self.new ≡ self.old }
+        ensures rest { self.new ≡ record self.old { value = self.new.value; known = self.new.known } }
+        // no fault that the guest was told before excuses it, and a stop is the store's
+        ensures faults { result.guest.faults ≡ guest.faults }
+        ensures stop { (fault : ℕ) → result.entry.reply ≡ reply.Excused (excuse.Stopped fault) → result.guest.stop ≡ Some fault }
+        ensures freed { result.entry.reply ≡ reply.Done → AreTold (T.tells door.old) (T.tells door.new) (λ had has. has ≡ set.union had (set_of self.old.value.dropped)) }
+        ensures unfreed { is_excused result.entry.reply ≡ true → AreTold (T.tells door.old) (T.tells door.new) (λ had has. has ≡ had) }
+        ensures telling { is_some (T.tells door.new) ≡ is_some (T.tells door.old) }
+        ensures later { guest.seen ≤ result.entry.ticket }
+        ensures seen { result.guest.seen ≡ suc result.entry.ticket }
+    {
+        let HeldFile {
+            hand,
+            commits,
+            right,
+        } = self;
+        sync_lent(table, right, hand, commits, ask, guest, by, door)
+    }
+
+    /// Serves a request on a descriptor of the file that commits nothing. Where it isn't refused, the blocks that it needs are read
+    /// first, in one turn of the store; where one can't be read, the request is excused by the fault, and what was read stays.
+    pub fn serve<T: Turns<N>>(
+        &mut self,
+        table: &HandTable<N>,
+        ask: Ask,
+        guest: Hand<N>,
+        by: Actor,
+        pool: &mut Pool,
+        door: &mut T,
+    ) -> Served<N>
+        requires guest { (part : ClientPart) × (n : ℕ) × IsGuest ask.client part n pool.old guest × Asks part ask × (n ≢ self.old.value.file.file) }
+        requires no_commit { asks_commit ask.op ≡ false }
+        requires bounded { IsBounded ask.op }
+        requires named { IsOf ask.desc self.old.value.file.file }
+        ensures entry { IsEntryOf ask by result.entry.ticket result.entry }
+        ensures guest { (part : ClientPart) (n : ℕ) → IsGuest ask.client part n pool.old guest → n ≢ self.old.value.file.file → (after : ClientPart) × IsAnswered part result.entry result.desc after × IsGuest ask.client after n pool.new result.guest }
+        ensures number { self.new.value.file.file ≡ self.old.value.file.file }
+        ensures served { is_excused result.entry.reply ≡ false → (d : Desc) → ask.desc ≡ Some d → (read : FileState) × IsReadFor self.old.value.file read d ask.op × ((bytes : List ℕ) → IsContentOf read.content bytes
+            → IsServedKept (whole_of bytes (read_as read self.old.value)) (whole_of (file_step bytes d ask.op).bytes (self.new.value)) pool.old pool.new d ask.op result.entry.reply result.desc) }
+        ensures excused { (x : Excuse) → result.entry.reply ≡ reply.Excused x → (d : Desc) → ask.desc ≡ Some d → IsServeCause self.old.value.file self.new.value.file pool.old d ask.op x }
+        ensures read { is_excused result.entry.reply ≡ true → (d : Desc) → ask.desc ≡ Some d → IsReadFor self.old.value.file self.new.value.file d ask.op }
+        ensures kept { is_excused result.entry.reply ≡ true → self.new ≡ record self.old { value = read_as self.new.value.file self.old.value } }
+        ensures untaken { is_excused result.entry.reply ≡ true → pool.new ≡ pool.old }
+        ensures changed { is_excused result.entry.reply ≡ false → self.new.changed ≡ suc result.entry.ticket }
+        ensures known { self.new.known ≡ self.old.known }
+        ensures born { self.new.born ≡ self.old.born }
+        // no fault that the guest was told before excuses it
+        ensures faults { result.guest.faults ≡ guest.faults }
+        ensures free { AreTold (T.tells door.old) (T.tells door.new) (λ had has. has ≡ had) }
+        ensures telling { is_some (T.tells door.new) ≡ is_some (T.tells door.old) }
+        ensures later { guest.seen ≤ result.entry.ticket }
+        ensures seen { result.guest.seen ≡ suc result.entry.ticket }
+    {
+        let HeldFile {
+            hand,
+            commits,
+            right,
+        } = self;
+        serve_lent(table, right, hand, commits, ask, guest, by, pool, door)
+    }
+}
