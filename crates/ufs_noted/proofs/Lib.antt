@@ -1,0 +1,8 @@
+mod Reached
+mod Numbers
+pub mod Maps
+mod Left
+mod Causes
+mod Young
+mod Lending
+mod Serving

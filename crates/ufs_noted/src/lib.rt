@@ -1,0 +1,9 @@
+//! The names with what was noted of them since their last commit: they serve a request with the one file that it touches.
+#![tactic(auto)]
+
+mod applying;
+mod known;
+mod noted;
+
+pub use known::{KnownFile, Made, With};
+pub use noted::NotedNames;
