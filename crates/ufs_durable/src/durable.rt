@@ -13,6 +13,7 @@ ghost use Rattle.ufs_ledger.specs.Ledger.{IsLedgerOf, IsLeftBy, Ledger};
 ghost use Rattle.ufs_store.specs.Ends.{IsLackOf};
 ghost use Rattle.ufs_store.specs.Blocks.{MayReturn};
 ghost use Rattle.ufs_store.specs.Ledgers.{HasAny, HasLedger, IsLeftByAny, MayCommitNext, after_commit, checkpointed, stages};
+ghost use Rattle.ufs_store.specs.Numbers.{HasRaised};
 ghost use Rattle.ufs_store.specs.Refusals.{IsTold, fault_in, is_no_space, stop_after};
 ghost use Rattle.ufs_store.specs.State.{geometry_of_store, last_commit};
 ghost use Rattle.ufs_store.specs.declared.fault.StoreFault.TheVariants as refusal;
@@ -121,6 +122,7 @@ pub fn fsync<D: Door>(
     ensures number { IfOk result (λ number. number ≡ last_commit (D.store door.new)) }
     ensures rises { commits.old.log.noted ≢ commits.old.log.committed → OnOk result (last_commit (D.store door.new) ≡ last_commit (D.store door.old) + 1) }
     ensures stays { commits.old.log.noted ≡ commits.old.log.committed → last_commit (D.store door.new) ≡ last_commit (D.store door.old) }
+    ensures raised { HasRaised 1 1 (D.store door.old) (D.store door.new) }
     ensures committed { OnOk result (state_of hand.new commits.new ≡ file_committed (state_of hand.old commits.old)) }
     ensures kept { OnErr result (state_of hand.new commits.new ≡ state_of hand.old commits.old) }
     ensures freed { OnOk result ((D.store door.new).unassigned ≡ record ((D.store door.old).unassigned) { free = set.union (D.store door.old).unassigned.free (set_of commits.old.dropped) }) }

@@ -1,11 +1,12 @@
 -- What is told at a session's end.
 use Rattle.std.proofs.Common.{◌≡◌, ℕ, ◌+◌, ◌-◌, ◌^◌, ◌<◌, ◌≤◌, min, ◌⊎◌, List, [], Option, Some, None, Result, Ok, Err, IsOk, ap, sym, refl, subst, ◌∙◌, Bool, true, false, nat_eq, inl, inr, arith}
-use Rattle.std.specs.Prelude.{OnOk, ◌↔◌}
+use Rattle.std.specs.Prelude.{IfOk, OnOk, ◌↔◌}
 use Rattle.std.specs.Prelude.{nat_le}
 use Rattle.std.specs.List.{IsDistinct}
 use Rattle.std.proofs.lemmas.Bool.Decides.{nat_tests}
 use Rattle.ufs_base.specs.Wanting.{wanting}
 use Rattle.ufs_base.specs.declared.lack.Lack.{Lack}
+use Rattle.ufs_base.specs.declared.memory.Memory.{Memory}
 use Rattle.ufs_base.specs.Faults.{RoseTo}
 use Rattle.ufs_client.specs.declared.played.EndFault.{EndFault}
 use Rattle.ufs_client.specs.declared.played.EndFault.TheVariants as session
@@ -19,6 +20,7 @@ use Rattle.ufs_model.proofs.Facts.Histories.{order_none}
 use Rattle.ufs_engine.specs.Plays.{AreFaultsOf, IsClosingFault, IsEndFault, IsStopOf, IsUnstopped, served_end}
 use Rattle.ufs_engine.specs.declared.playing.PlayFault.{PlayFault}
 use Rattle.ufs_engine.specs.declared.playing.PlayFault.TheVariants as ending
+use Rattle.ufs_server.specs.Sizes.{total_size}
 use Rattle.ufs_session.specs.Played.{IsPlayedFrom}
 use Rattle.ufs_session.specs.Told.{AreFaultsTold, AreToldStop, HasRisen, IsCountStill, IsReadFault, IsStopFault}
 use Rattle.ufs_start.specs.declared.fault.StartFault.{StartFault}
@@ -70,6 +72,19 @@ pub both_ok : {T : Type 0} {E F : Type 0} {P Q : Type 0} (ended : Result T E) (c
 both_ok (Ok x) (Ok y) leads done on = leads on
 both_ok (Ok x) (Err fault) leads done on = let no : false ≡ true = done in cc
 both_ok (Err fault) closed leads done on = tt
+
+-- ---- how large the files are
+
+-- who ended badly didn't end well
+pub never_ended : (fault : EndFault) → ◌≡◌ {A = Result (Unit {0}) EndFault} (Err fault) (Ok tt) → ⊥
+never_ended fault e = cc
+
+-- the number that is told is the one that was found
+pub bytes_told : (ended : Result (Unit {0}) EndFault) (total : Result ℕ Memory) (t : PosixTree) → OnOk ended (IsOk total) → IfOk total (λ n. n ≡ total_size t) → (bytes : ℕ) → IfOk total (λ n. bytes ≡ n)
+    → ended ≡ Ok tt → bytes ≡ total_size t
+bytes_told (Ok x) (Ok n) t found is bytes told ok = told ∙ is
+bytes_told (Ok x) (Err memory) t found is bytes told ok = let no : false ≡ true = found in cc
+bytes_told (Err fault) total t found is bytes told ok = absurd (never_ended fault ok)
 
 pub none_twice : IsDistinct nat_eq []
 unfolding IsDistinct

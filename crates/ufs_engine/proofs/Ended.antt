@@ -66,7 +66,7 @@ module _ (g : Geometry) (sectors : ℕ) (s : StoreState) (start : PosixTree) (hi
 module _ (g : Geometry) (explains : OnDiskIsExplained g) (is_proper : OnDiskIsProper g) (is_last : AllIsLast g) (sectors : ℕ) (s : StoreState) (start : PosixTree) (history : List Entry) (p : Parts)
     (formed : geometry_of_store s ≡ g) (size : s.sectors ≡ sectors) (all : HasAll s start history p) (before after : Moments) (same : before ≡ s.moments)
     (given : ℕ) (sized : given ≡ s.sectors) (keeps : Bool) (cleans : Leaves (IsProperImage given) before.state → LeavesOnly keeps (OpensAsLeft given before.state) before after) where
-  proper_given : Leaves (IsProperImage given) before.state
+  pub proper_given : Leaves (IsProperImage given) before.state
   proper_given = stays_proper g given s start history p (inl all.going) formed (sym sized) before same is_proper
 
   as_left : LeavesOnly keeps (OpensAsLeft sectors before.state) before after

@@ -6,3 +6,5 @@ mod Seen
 pub mod Ended
 pub mod EndLemmas
 pub mod StampedLemmas
+mod Numbers
+mod ClosedNumbers

@@ -2,3 +2,4 @@ pub mod Begins
 pub mod Laws
 pub mod Closes
 pub mod Plays
+pub mod Numbers

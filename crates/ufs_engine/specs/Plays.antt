@@ -7,13 +7,14 @@ use Rattle.ufs_disk.specs.Disk.{State}
 use Rattle.ufs_disk.specs.Moments.{Moments, all}
 use Rattle.ufs_client.specs.declared.played.EndFault.{EndFault}
 use Rattle.ufs_client.specs.declared.played.EndFault.TheVariants as session
-use Rattle.ufs_model.specs.History.{joined}
+use Rattle.ufs_model.specs.History.{joined, tree_after}
 use Rattle.ufs_model.specs.PosixTree.{PosixTree}
 use Rattle.ufs_model.specs.declared.data.Entry.{Entry}
 use Rattle.ufs_model.specs.declared.data.Op.{Op}
 use Rattle.ufs_engine.specs.declared.playing.PlayFault.{PlayFault}
 use Rattle.ufs_engine.specs.declared.playing.PlayFault.TheVariants.{Image, Device, Stopped, Lack}
 use Rattle.ufs_recovery.specs.Recovered.{IsProperDisk}
+use Rattle.ufs_server.specs.Sizes.{total_size}
 use Rattle.ufs_session.specs.Played.{IsPlayedFrom}
 use Rattle.ufs_session.specs.Throughout.{AreMomentsStamped}
 use Rattle.ufs_session.specs.Told.{AreToldStop, HasRisen, IsCountStill, devices_in}
@@ -75,6 +76,12 @@ IsEndFault before now history (Err _) = Unit {0}
 -- They are one history of these clients' requests from this tree on, by how the session ended.
 abbrev pub ArePlayedFrom : PosixTree → List (List Op) → List (List Entry) → Result (Unit {0}) PlayFault → Type 0
 ArePlayedFrom start clients told result = IsPlayedFrom start clients told (served_end result) (joined told)
+
+-- ---- sizes
+
+-- Behind a session that was served to its end all files together have so many bytes.
+abbrev pub HasBytes : PosixTree → List Entry → Result (Unit {0}) EndFault → ℕ → Type 0
+HasBytes start history ended bytes = ended ≡ Ok tt → bytes ≡ total_size (tree_after start history)
 
 -- ---- the stamps of a session's hand
 

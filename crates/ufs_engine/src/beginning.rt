@@ -1,5 +1,6 @@
 ghost use Rattle.std.specs.Prelude.{ℕ, ◌≡◌, [], None, Ok, Err, IsTrue, IfOk, IfErr, OnOk};
 ghost use Rattle.ufs_engine.specs.Begins.{BeginsWith, TellsNoSession};
+ghost use Rattle.ufs_engine.specs.Numbers.{BeginsFrom, GoesOnFrom};
 ghost use Rattle.ufs_disk.specs.Moments.{reads};
 ghost use Rattle.ufs_catalog.specs.Faults.{HasFaultCause, IsOutside};
 ghost use Rattle.ufs_catalog.specs.declared.fault.RecoverFault.{RecoverFault};
@@ -81,6 +82,7 @@ pub fn begin<D: Disk>(alloc: Global, mut disk: D) -> Result<Begun<D>, Unbegun<D>
     ensures visible { IsTrue D.visible → IsProperDisk (D.size disk) (D.moments disk).state → IfOk result (λ b. IsDiskVisible b.opened.start) }
     // where the session's start says that the disk was proper just before its image was marked in use
     ensures seen { IfOk result (λ b. IsDiskVisible b.opened.start → IsTrue D.visible × IsOnDisk (⟦<Store<D> as Door>⟧.store b.store) b.opened.start.tree [] b.server) }
+    ensures numbers { IsTrue D.visible → IsProperDisk (D.size disk) (D.moments disk).state → IfOk result (λ b. BeginsFrom (reads (D.moments disk)) (⟦<Store<D> as Door>⟧.store b.store)) }
 {
     a_request_keeps_the_tree();
     match recovered_start(alloc, &mut disk) {
@@ -113,6 +115,7 @@ fn mount<D: Disk>(alloc: Global, disk: D, parts: Start) -> Result<Begun<D>, Unbe
     ensures visible { IsTrue D.visible → IsCleanDisk (D.size disk) (D.moments disk).state → IsBegun (D.size disk) (reads (D.moments disk)) parts → IfOk result (λ b. IsDiskVisible b.opened.start) }
     ensures seen { (IsTrue D.visible → IsBegun (D.size disk) (reads (D.moments disk)) parts)
         → IfOk result (λ b. IsDiskVisible b.opened.start → IsTrue D.visible × IsOnDisk (⟦<Store<D> as Door>⟧.store b.store) b.opened.start.tree [] b.server) }
+    ensures numbers { (image : Image) → IsBegun (D.size disk) image parts → IfOk result (λ b. GoesOnFrom image (⟦<Store<D> as Door>⟧.store b.store)) }
 {
     let superblock = parts.superblock.superblock;
     a_request_keeps_the_tree();

@@ -1,5 +1,10 @@
-ghost use Rattle.std.specs.Prelude.{ℕ, ◌≡◌, ◌↔◌, List, Some, None, Err, IsTrue, IfErr, OnOk};
-ghost use Rattle.ufs_catalog.specs.Faults.{HasFaultCause};
+ghost use Rattle.std.specs.Prelude.{ℕ, ◌≡◌, ◌↔◌, List, Some, None, Err, IsTrue, IfErr, OnOk, false};
+ghost use Rattle.ufs_base.specs.declared.lack.Lack.{Lack};
+ghost use Rattle.ufs_base.specs.declared.lack.Lack.TheVariants as lack;
+ghost use Rattle.ufs_catalog.specs.Faults.{HasFaultCause, IsOutside};
+ghost use Rattle.ufs_catalog.specs.declared.fault.RecoverFault.TheVariants as recovery;
+ghost use Rattle.ufs_engine.specs.Numbers.{ClosesFrom};
+ghost use Rattle.ufs_image.specs.Volume.{superblock_of};
 ghost use Rattle.ufs_engine.specs.Closes.{OpensAsLeft, closing_fault, device_told_by, stopped_at};
 ghost use Rattle.ufs_engine.specs.declared.closing.CloseFault.TheVariants as cause;
 ghost use Rattle.ufs_disk.specs.Disk.{Leaves};
@@ -9,7 +14,7 @@ ghost use Rattle.ufs_last.specs.Last.{StandsForTree};
 ghost use Rattle.ufs_model.specs.History.{tree_after};
 ghost use Rattle.ufs_model.specs.PosixTree.{PosixTree};
 ghost use Rattle.ufs_model.specs.declared.data.Entry.{Entry};
-ghost use Rattle.ufs_recovery.specs.Recovered.{IsCleanDisk};
+ghost use Rattle.ufs_recovery.specs.Recovered.{IsCleanDisk, IsRecovered};
 ghost use Rattle.ufs_server.specs.Answered.{device_of, stopped_of};
 ghost use Rattle.ufs_store.specs.Refusals.{IsTold};
 ghost use Rattle.ufs_store.specs.State.{geometry_of_store};
@@ -59,6 +64,8 @@ pub fn close<D: Disk>(alloc: Global, server: DiskServer, store: Store<D>) -> Clo
     ensures size { D.size result.disk ≡ (⟦<Store<D> as Door>⟧.store store).sectors }
     ensures cause { IsTold (⟦<Store<D> as Door>⟧.store store).faults (D.faults result.disk) (closing_fault result.ended) }
     ensures stopped { (fault : ℕ) → (result.ended ≡ Err (cause.Stopped fault)) ↔ ((⟦<Store<D> as Door>⟧.store store).stop ≡ Some fault) }
+    ensures numbers { IsTrue D.visible → OnOk result.ended ((start : PosixTree) (history : List Entry) → IsOnDisk (⟦<Store<D> as Door>⟧.store store) start history server
+        → ClosesFrom (⟦<Store<D> as Door>⟧.store store) (reads (D.moments result.disk))) }
 {
     let geometry = store.geometry();
     on_disk_law(&geometry);
@@ -84,6 +91,8 @@ fn clean<D: Disk>(alloc: Global, disk: &mut D) -> Result<(), CloseFault>
     ensures size { D.size disk.new ≡ D.size disk.old }
     ensures cause { IsTold (D.faults disk.old) (D.faults disk.new) (closing_fault result) }
     ensures going { IfErr result (λ fault. stopped_at fault ≡ None) }
+    ensures recovered { IsTrue D.visible → OnOk result (Leaves (IsProperImage (D.size disk.old)) (D.moments disk.old).state → (superblock_of (reads (D.moments disk.old))).clean ≡ false
+        → IsRecovered (reads (D.moments disk.old)) (reads (D.moments disk.new))) }
 {
     if let Err(fault) = disk.barrier() {
         return Err(CloseFault::Device {
@@ -100,6 +109,8 @@ fn clean<D: Disk>(alloc: Global, disk: &mut D) -> Result<(), CloseFault>
 fn unclean(fault: RecoverFault) -> CloseFault
     ensures cause { (before now : ℕ) → HasFaultCause before now fault → IsTold before now (device_told_by result) }
     ensures going { stopped_at result ≡ None }
+    ensures lack { (w : Lack) → fault ≡ recovery.Lack w → result ≡ cause.Lack w }
+    ensures unsound { (IsOutside fault → ⊥) → result ≡ cause.Lack lack.Unsound }
 {
     match fault {
         RecoverFault::Device { fault } => CloseFault::Device { fault },
@@ -113,6 +124,7 @@ fn unclean(fault: RecoverFault) -> CloseFault
 fn fault_of(excuse: Excuse) -> CloseFault
     ensures device { device_told_by result ≡ device_of excuse }
     ensures stopped { stopped_at result ≡ stopped_of excuse }
+    ensures lack { device_of excuse ≡ None → stopped_of excuse ≡ None → result ≡ cause.Lack lack.Told }
 {
     match excuse {
         Excuse::Device { fault } => CloseFault::Device { fault },

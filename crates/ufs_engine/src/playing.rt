@@ -1,5 +1,5 @@
 // Playing a script on one thread.
-ghost use Rattle.std.specs.Prelude.{ℕ, ◌≡◌, ◌≢◌, ◌⊎◌, [], Err, IsOk, IsTrue, OnOk};
+ghost use Rattle.std.specs.Prelude.{ℕ, ◌≡◌, ◌≢◌, ◌⊎◌, [], Err, IfOk, IsOk, IsTrue, OnOk, length};
 ghost use Rattle.ufs_engine.specs.Begins.{BeginsWith, HasNothingOpen, TellsNoSession};
 ghost use Rattle.ufs_disk.specs.Disk.{Leaves};
 ghost use Rattle.ufs_disk.specs.Moments.{reads};
@@ -15,7 +15,8 @@ ghost use Rattle.ufs_ledger.specs.Kept.{OpensExplained};
 ghost use Rattle.ufs_model.specs.History.{AreTicketsOnce, joined, tree_after};
 ghost use Rattle.ufs_model.specs.PosixTree.{PosixTree};
 ghost use Rattle.ufs_opening.specs.Told.{TellsWhy};
-ghost use Rattle.ufs_engine.specs.Plays.{AreFaultsOf, IsEndFault, IsStampedThroughout, MayPlay, served_end};
+ghost use Rattle.ufs_engine.specs.Numbers.{RaisesNumbers};
+ghost use Rattle.ufs_engine.specs.Plays.{AreFaultsOf, HasBytes, IsEndFault, IsStampedThroughout, MayPlay, served_end};
 ghost use Rattle.ufs_engine.specs.declared.playing.PlayFault.TheVariants as ending;
 ghost use Rattle.ufs_recovery.specs.Recovered.{IsCleanDisk};
 ghost use Rattle.ufs_session.specs.Played.{IsPlayedFrom};
@@ -27,7 +28,7 @@ ghost use Rattle.ufs_start.specs.declared.fault.StartFault.TheVariants as start;
 use crate::beginning::{Begun, begin};
 use crate::closing::{CloseFault, close};
 use std::alloc::Global;
-use ufs_base::Lack;
+use ufs_base::{Lack, Memory};
 use ufs_catalog::RecoverFault;
 use ufs_client::{EndFault, ToldLists};
 use ufs_disk::Disk;
@@ -52,6 +53,8 @@ pub enum PlayFault {
 #[derive(Drop)]
 pub struct Played<D: Disk> {
     pub told: ToldLists,
+    /// How large all files are together at the end.
+    pub bytes: u128,
     pub ended: Result<(), PlayFault>,
     pub disk: D,
 }
@@ -65,7 +68,7 @@ pub struct Played<D: Disk> {
 /// entries, for each number of them from one stamp of the session's hand to another.
 pub fn play<D: Disk>(alloc: Global, script: Script, _lease: u32, disk: D) -> Played<D>
     // over any disk: some tree gives the replies, in which nothing is open
-    ensures legal { (start : PosixTree) × HasNothingOpen start × IsPlayedFrom start script.clients result.told (served_end result.ended) (joined result.told) }
+    ensures legal { (start : PosixTree) × HasNothingOpen start × IsPlayedFrom start script.clients result.told (served_end result.ended) (joined result.told) × HasBytes start (joined result.told) (served_end result.ended) result.bytes }
     ensures once { AreTicketsOnce (joined result.told) }
     ensures refused { (fault : StartFault) → result.ended ≡ Err (ending.Image fault) → result.told ≡ [] }
     ensures outside { (w : Lack) → result.ended ≢ Err (ending.Image (start.Image (image.Lack w))) }
@@ -80,6 +83,8 @@ pub fn play<D: Disk>(alloc: Global, script: Script, _lease: u32, disk: D) -> Pla
     // over a proper visible disk: the tree that its image stands for gives them
     ensures played { MayPlay D.visible (D.size disk) (D.moments disk).state → (start : PosixTree) → BeginsWith (D.size disk) (reads (D.moments disk)) start
         → IsPlayedFrom start script.clients result.told (served_end result.ended) (joined result.told) }
+    ensures sized { MayPlay D.visible (D.size disk) (D.moments disk).state → (start : PosixTree) → BeginsWith (D.size disk) (reads (D.moments disk)) start
+        → HasBytes start (joined result.told) (served_end result.ended) result.bytes }
     ensures opened { MayPlay D.visible (D.size disk) (D.moments disk).state → (start : PosixTree) × BeginsWith (D.size disk) (reads (D.moments disk)) start }
     ensures crash { MayPlay D.visible (D.size disk) (D.moments disk).state → (start : PosixTree) → BeginsWith (D.size disk) (reads (D.moments disk)) start
         → Leaves (OpensExplained (D.size disk) start (joined result.told)) (D.moments result.disk).state }
@@ -92,6 +97,7 @@ pub fn play<D: Disk>(alloc: Global, script: Script, _lease: u32, disk: D) -> Pla
     ensures last { MayPlay D.visible (D.size disk) (D.moments disk).state → (start : PosixTree) → BeginsWith (D.size disk) (reads (D.moments disk)) start
         → OnOk result.ended (StandsForTree (D.size disk) (tree_after start (joined result.told)) (reads (D.moments result.disk))) }
     ensures why { MayPlay D.visible (D.size disk) (D.moments disk).state → (fault : StartFault) → result.ended ≡ Err (ending.Image fault) → TellsNoSession (D.size disk) (reads (D.moments disk)) fault }
+    ensures numbers { MayPlay D.visible (D.size disk) (D.moments disk).state → OnOk result.ended (RaisesNumbers (length (joined result.told)) (reads (D.moments disk)) (reads (D.moments result.disk))) }
 {
     match begin(alloc, disk) {
         Ok(begun) => {
@@ -101,15 +107,19 @@ pub fn play<D: Disk>(alloc: Global, script: Script, _lease: u32, disk: D) -> Pla
                 opened,
             } = begun;
             let Served { session, door } = serve(alloc, opened, &mut server, store, script.clients);
+            let total = server.total_size();
             let closed = close(alloc, server, door);
+            let served = measured_end(session.ended, total);
             Played {
                 told: session.told,
-                ended: whole_end(session.ended, closed.ended),
+                bytes: bytes_of(total),
+                ended: whole_end(served, closed.ended),
                 disk: closed.disk,
             }
         }
         Err(unbegun) => Played {
             told: ToldLists::from_vec(Vec::new(alloc)),
+            bytes: 0,
             ended: Err(unbegun_end(unbegun.fault)),
             disk: unbegun.disk,
         },
@@ -124,6 +134,26 @@ fn unbegun_end(fault: StartFault) -> PlayFault
     match fault {
         StartFault::Image(RecoverFault::Lack(lack)) => PlayFault::Lack(lack),
         fault => PlayFault::Image(fault),
+    }
+}
+
+// How a session was served, behind which so many bytes were found, if there was memory to tell.
+fn measured_end(served: Result<(), EndFault>, total: Result<u128, Memory>) -> Result<(), EndFault>
+    ensures served { OnOk result (IsOk served) }
+    ensures total { OnOk result (IsOk total) }
+{
+    match total {
+        Ok(_) => served,
+        Err(memory) => Err(EndFault::Memory(memory)),
+    }
+}
+
+fn bytes_of(total: Result<u128, Memory>) -> u128
+    ensures { IfOk total (λ bytes. result ≡ bytes) }
+{
+    match total {
+        Ok(bytes) => bytes,
+        Err(_) => 0,
     }
 }
 

@@ -5,6 +5,7 @@ ghost use Rattle.ufs_catalog.specs.declared.fault.RecoverFault.{RecoverFault};
 ghost use Rattle.ufs_disk.specs.Moments.{reads};
 ghost use Rattle.ufs_engine.specs.Begins as begins;
 ghost use Rattle.ufs_engine.specs.Begins.{TellsNoSession};
+ghost use Rattle.ufs_engine.specs.Numbers.{IsMendedBy};
 ghost use Rattle.ufs_image.specs.Opens.{ImageTree, opens};
 ghost use Rattle.ufs_image.specs.Volume.{Refusal};
 ghost use Rattle.ufs_opening.specs.Told.{TellsWhy};
@@ -32,6 +33,7 @@ pub(crate) fn recovered_start<D: Disk>(alloc: Global, disk: &mut D) -> Result<St
     ensures size { D.size disk.new ≡ D.size disk.old }
     ensures passed { OnOk result (D.faults disk.new ≡ D.faults disk.old) }
     ensures cause { IfErr result (HasStartCause (D.faults disk.old) (D.faults disk.new)) }
+    ensures numbers { IsTrue D.visible → IsProperDisk (D.size disk.old) (D.moments disk.old).state → OnOk result (IsMendedBy 2 (reads (D.moments disk.old)) (reads (D.moments disk.new))) }
 {
     match recover(alloc, disk) {
         Ok(_transactions) => mended_start(alloc, disk),
@@ -48,6 +50,7 @@ fn mended_start<D: Disk>(alloc: Global, disk: &mut D) -> Result<Start, StartFaul
     ensures size { D.size disk.new ≡ D.size disk.old }
     ensures passed { OnOk result (D.faults disk.new ≡ D.faults disk.old) }
     ensures cause { IfErr result (HasStartCause (D.faults disk.old) (D.faults disk.new)) }
+    ensures numbers { IsTrue D.visible → IsCleanDisk (D.size disk.old) (D.moments disk.old).state → OnOk result (IsMendedBy 1 (reads (D.moments disk.old)) (reads (D.moments disk.new))) }
 {
     match start_of(alloc, disk) {
         Ok(start) => Ok(start),
@@ -82,6 +85,7 @@ fn freed_start<D: Disk>(alloc: Global, disk: &mut D) -> Result<Start, StartFault
     ensures size { D.size disk.new ≡ D.size disk.old }
     ensures passed { OnOk result (D.faults disk.new ≡ D.faults disk.old) }
     ensures cause { IfErr result (HasStartCause (D.faults disk.old) (D.faults disk.new)) }
+    ensures numbers { IsTrue D.visible → IsProperDisk (D.size disk.old) (D.moments disk.old).state → OnOk result (IsMendedBy 1 (reads (D.moments disk.old)) (reads (D.moments disk.new))) }
 {
     match free_unneeded(alloc, disk) {
         Ok(()) => start_of(alloc, disk),

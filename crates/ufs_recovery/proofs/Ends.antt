@@ -135,6 +135,9 @@ module _ (sectors : ℕ) (image : Image) (v : FoldedVolume) (is : volume sectors
   pub log_same : committed_in v image ≡ log_of image
   log_same = ap (λ (u : Volume). committed u.geometry u.superblock.epoch image) (taken sectors image (volume_in v image) is).same
 
+  folded_same : folded_image v image ≡ (volume_of (superblock_of image) image).image
+  folded_same = ap (λ (u : Volume). u.image) (taken sectors image (volume_in v image) is).same
+
   -- without blame it opens
   pub opens_there : bad_tree v.superblock.geometry (folded_image v image) ≡ None → (tree : ImageTree) × (opens sectors image ≡ Ok tree)
   opens_there whole = (from_entries (walked (volume_in v image)), ap (λ r. tree_from (entries_of r)) is ∙ ap (λ b. tree_from (by_damage (volume_in v image) b)) whole)
@@ -152,24 +155,25 @@ module _ (sectors : ℕ) (image : Image) (v : FoldedVolume) (is : volume sectors
     none_later = none_later image (volume_in v image) (proper_of sectors image (volume_in v image) is proper);
   }
 
-  pub is_recovered : v.highest ≡ highest_number (committed_in v image) → (after : Image) → IsWrittenBack sectors v.superblock.superblock v.highest after → IsRecovered image after
-  is_recovered highest after written = of (subst (λ h. IsWrittenBack sectors h v.highest after) superblock_same written)
+  pub is_recovered : v.highest ≡ highest_number (committed_in v image) → (after : Image) → IsWrittenBack sectors v.superblock.superblock (folded_image v image) v.highest after → IsRecovered image after
+  is_recovered highest after written = of (subst (λ (x : Super × Image). IsWrittenBack sectors x.0 x.1 v.highest after) (λ i. (superblock_same i, folded_same i)) written)
     where
       is_highest : v.highest ≡ highest_number (log_of image)
       is_highest = highest ∙ ap highest_number log_same
 
-      of : IsWrittenBack sectors (superblock_of image) v.highest after → IsRecovered image after
+      of : IsWrittenBack sectors (superblock_of image) (volume_of (superblock_of image) image).image v.highest after → IsRecovered image after
       of w = record {
         superblock = w.superblock_is;
         known = w.known;
         inodes = w.inodes;
         logged = (all_below 0 (superblock_of after).next (log_of image) (subst (λ n. n < (superblock_of after).next) is_highest w.above)).1;
         least = λ n some from inodes logged. w.least n from (subst (λ h. h < n) (sym is_highest) (fold_below 0 n (log_of image) (omega (arith, some)) logged)) inodes;
+        numbers = w.numbers;
         named = w.named;
         fitted = w.fitted;
       }
 
-pub is_clean : (sectors : ℕ) (state : State) (superblock : Super) (used : ℕ) → IsSettled state → IsWrittenBack sectors superblock used (seen state) → IsCleanDisk sectors state
-is_clean sectors state superblock used settled written =
+pub is_clean : (sectors : ℕ) (state : State) (superblock : Super) (folded : Image) (used : ℕ) → IsSettled state → IsWrittenBack sectors superblock folded used (seen state) → IsCleanDisk sectors state
+is_clean sectors state superblock folded used settled written =
     let clean : (superblock_of (seen state)).clean ≡ true = ap (λ (h : Super). h.clean) written.superblock_is in
     record { proper = record { settled = settled; proper = written.proper }; clean = clean; empty = none_in_clean sectors (seen state) written.proper clean }

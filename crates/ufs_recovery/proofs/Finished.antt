@@ -117,16 +117,18 @@ module _ (sectors : ℕ) (image : Image) (v : FoldedVolume) (findings : CatalogR
       same_geometry : geometry_of superblock ≡ geometry_of v.superblock.superblock
       same_geometry = geometry ∙ of_superblock
 
+      number_back : (k : ℕ) → (form_at (geometry_of superblock) mid k).number ≡ (form_at (geometry_of superblock) (folded_image v image) k).number
+      number_back k = ap (λ (f : InodeForm). f.number) (form_alike (geometry_of superblock) (folded_image v image) mid (λ s from. begun.same s (λ zero. omega (arith, zero, from))) k)
+
       -- the numbers that the inodes had are those that they have
       numbers_back : (n : ℕ) → AreInodesBelow (geometry_of superblock) after n → AreInodesBelow (geometry_of superblock) (folded_image v image) n
       numbers_back n each k ranged =
           let now = each k ranged in
           let was = finished.numbers k ranged in
-          let same : (form_at (geometry_of superblock) mid k).number ≡ (form_at (geometry_of superblock) (folded_image v image) k).number =
-          ap (λ (f : InodeForm). f.number) (form_alike (geometry_of superblock) (folded_image v image) mid (λ s from. begun.same s (λ zero. omega (arith, zero, from))) k) in
+          let same = number_back k in
           omega (arith, now, was, same)
 
-      pub is_written : IsWrittenBack sectors v.superblock.superblock used after
+      pub is_written : IsWrittenBack sectors v.superblock.superblock (folded_image v image) used after
       is_written = record {
         proper = finished.proper;
         superblock_is = superblocks ∙ (λ i. record {
@@ -146,6 +148,7 @@ module _ (sectors : ℕ) (image : Image) (v : FoldedVolume) (findings : CatalogR
         least = λ n from over each.
             let most = least n from over (subst (λ h. AreInodesBelow h (folded_image v image) n) geometry (numbers_back n (subst (λ h. AreInodesBelow h after n) (sym same_geometry) each))) in
             omega (arith, most, next_is);
+        numbers = subst (λ h. (k : ℕ) → IsInode h k → (form_at h after k).number ≡ (form_at h (folded_image v image) k).number) same_geometry (λ k ranged. finished.numbers k ranged ∙ number_back k);
         named = subst (λ h. HasNoOrphans h after) same_geometry finished.named;
         fitted = subst (λ h. AreFitted h after) same_geometry finished.fitted;
       }

@@ -36,12 +36,12 @@ module _ (keeps : Bool) (sectors now : ℕ) (same : now ≡ sectors) (old mid ne
   kept_behind leads proper =
       kept_on keeps sectors old mid new (keeps_settled keeps sectors old mid proper.settled read.crash) (subst (λ n. KeepsTree keeps n mid new) same (behind leads proper))
 
-  module _ (written : IsSettled mid.state → MayWriteBack now (reads mid) v findings → IsWrittenBack now v.superblock.superblock v.highest (reads new)) (proper : IsProperDisk sectors old.state) where
-    written_here : IsWrittenBack sectors v.superblock.superblock v.highest (reads new)
-    written_here = subst (λ n. IsWrittenBack n v.superblock.superblock v.highest (reads new)) same (behind written proper)
+  module _ (written : IsSettled mid.state → MayWriteBack now (reads mid) v findings → IsWrittenBack now v.superblock.superblock (folded_image v (reads mid)) v.highest (reads new)) (proper : IsProperDisk sectors old.state) where
+    written_here : IsWrittenBack sectors v.superblock.superblock (folded_image v (reads old)) v.highest (reads new)
+    written_here = subst (λ (x : ℕ × Image). IsWrittenBack x.0 v.superblock.superblock (folded_image v x.1) v.highest (reads new)) (λ i. (same i, read.content i)) (behind written proper)
 
     pub clean_behind : IsSettled new.state → IsCleanDisk sectors new.state
-    clean_behind settled = is_clean sectors new.state v.superblock.superblock v.highest settled written_here
+    clean_behind settled = is_clean sectors new.state v.superblock.superblock (folded_image v (reads old)) v.highest settled written_here
 
     pub recovered_behind : IsRecovered (reads old) (reads new)
     recovered_behind = is_recovered sectors (reads old) v is.taken is.highest (reads new) written_here

@@ -62,13 +62,15 @@ pub record MayWriteBack (sectors : ℕ) (image : Image) (v : FoldedVolume) (find
   pub none_later : (sector : ℕ) → IsOfJournal v.superblock.geometry sector → epoch_in (image sector) ≤ v.superblock.superblock.epoch
 
 -- The image is clean and proper in the next epoch, without orphans and with no block too many, and its next commit number is
--- the least above this one, which was used, and above those of all inodes that isn't below the one it had.
-pub record IsWrittenBack (sectors : ℕ) (superblock : Super) (used : ℕ) (after : Image) : Type 0 where
+-- the least above this one, which was used, and above those of all inodes that isn't below the one it had. The inodes have the
+-- numbers that they had in the image as its transactions left it.
+pub record IsWrittenBack (sectors : ℕ) (superblock : Super) (folded : Image) (used : ℕ) (after : Image) : Type 0 where
   pub proper : IsProperImage sectors after
   pub superblock_is : superblock_of after ≡ record superblock { version = 1; epoch = superblock.epoch + 1; next = (superblock_of after).next; clean = true }
   pub known : superblock.next ≤ (superblock_of after).next
   pub above : used < (superblock_of after).next
   pub inodes : (inode : ℕ) → IsInode (geometry_of superblock) inode → (form_at (geometry_of superblock) after inode).number < (superblock_of after).next
   pub least : (n : ℕ) → superblock.next ≤ n → used < n → AreInodesBelow (geometry_of superblock) after n → (superblock_of after).next ≤ n
+  pub numbers : (inode : ℕ) → IsInode (geometry_of superblock) inode → (form_at (geometry_of superblock) after inode).number ≡ (form_at (geometry_of superblock) folded inode).number
   pub named : HasNoOrphans (geometry_of superblock) after
   pub fitted : AreFitted (geometry_of superblock) after

@@ -13,7 +13,7 @@ use Rattle.ufs_image.specs.Images.{form_at}
 use Rattle.ufs_image.specs.Journal.{committed}
 use Rattle.ufs_image.specs.Nodes.{blocks_of}
 use Rattle.ufs_image.specs.Proper.{IsProperImage}
-use Rattle.ufs_image.specs.Volume.{superblock_of}
+use Rattle.ufs_image.specs.Volume.{superblock_of, volume_of}
 use Rattle.ufs_model.specs.Excuses as excuses
 
 -- Nothing is pending, and what the disk reads is proper.
@@ -46,13 +46,16 @@ abbrev pub AreCommitsBelow : List Committed → ℕ → Type 0
 AreCommitsBelow log n = AllByRecursion (λ (c : Committed). c.number < n) log
 
 -- What was in use is clean, in the next epoch, its next commit number is the least that isn't below the one it had and is above those
--- of all inodes and of all transactions that were committed, no inode is used without a name, and no file has a block that its size doesn't need.
+-- of all inodes and of all transactions that were committed, each inode has the number that it had as those left it, no inode is used without a
+-- name, and no file has a block that its size doesn't need.
 pub record IsRecovered (before after : Image) : Type 0 where
   pub superblock : superblock_of after ≡ record (superblock_of before) { version = 1; epoch = (superblock_of before).epoch + 1; next = (superblock_of after).next; clean = true }
   pub known : (superblock_of before).next ≤ (superblock_of after).next
   pub inodes : (inode : ℕ) → IsInode (geometry_of (superblock_of before)) inode → (form_at (geometry_of (superblock_of before)) after inode).number < (superblock_of after).next
   pub logged : AllByRecursion (λ (c : Committed). c.number < (superblock_of after).next) (log_of before)
   pub least : (n : ℕ) → 1 ≤ n → (superblock_of before).next ≤ n → AreInodesBelow (geometry_of (superblock_of before)) after n → AreCommitsBelow (log_of before) n → (superblock_of after).next ≤ n
+  pub numbers : (inode : ℕ) → IsInode (geometry_of (superblock_of before)) inode
+      → (form_at (geometry_of (superblock_of before)) after inode).number ≡ (form_at (geometry_of (superblock_of before)) (volume_of (superblock_of before) before).image inode).number
   pub named : HasNoOrphans (geometry_of (superblock_of before)) after
   pub fitted : AreFitted (geometry_of (superblock_of before)) after
 

@@ -7,6 +7,7 @@ ghost use Rattle.ufs_layout.specs.Areas.{IsGeometry, sector_count};
 ghost use Rattle.ufs_layout.specs.Superblock.{is_super};
 ghost use Rattle.ufs_recovery.specs.Finished.{HasFinished, IsWrittenBack, MayFinish, MayWriteBack};
 ghost use Rattle.ufs_recovery.specs.Home.{KeepsTree};
+ghost use Rattle.ufs_volume.specs.Volumes.{folded_image};
 
 use crate::faults::of_device;
 use crate::freeing::tidy;
@@ -61,7 +62,7 @@ pub(crate) fn write_back<D: Disk>(
     requires read { length findings.now.forms ≡ volume.now.superblock.geometry.inodes }
     ensures settled { IsTrue D.visible → OnOk result (IsSettled (D.moments disk.new).state) }
     ensures written { IsTrue D.visible → OnOk result (IsSettled (D.moments disk.old).state → MayWriteBack (D.size disk.old) (reads (D.moments disk.old)) volume.now findings.now
-        → IsWrittenBack (D.size disk.old) volume.now.superblock.superblock volume.now.highest (reads (D.moments disk.new))) }
+        → IsWrittenBack (D.size disk.old) volume.now.superblock.superblock (folded_image volume.now (reads (D.moments disk.old))) volume.now.highest (reads (D.moments disk.new))) }
     ensures tree { IsTrue D.visible → IsSettled (D.moments disk.old).state → MayWriteBack (D.size disk.old) (reads (D.moments disk.old)) volume.now findings.now
         → KeepsTree D.keeps (D.size disk.old) (D.moments disk.old) (D.moments disk.new) }
     ensures size { D.size disk.new ≡ D.size disk.old }

@@ -1,10 +1,13 @@
 -- A request on a file of a server: its pool gets what the store has, the file is taken out, served, and put back.
-use Rattle.std.proofs.Common.{◌≡◌, ℕ, Bool, true, false, Option, Some, None, List, [], ◌∷◌, ◌++◌, ap, sym, refl, ◌∙◌, subst}
+use Rattle.std.proofs.Common.{◌≡◌, ℕ, ◌⊎◌, inl, inr, Bool, true, false, ◌||◌, Option, Some, None, List, [], ◌∷◌, ◌++◌, ap, sym, refl, ◌∙◌, subst}
 use Rattle.std.specs.FinMap as map
+use Rattle.std.specs.FinSet as set
+use Rattle.std.specs.Ordering.{nat_cmp}
 use Rattle.std.specs.List.{slice_get}
 use Rattle.std.specs.Prelude.{unwrap_or}
 use Rattle.ufs_bitmap.specs.Blocks.{BlockSet}
-use Rattle.ufs_bitmap.specs.Taking.{IsApart}
+use Rattle.ufs_bitmap.specs.Taking.{IsApart, has}
+use Rattle.ufs_bitmap.proofs.SetLemmas.{has-union}
 use Rattle.ufs_file.specs.Content.{own_bytes}
 use Rattle.ufs_file.specs.Hand.{FileState, IsFileOf, IsOf, IsPosix}
 use Rattle.ufs_file.proofs.UnreadLemmas.{content_itself}
@@ -29,13 +32,15 @@ use Rattle.ufs_on_disk.specs.Requests.{FileRequestsGoOn, PartsByExcuses, PartsBy
 use Rattle.ufs_on_disk.specs.Syncs.{OnDiskAsTold, PutBackAsItWas}
 use Rattle.ufs_store.specs.State.{StoreState, geometry_of_store}
 use Rattle.ufs_stored.specs.OnDisk.{IsOnDisk}
-use Rattle.ufs_stored.specs.Parts.{Parts, durable_in, with_file}
+use Rattle.ufs_stored.specs.Parts.{FileOwns, Parts, durable_in, with_file}
 use Rattle.ufs_stored.specs.Sound.{IsFileSound, IsSoundServer}
 use Rattle.ufs_stored.specs.Stored.{ArePartsOf}
+use Rattle.ufs_stored.proofs.Puts.{durable_here, here}
 use Rattle.ufs_stored.proofs.Spaced.{pool_apart}
 use Rattle.ufs_server.specs.Answered.{IsAnswered}
 use Rattle.ufs_server.specs.Away.{AwayStays, ForgetsNothing}
 use Rattle.ufs_server.proofs.Away.{away_put, forgets_put}
+use Rattle.ufs_server.proofs.NamesServed.{one_on}
 
 told_named : (request : Op) (r : Reply) → is_on_file request ≡ true → fd_told request r ≡ fd_named request
 told_named (op.OpenFile path read write creat excl trunc append) r e = absurd cc
@@ -107,6 +112,25 @@ module _ {s1 : StoreState} {p1 p2 : Parts} {file : ℕ} {hand : FileState} {know
 
     of_hand : (desc_of ask.desc file served.named).0.file ≡ Some hand.file
     of_hand = told.2 ∙ ap Some (sym out.number)
+
+    -- what was the pool's is still, or is the file's
+    pub kept_free : set.union pool (set.from_list {R = nat_cmp} (blocks_held y)) ≡ set.union p2.pool (set.from_list {R = nat_cmp} (blocks_held (state_of hand known)))
+        → (b : ℕ) → set.contains p1.pool b ≡ true → (set.contains p4.pool b ≡ true) ⊎ FileOwns p4 file b
+    kept_free together b e = by (one_on (set.contains pool b) (has (blocks_held y) b) all)
+      where
+        was : (set.contains p2.pool b || has (blocks_held (state_of hand known)) b) ≡ true
+        was = ap (λ (c : Bool). c || has (blocks_held (state_of hand known)) b) (ap (λ (s : BlockSet). set.contains s b) same_pool ∙ e)
+
+        all : (set.contains pool b || has (blocks_held y) b) ≡ true
+        all = sym (has-union pool (set.from_list {R = nat_cmp} (blocks_held y)) b) ∙ ap (λ (s : BlockSet). set.contains s b) together ∙ has-union p2.pool (set.from_list {R = nat_cmp} (blocks_held (state_of hand known))) b ∙ was
+
+        by : (set.contains pool b ≡ true) ⊎ (has (blocks_held y) b ≡ true) → (set.contains p4.pool b ≡ true) ⊎ FileOwns p4 file b
+        by (inl pooled) = inl (ap (λ (p : Parts). set.contains p.pool b) final ∙ pooled)
+        by (inr held) = inr (subst (λ (p : Parts). FileOwns p file b) (sym final) (record {
+          hand = y.file;
+          here = ap (map.get (with_file y pool p1).files) (sym (served.same_number ∙ out.number)) ∙ here y pool p1;
+          held = ap (λ (x : DurableState). has (blocks_held x) b) (durable_here y pool p1) ∙ held;
+        }))
 
     back_at : map.get p1.files y.file.file ≡ Some hand
     back_at = ap (map.get p1.files) served.same_number ∙ at

@@ -1,6 +1,5 @@
 mod Asked
 mod Away
-mod Committed
 mod FileCommitting
 mod FileServing
 mod Filed
@@ -8,9 +7,11 @@ pub mod FilesAsked
 mod Gathering
 mod Holding
 mod Known
+mod Lending
 mod NamesGoOn
 mod NamesServed
 mod Replied
+mod SizeLemmas
 mod Staying
 mod Syncs
 mod Touch
@@ -18,3 +19,4 @@ mod Touching
 pub mod Beside
 pub mod FileFetching
 mod Checkpoints
+mod Raising

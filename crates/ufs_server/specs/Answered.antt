@@ -15,6 +15,11 @@ use Rattle.ufs_store.specs.State.{StoreState}
 use Rattle.ufs_stored.specs.Parts.{Parts}
 use Rattle.ufs_stored.specs.Stored.{ArePartsOf}
 
+-- The reply is the excuse that blocks are wanting.
+abbrev pub lacks_blocks : Reply → Bool
+lacks_blocks (reply.Excused (excuse.Blocks need had)) = true
+lacks_blocks _ = false
+
 -- The reply is POSIX's on the tree, and the parts go on with the tree; this is what the request's descriptor stands for
 -- afterwards.
 pub record IsAnswered (t : PosixTree) (ask : Ask) (new : Parts) (reply : Reply) (desc : Option Desc) : Type 0 where

@@ -3,4 +3,7 @@ pub mod Answered
 pub mod Touching
 pub mod Fetched
 pub mod Away
+pub mod Room
 pub mod Served
+pub mod Numbers
+pub mod Sizes

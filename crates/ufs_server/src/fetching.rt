@@ -8,6 +8,7 @@ ghost use Rattle.ufs_model.specs.PosixTree.{PosixTree};
 ghost use Rattle.ufs_model.specs.declared.data.Entry.{Entry};
 ghost use Rattle.ufs_model.specs.declared.data.Excuse.{Excuse};
 ghost use Rattle.ufs_model.specs.declared.data.Excuse.TheVariants as excuse;
+ghost use Rattle.ufs_store.specs.Numbers.{HasRaised};
 ghost use Rattle.ufs_store.specs.Refusals.{IsTold, fault_in, fault_of, is_own};
 ghost use Rattle.ufs_store.specs.State.{geometry_of_store};
 ghost use Rattle.ufs_stored.specs.OnDisk.{IsExplainedBetween, IsOnDisk};
@@ -54,6 +55,7 @@ impl DiskServer {
         ensures untold { device_told result ≡ None → ((D.store door.new).faults ≡ (D.store door.old).faults) ⊎ RoseTo (D.store door.old).faults (D.store door.new).faults (2 ^ 64 - 1) }
         ensures passed { OnOk result ((D.store door.new).faults ≡ (D.store door.old).faults) }
         ensures stop { (D.store door.new).stop ≡ (D.store door.old).stop }
+        ensures raised { HasRaised 0 0 (D.store door.old) (D.store door.new) }
     {
         let geometry = door.geometry();
         always_law(&geometry);

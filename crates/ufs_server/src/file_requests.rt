@@ -1,15 +1,21 @@
-ghost use Rattle.std.specs.Prelude.{◌≡◌, IsSome, IsTrue, true, false};
+ghost use Rattle.std.specs.Prelude.{ℕ, ◌≡◌, ◌⊎◌, ◌<◌, ◌-◌, ◌^◌, IsSome, IsTrue, true, false};
+ghost use Rattle.std.specs.FinSet as set;
 ghost use Rattle.std.specs.FinMap as map;
 ghost use Rattle.ufs_client.specs.Played.{tells_fault};
 ghost use Rattle.ufs_file.specs.Hand.{IsOf};
 ghost use Rattle.ufs_model.specs.Bounds.{IsBounded};
 ghost use Rattle.ufs_model.specs.FileCalls.{is_on_file};
 ghost use Rattle.ufs_model.specs.History.{is_excused};
+ghost use Rattle.ufs_model.specs.declared.data.Excuse.TheVariants as excuse;
+ghost use Rattle.ufs_model.specs.declared.data.Reply.TheVariants as reply;
 ghost use Rattle.ufs_on_disk.specs.Requests.{with_free};
 ghost use Rattle.ufs_prefix.specs.Changes.{asks_commit};
 ghost use Rattle.ufs_store.specs.State.{geometry_of_store};
 ghost use Rattle.ufs_stored.specs.Laws.{MovesBlocks};
+ghost use Rattle.ufs_stored.specs.Parts.{FileOwns};
 ghost use Rattle.ufs_stored.specs.Sound.{IsSoundServer};
+ghost use Rattle.ufs_server.specs.Fetched.{IsReady};
+ghost use Rattle.ufs_server.specs.Room.{IsFree};
 ghost use Rattle.ufs_server.specs.Served.{IsServedOn, KeepsPromise, StaysOnDisk};
 
 use crate::disk_server::DiskServer;
@@ -42,6 +48,12 @@ impl DiskServer {
         ensures promise { IsTrue D.visible → KeepsPromise self.old self.new (D.store door.old) (D.store door.new) D.keeps ask result.entry }
         ensures excused { IsTrue D.visible → is_excused result.entry.reply ≡ true → StaysOnDisk self.old self.new (D.store door.old) (D.store door.new) D.keeps }
         ensures calm { tells_fault result.entry.reply ≡ false }
+        // want of memory, though none is: so it is only where the request wasn't read for
+        ensures unready { (IsReady self.old ask → ⊥) → result.entry.reply ≡ reply.Excused excuse.Memory }
+        // no block is lost: what was free is so, or is the file's
+        ensures free { (block : ℕ) → IsFree self.old (D.store door.old) block → IsFree self.new (D.store door.new) block ⊎ FileOwns self.new file block }
+        // the pool has all blocks that are free, and too few
+        ensures short { (need had : ℕ) → result.entry.reply ≡ reply.Excused (excuse.Blocks need had) → (had ≡ set.len self.new.pool) × (had < need) × (set.len (D.store door.old).unassigned.free < 2 ^ 32 - 1 → (D.store door.new).unassigned.free ≡ set.empty) }
         // only free blocks go between the store and the pool
         ensures store { D.store door.new ≡ with_free (D.store door.new).unassigned.free (D.store door.old) }
     {
@@ -67,10 +79,12 @@ impl DiskServer {
         applied
     }
 
-    /// The pool gets the blocks that the store has unassigned.
+    /// The pool gets all blocks that the store has unassigned: an image has fewer than 2^32 - 1.
     pub(crate) fn gather<D: Door>(&mut self, door: &mut D)
         requires sound { IsSoundServer (geometry_of_store (D.store door.old)) (D.store door.old).unassigned.free self.old }
         ensures moved { MovesBlocks self.old.pool (D.store door.old).unassigned.free self.new.pool (D.store door.new).unassigned.free }
+        ensures kept { set.union self.new.pool (D.store door.new).unassigned.free ≡ set.union self.old.pool (D.store door.old).unassigned.free }
+        ensures all { set.len (D.store door.old).unassigned.free < 2 ^ 32 - 1 → (D.store door.new).unassigned.free ≡ set.empty }
         ensures rest { self.new ≡ record self.old { pool = self.new.pool } }
         ensures store { D.store door.new ≡ with_free (D.store door.new).unassigned.free (D.store door.old) }
     {

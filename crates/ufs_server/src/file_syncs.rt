@@ -13,6 +13,7 @@ ghost use Rattle.ufs_durable.specs.Stamping.{MayLeaveSynced};
 ghost use Rattle.ufs_durable.specs.State.{IsNoted, file_committed, state_of};
 ghost use Rattle.ufs_durable.specs.Writes.{AreDataBlocks};
 ghost use Rattle.ufs_on_disk.specs.Syncs.{HasFailed, HasSynced, HasWritten, LeavesStages};
+ghost use Rattle.ufs_store.specs.Numbers.{HasRaised};
 ghost use Rattle.ufs_store.specs.Blocks.{MayReturn};
 ghost use Rattle.ufs_store.specs.Refusals.{IsTold, stop_after};
 ghost use Rattle.ufs_store.specs.State.{geometry_of_store};
@@ -48,6 +49,7 @@ impl DiskServer {
         ensures forgotten { OnOk result ((other : ℕ) → IsSome (map.get self.new.commits other) → (other ≢ file) × IsSome (map.get self.old.commits other)) }
         ensures refused { (fault : ℕ) → (D.store door.old).stop ≡ Some fault → result ≡ Err (excuse.Stopped fault) }
         ensures ends { CommitEnds self.old self.new (D.store door.old) (D.store door.new) result }
+        ensures raised { HasRaised 1 1 (D.store door.old) (D.store door.new) }
     {
         let geometry = door.geometry();
         always_law(&geometry);
@@ -101,6 +103,7 @@ fn sync_held<D: Door>(
     ensures stopped { (fault : ℕ) → result ≢ Err (excuse.Stopped fault) }
     ensures cause { IsTold (D.store door.old).faults (D.store door.new).faults (device_told result) }
     ensures stop { (D.store door.new).stop ≡ stop_after (D.store door.old).stop (device_told result) }
+    ensures raised { HasRaised 1 1 (D.store door.old) (D.store door.new) }
 {
     fitting_law(hand);
     match fsync(door, hand, known) {

@@ -11,6 +11,7 @@ mod name_requests;
 mod needed;
 mod requests;
 mod room;
+mod sizes;
 mod space;
 mod sync_all;
 mod sync_requests;

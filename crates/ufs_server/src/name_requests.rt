@@ -1,5 +1,6 @@
-ghost use Rattle.std.specs.Prelude.{ℕ, ◌≡◌, ◌<◌, ◌≤◌, ◌+◌, ◌^◌, ◌++◌, length, vec_capacity, IsTrue, IsSome, Some, true, false};
+ghost use Rattle.std.specs.Prelude.{ℕ, ◌≡◌, ◌<◌, ◌≤◌, ◌+◌, ◌-◌, ◌^◌, ◌++◌, length, vec_capacity, IsTrue, IsSome, Some, true, false};
 ghost use Rattle.std.specs.FinMap as map;
+ghost use Rattle.std.specs.FinSet as set;
 ghost use Rattle.ufs_bitmap.specs.Blocks.{BlockSet};
 ghost use Rattle.ufs_client.specs.Played.{tells_fault};
 ghost use Rattle.ufs_file.specs.Hand.{IsEntryOf};
@@ -14,18 +15,21 @@ ghost use Rattle.ufs_model.specs.declared.data.Entry.{Entry};
 ghost use Rattle.ufs_model.specs.declared.data.Excuse.{Excuse};
 ghost use Rattle.ufs_model.specs.declared.data.Reply.TheVariants as reply;
 ghost use Rattle.ufs_names.specs.Calls.{IsOfNames, IsTouched};
+ghost use Rattle.ufs_names.specs.Space.{IsCause};
 ghost use Rattle.ufs_pouring.specs.Lent.{listed};
 ghost use Rattle.ufs_stored.specs.Sound.{IsSoundServer};
 ghost use Rattle.ufs_stored.specs.Stamping.{ExplainsAllowed};
 ghost use Rattle.ufs_stored.specs.Stored.{ArePartsOf};
-ghost use Rattle.ufs_server.specs.Answered.{IsUntold};
+ghost use Rattle.ufs_server.specs.Answered.{IsUntold, lacks_blocks};
+ghost use Rattle.ufs_server.specs.Room.{HasRoomBut, IsPoolLent, IsShort, SpendsFree};
 ghost use Rattle.ufs_server.specs.Served.{IsServedOn, KeepsPromise, MayServe, StaysOnDisk};
 ghost use Rattle.ufs_server.specs.Touching.{AreReadied, IsFileTouched, IsServedByNames, file_touched};
+ghost use Rattle.ufs_store.specs.Numbers.{HasRaised};
 
 use crate::disk_server::DiskServer;
 use crate::touched::Touched;
 use ufs_base::Lack;
-use ufs_file::{Applied, out_of_memory};
+use ufs_file::{Applied, answered, out_of_memory};
 use ufs_model::{Actor, Ask, Entry, Excuse, Reply};
 use ufs_names_stored::{names_request_law, served_names_law};
 use ufs_on_disk::{file_request_law, told_law};
@@ -52,12 +56,18 @@ impl DiskServer {
         ensures excused { IsTrue D.visible → is_excused result.entry.reply ≡ true → StaysOnDisk self.old self.new (D.store door.old) (D.store door.new) D.keeps }
         ensures calm { tells_fault result.entry.reply ≡ false }
         ensures untold { IsUntold (D.store door.old) (D.store door.new) }
+        ensures raised { HasRaised 1 1 (D.store door.old) (D.store door.new) }
+        ensures room { is_excused result.entry.reply ≡ false → HasRoomBut self.new (D.store door.new) }
+        ensures free { SpendsFree ask.op self.old self.new (D.store door.old) (D.store door.new) }
+        ensures short { (x : Excuse) → result.entry.reply ≡ reply.Excused x → lacks_blocks (reply.Excused x) ≡ true → IsShort self.old ask.op self.new.pool x }
+        ensures gathered { lacks_blocks result.entry.reply ≡ true → set.len (D.store door.old).unassigned.free < 2 ^ 32 - 1 → (D.store door.new).unassigned.free ≡ set.empty }
     {
         let geometry = door.geometry();
         on_disk_law(&geometry);
+        let desc = ask.desc;
         let touched = match self.make_room(door, &ask, touched) {
             Ok(touched) => touched,
-            Err(memory) => return out_of_memory(ask, by, ticket, Lack::Memory(memory)),
+            Err(excuse) => return answered(ask, by, ticket, Reply::Excused(excuse), desc),
         };
         file_request_law();
         told_law();
@@ -100,6 +110,10 @@ impl DiskServer {
         ensures calm { tells_fault result.entry.reply ≡ false }
         ensures unchanged { is_excused result.entry.reply ≡ true → self.new ≡ self.old }
         ensures desc { is_excused result.entry.reply ≡ true → result.desc ≡ ask.desc }
+        ensures cause { lends ≡ false → (x : Excuse) → result.entry.reply ≡ reply.Excused x → IsCause self.old.names.tree.dirs set.empty ask.op x }
+        ensures unlent { lends ≡ false → self.new.pool ≡ self.old.pool }
+        ensures lent { IsPoolLent self.old.pool self.new.pool }
+        ensures short { lends ≡ true → (x : Excuse) → result.entry.reply ≡ reply.Excused x → lacks_blocks (reply.Excused x) ≡ true → IsShort self.old ask.op self.new.pool x }
     {
         served_names_law();
         self.names.is_table();
@@ -138,9 +152,10 @@ fn tells_excuse(reply: &Reply) -> bool
     matches!(reply, Reply::Excused(_))
 }
 
-/// Directories had no block to take.
+/// Whether blocks are wanting.
 pub(crate) fn lacks_block(reply: &Reply) -> bool
-    ensures { result ≡ true → is_excused reply.now ≡ true }
+    ensures exact { result ≡ lacks_blocks reply.now }
+    ensures excused { result ≡ true → is_excused reply.now ≡ true }
 {
     matches!(reply, Reply::Excused(Excuse::Blocks { .. }))
 }

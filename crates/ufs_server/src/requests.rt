@@ -20,6 +20,8 @@ ghost use Rattle.ufs_stored.specs.Stored.{ArePartsOf};
 ghost use Rattle.ufs_server.specs.Answered.{IsAnswered, TellsFaults, device_in, stopped_in};
 ghost use Rattle.ufs_server.specs.Away.{AwayStays, ForgetsNothing};
 ghost use Rattle.ufs_server.specs.Touching.{IsFileTouched};
+ghost use Rattle.ufs_store.specs.Numbers.{HasRaised};
+ghost use Rattle.ufs_server.specs.Numbers.{most_raised};
 
 use crate::disk_server::DiskServer;
 use ufs_file::Applied;
@@ -67,6 +69,7 @@ impl DiskServer {
         ensures stopped { (fault : ℕ) → stopped_in result.entry.reply ≡ Some fault → (D.store door.old).stop ≡ Some fault }
         ensures told { TellsFaults (D.store door.old) (D.store door.new) result.entry.reply }
         ensures still { (fault : ℕ) → (D.store door.old).stop ≡ Some fault → device_in result.entry.reply ≡ None }
+        ensures raised { HasRaised (most_raised (geometry_of_store (D.store door.old))) (most_raised (geometry_of_store (D.store door.old))) (D.store door.old) (D.store door.new) }
     {
         if is_sync(&ask.op) {
             return self.serve_sync(door, ask, by, ticket);

@@ -1,4 +1,4 @@
-ghost use Rattle.std.specs.Prelude.{◌≡◌, ◌≢◌, ◌<◌, IfOk, IsTrue, true, false};
+ghost use Rattle.std.specs.Prelude.{◌≡◌, ◌≢◌, ◌<◌, IfOk, IsTrue, true, false, ◌+◌};
 ghost use Rattle.ufs_client.specs.Played.{tells_fault};
 ghost use Rattle.ufs_model.specs.Bounds.{IsBounded};
 ghost use Rattle.ufs_model.specs.History.{is_excused};
@@ -11,6 +11,10 @@ ghost use Rattle.ufs_synced.specs.Laws.{HasNothingNoted};
 ghost use Rattle.ufs_server.specs.Answered.{IsUntold};
 ghost use Rattle.ufs_server.specs.Served.{IsServedOn, KeepsPromise, MayServe, Stays, StaysOnDisk};
 ghost use Rattle.ufs_server.specs.Touching.{IsFileTouched};
+ghost use Rattle.ufs_store.specs.Numbers.{HasRaised};
+ghost use Rattle.ufs_server.specs.Numbers.{most_committed, most_raised};
+ghost use Rattle.ufs_model.specs.PosixTree.{PosixTree};
+ghost use Rattle.ufs_stored.specs.Stored.{ArePartsOf};
 
 use crate::disk_server::DiskServer;
 use crate::name_requests::{again, lacks_block};
@@ -42,6 +46,7 @@ impl DiskServer {
         ensures promise { IsTrue D.visible → KeepsPromise self.old self.new (D.store door.old) (D.store door.new) D.keeps ask result.entry }
         ensures calm { tells_fault result.entry.reply ≡ false }
         ensures untold { IsUntold (D.store door.old) (D.store door.new) }
+        ensures raised { HasRaised (most_raised (geometry_of_store (D.store door.old))) (most_raised (geometry_of_store (D.store door.old))) (D.store door.old) (D.store door.new) }
     {
         let (fd, last) = (ask.fd, ask.last);
         let first = self.serve_once(door, ask, touched, by, ticket);
@@ -64,6 +69,7 @@ impl DiskServer {
         ensures promise { IsTrue D.visible → KeepsPromise self.old self.new (D.store door.old) (D.store door.new) D.keeps ask result.entry }
         ensures calm { tells_fault result.entry.reply ≡ false }
         ensures untold { IsUntold (D.store door.old) (D.store door.new) }
+        ensures raised { HasRaised 1 1 (D.store door.old) (D.store door.new) }
     {
         let geometry = door.geometry();
         on_disk_law(&geometry);
@@ -104,6 +110,7 @@ impl DiskServer {
         ensures excused { IsTrue D.visible → is_excused result.entry.reply ≡ true → StaysOnDisk self.old self.new (D.store door.old) (D.store door.new) D.keeps }
         ensures calm { tells_fault result.entry.reply ≡ false }
         ensures untold { IsUntold (D.store door.old) (D.store door.new) }
+        ensures raised { HasRaised 1 1 (D.store door.old) (D.store door.new) }
     {
         match file_asked(&ask) {
             Some(file) => self.serve_file(door, file, ask, by, ticket),
@@ -118,6 +125,7 @@ impl DiskServer {
         requires stamped { D.stamps → ExplainsAllowed D.allows (D.store door.old) self.old }
         ensures stays { Stays self.old self.new (D.store door.old) (D.store door.new) }
         ensures promise { IsTrue D.visible → StaysOnDisk self.old self.new (D.store door.old) (D.store door.new) D.keeps }
+        ensures raised { (t : PosixTree) → ArePartsOf self.old t → HasRaised (most_committed (geometry_of_store (D.store door.old)) + 1) (most_committed (geometry_of_store (D.store door.old))) (D.store door.old) (D.store door.new) }
     {
         let synced = self.sync_all(door);
         match synced {
@@ -133,6 +141,7 @@ impl DiskServer {
         requires stamped { D.stamps → ExplainsAllowed D.allows (D.store door.old) self.old }
         ensures stays { Stays self.old self.new (D.store door.old) (D.store door.new) }
         ensures promise { IsTrue D.visible → StaysOnDisk self.old self.new (D.store door.old) (D.store door.new) D.keeps }
+        ensures raised { HasRaised 1 0 (D.store door.old) (D.store door.new) }
     {
         let geometry = door.geometry();
         reclaim_law(&geometry);

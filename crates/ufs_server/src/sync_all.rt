@@ -1,9 +1,10 @@
-ghost use Rattle.std.specs.Prelude.{ℕ, ◌≡◌, ◌≢◌, ◌<◌, ◌∷◌, [], List, Some, None, IsSome, IsTrue, IfErr, OnOk, OnErr, Err, true, false};
+ghost use Rattle.std.specs.Prelude.{ℕ, ◌≡◌, ◌≢◌, ◌<◌, ◌∷◌, [], List, Some, None, IsSome, IsTrue, IfErr, OnOk, OnErr, Err, true, false, length};
 ghost use Rattle.std.specs.FinMap as map;
 ghost use Rattle.ufs_bitmap.specs.Taking.{has};
 ghost use Rattle.ufs_model.specs.PosixTree.{PosixTree};
 ghost use Rattle.ufs_model.specs.declared.data.Entry.{Entry};
 ghost use Rattle.ufs_model.specs.declared.data.Excuse.TheVariants as excuse;
+ghost use Rattle.ufs_store.specs.Numbers.{HasRaised};
 ghost use Rattle.ufs_store.specs.Refusals.{IsTold, stop_after};
 ghost use Rattle.ufs_store.specs.State.{geometry_of_store};
 ghost use Rattle.ufs_stored.specs.OnDisk.{HasAll, HasFiles, HasNames, IsExplainedBetween, IsOnDisk};
@@ -13,6 +14,7 @@ ghost use Rattle.ufs_stored.specs.Stored.{ArePartsOf};
 ghost use Rattle.ufs_synced.specs.Laws.{HasNothingNoted};
 ghost use Rattle.ufs_server.specs.Answered.{device_told, is_of_store};
 ghost use Rattle.ufs_server.specs.Away.{ForgetsNothing};
+ghost use Rattle.ufs_server.specs.Numbers.{most_committed};
 ghost use Rattle.ufs_server.specs.Served.{CommitEnds};
 
 use crate::disk_server::DiskServer;
@@ -42,10 +44,12 @@ impl DiskServer {
         ensures refused { (fault : ℕ) → (D.store door.old).stop ≡ Some fault → result ≡ Err (excuse.Stopped fault) }
         ensures cause { IsTold (D.store door.old).faults (D.store door.new).faults (device_told result) }
         ensures stop { (D.store door.new).stop ≡ stop_after (D.store door.old).stop (device_told result) }
+        ensures raised { (t : PosixTree) → ArePartsOf self.old t → HasRaised (most_committed (geometry_of_store (D.store door.old))) (most_committed (geometry_of_store (D.store door.old))) (D.store door.old) (D.store door.new) }
     {
         let geometry = door.geometry();
         always_law(&geometry);
         all_law(&geometry);
+        self.names.is_table();
         if let Some(fault) = door.stopped() {
             return Err(Excuse::Stopped { fault });
         }
@@ -67,6 +71,7 @@ impl DiskServer {
         ensures fresh { self.new.fresh ≡ self.old.fresh }
         ensures forgotten { OnOk result ((file : ℕ) → has files.now file ≡ true → map.get self.new.commits file ≡ None) }
         ensures ends { CommitEnds self.old self.new (D.store door.old) (D.store door.new) result }
+        ensures raised { HasRaised (length files.now) (length files.now) (D.store door.old) (D.store door.new) }
     {
         let geometry = door.geometry();
         always_law(&geometry);
@@ -89,6 +94,7 @@ impl DiskServer {
         ensures fresh { self.new.fresh ≡ self.old.fresh }
         ensures forgotten { OnOk result ((other : ℕ) → IsSome (map.get self.new.commits other) → (other ≢ file) × IsSome (map.get self.old.commits other)) }
         ensures ends { CommitEnds self.old self.new (D.store door.old) (D.store door.new) result }
+        ensures raised { HasRaised 1 1 (D.store door.old) (D.store door.new) }
     {
         let geometry = door.geometry();
         always_law(&geometry);

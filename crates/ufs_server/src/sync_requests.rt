@@ -8,6 +8,7 @@ ghost use Rattle.ufs_model.specs.declared.data.Entry.{Entry};
 ghost use Rattle.ufs_model.specs.declared.data.Excuse.{Excuse};
 ghost use Rattle.ufs_model.specs.declared.data.Reply.TheVariants as reply;
 ghost use Rattle.ufs_prefix.specs.Changes.{asks_commit};
+ghost use Rattle.ufs_store.specs.Numbers.{HasRaised};
 ghost use Rattle.ufs_store.specs.State.{geometry_of_store};
 ghost use Rattle.ufs_stored.specs.OnDisk.{IsExplainedBetween, IsOnDisk};
 ghost use Rattle.ufs_stored.specs.Sound.{IsSoundServer};
@@ -16,6 +17,7 @@ ghost use Rattle.ufs_stored.specs.Stored.{ArePartsOf};
 ghost use Rattle.ufs_server.specs.Answered.{IsSyncReply, TellsItsOwn, device_in, reply_to, stopped_in};
 ghost use Rattle.ufs_server.specs.Away.{ForgetsNothing};
 ghost use Rattle.ufs_server.specs.Served.{IsServedOn, KeepsPromise};
+ghost use Rattle.ufs_server.specs.Numbers.{most_raised};
 
 use crate::disk_server::DiskServer;
 use ufs_calls::own_refusal;
@@ -42,6 +44,7 @@ impl DiskServer {
         ensures stopped { (fault : ℕ) → stopped_in result.entry.reply ≡ Some fault → (D.store door.old).stop ≡ Some fault }
         ensures told { TellsItsOwn (D.store door.old) (D.store door.new) result.entry.reply }
         ensures still { (fault : ℕ) → (D.store door.old).stop ≡ Some fault → device_in result.entry.reply ≡ None }
+        ensures raised { HasRaised (most_raised (geometry_of_store (D.store door.old))) (most_raised (geometry_of_store (D.store door.old))) (D.store door.old) (D.store door.new) }
     {
         let geometry = door.geometry();
         on_disk_law(&geometry);
@@ -74,6 +77,7 @@ impl DiskServer {
         ensures stopped { (fault : ℕ) → stopped_in result ≡ Some fault → (D.store door.old).stop ≡ Some fault }
         ensures told { TellsItsOwn (D.store door.old) (D.store door.new) result }
         ensures still { (fault : ℕ) → (D.store door.old).stop ≡ Some fault → device_in result ≡ None }
+        ensures raised { HasRaised (most_raised (geometry_of_store (D.store door.old))) (most_raised (geometry_of_store (D.store door.old))) (D.store door.old) (D.store door.new) }
     {
         let geometry = door.geometry();
         on_disk_law(&geometry);

@@ -5,6 +5,7 @@ ghost use Rattle.ufs_model.specs.PosixTree.{PosixTree};
 ghost use Rattle.ufs_model.specs.declared.data.Entry.{Entry};
 ghost use Rattle.ufs_model.specs.declared.data.Excuse.TheVariants as excuse;
 ghost use Rattle.ufs_names.specs.Notes.{with_notes};
+ghost use Rattle.ufs_store.specs.Numbers.{HasRaised};
 ghost use Rattle.ufs_store.specs.Refusals.{fault_of, is_no_space};
 ghost use Rattle.ufs_store.specs.State.{geometry_of_store};
 ghost use Rattle.ufs_store.specs.declared.fault.StoreFault.TheVariants as refusal;
@@ -35,6 +36,7 @@ impl DiskServer {
         ensures unassigned { (D.store door.new).unassigned ≡ (D.store door.old).unassigned }
         ensures refused { (fault : ℕ) → (D.store door.old).stop ≡ Some fault → result ≡ Err (excuse.Stopped fault) }
         ensures ends { CommitEnds self.old self.new (D.store door.old) (D.store door.new) result }
+        ensures raised { HasRaised 1 1 (D.store door.old) (D.store door.new) }
     {
         let geometry = door.geometry();
         always_law(&geometry);
@@ -66,6 +68,7 @@ impl DiskServer {
             → IsExplainedBetween D.keeps (D.store door.old).sectors start history (D.store door.old).moments (D.store door.new).moments }
         ensures refused { (fault : ℕ) → (D.store door.old).stop ≡ Some fault → result ≡ Err (excuse.Stopped fault) }
         ensures ends { CommitEnds self.old self.new (D.store door.old) (D.store door.new) result }
+        ensures raised { HasRaised 2 2 (D.store door.old) (D.store door.new) }
     {
         self.sync_names(door)?;
         self.commit_file(door, file)

@@ -168,4 +168,5 @@ fn the_files_that_are_there_are_listed(rt: HostRuntime) {
     holds(&rt, server.has(0));
     holds(&rt, !server.has(1));
     same(&rt, listed(&server), Some((1, 0)));
+    same(&rt, server.total_size().ok(), Some(0));
 }

@@ -6,8 +6,6 @@ pub mod OwnLemmas
 pub mod SeenLemmas
 pub mod HadLemmas
 pub mod DrawingLemmas
-pub mod BlockLemmas
-pub mod MergedLemmas
 pub mod FurtherLemmas
 pub mod Picked
 pub mod ReadingLemmas

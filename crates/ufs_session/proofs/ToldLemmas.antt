@@ -1,7 +1,9 @@
 -- A history tells each fault of the disk once.
-use Rattle.std.proofs.Common.{◌≡◌, ◌≢◌, ◌-◌, ◌^◌, ◌≤◌, ◌<◌, ℕ, ◌⊎◌, inl, inr, List, [], ◌∷◌, ◌++◌, Option, Some, None, false, nat_eq, ap, sym, refl, subst, ◌∙◌, ne_eqb, arith}
+use Rattle.std.proofs.Common.{◌≡◌, ◌≢◌, ◌-◌, ◌+◌, ◌*◌, ◌^◌, ◌≤◌, ◌<◌, ℕ, ◌⊎◌, inl, inr, length, List, [], ◌∷◌, ◌++◌, Option, Some, None, false, nat_eq, ap, sym, refl, subst, ◌∙◌, ne_eqb, arith}
 use Rattle.std.specs.Prelude.{min}
 use Rattle.std.specs.List.{AllByRecursion, IsDistinct, cons_option}
+use Rattle.std.proofs.Math.Nat.{add-mul}
+use Rattle.std.proofs.lemmas.List.{length-append}
 use Rattle.std.proofs.lemmas.List.Elements.{filter_map-append}
 use Rattle.ufs_base.specs.Faults.{RoseTo}
 use Rattle.ufs_disk.proofs.Runs.{all_append, all_map}
@@ -16,8 +18,12 @@ use Rattle.ufs_server.proofs.Beside.{stop_stays}
 use Rattle.ufs_sound.proofs.Owning.{has_append}
 use Rattle.ufs_sound.specs.Owned.{Has}
 use Rattle.ufs_store.specs.Refusals.{IsTold, stop_after}
-use Rattle.ufs_store.specs.State.{StoreState}
-use Rattle.ufs_session.specs.Told.{AreFaultsTold, HasRead, HasRisen, IsCountStill, IsReadFault, IsStopFault, TellsRequest, devices_in}
+use Rattle.ufs_store.specs.Numbers.{HasRaised}
+use Rattle.ufs_store.specs.State.{StoreState, geometry_of_store}
+use Rattle.ufs_store.proofs.Raised.{raises_none, raises_then}
+use Rattle.ufs_layout.specs.declared.geometry.Geometry.{Geometry}
+use Rattle.ufs_server.specs.Numbers.{most_raised}
+use Rattle.ufs_session.specs.Told.{AreFaultsTold, HasRead, HasRisen, IsCountStill, IsRaisedBy, IsReadFault, IsStopFault, TellsRequest, devices_in}
 
 some_is : {a b : ℕ} → Some a ≡ Some b → a ≡ b
 some_is e = cc
@@ -246,6 +252,28 @@ meets old new r told = by told.ends
     by (inl read) = read_meets old new r told.failed (subst (λ (s : StoreState). HasRead old s told.failed) (sym read.2) told.before) read.0 read.1
     by (inr served) = served_meets old told.read new r (subst (HasRead old told.read) served.0 told.before) served.2 served.3 served.1
 
+-- ---- numbers
+
+none_raised : (s : StoreState) → IsRaisedBy 0 s s
+none_raised s = record { geometry = refl; raised = raises_none (0 * most_raised (geometry_of_store s)) (0 * most_raised (geometry_of_store s)) s s refl refl }
+
+pub one_raised : (old new : StoreState) → geometry_of_store new ≡ geometry_of_store old → HasRaised (most_raised (geometry_of_store old)) (most_raised (geometry_of_store old)) old new → IsRaisedBy 1 old new
+one_raised old new geometry raised =
+    let most = most_raised (geometry_of_store old) in
+    let once : most ≡ 1 * most = omega arith in
+    record { geometry = geometry; raised = subst (λ (n : ℕ). HasRaised n n old new) once raised }
+
+raised_on : (n m : ℕ) (old mid new : StoreState) → IsRaisedBy n old mid → IsRaisedBy m mid new → IsRaisedBy (n + m) old new
+raised_on n m old mid new front back =
+    let most = most_raised (geometry_of_store old) in
+    let same : most_raised (geometry_of_store mid) ≡ most = ap (λ (g : Geometry). most_raised g) front.geometry in
+    let behind : HasRaised (m * most) (m * most) mid new = subst (λ (k : ℕ). HasRaised (m * k) (m * k) mid new) same back.raised in
+    let sum : n * most + m * most ≡ (n + m) * most = sym (add-mul n m most) in
+    record {
+      geometry = back.geometry ∙ front.geometry;
+      raised = subst (λ (k : ℕ). HasRaised k k old new) sum (raises_then (n * most) (n * most) (m * most) (m * most) old mid new front.raised behind);
+    }
+
 -- ---- its entry
 
 pub none_told : (s : StoreState) → AreFaultsTold s s []
@@ -257,10 +285,11 @@ none_told s = record {
   stops = tt;
   count = omega arith;
   quiet = λ none going. inl refl;
+  numbers = none_raised s;
 }
 
-pub one_told : (old new : StoreState) (entry : Entry) → TellsRequest old new entry.reply → AreFaultsTold old new (entry ∷ [])
-one_told old new entry told = record {
+pub one_told : (old new : StoreState) (entry : Entry) → TellsRequest old new entry.reply → IsRaisedBy 1 old new → AreFaultsTold old new (entry ∷ [])
+one_told old new entry told raised = record {
   each = λ fault has. by fault (m.device fault (has_one fault (device_in entry.reply) has));
   once = one_number (device_in entry.reply);
   kept = m.kept;
@@ -268,6 +297,7 @@ one_told old new entry told = record {
   stops = ((λ fault is. m.kept fault (m.earlier fault is)), tt);
   count = m.count;
   quiet = λ none going. m.quiet (no_devices (entry ∷ []) none).0 going;
+  numbers = raised;
 }
   where
     m : Meets old new entry.reply
@@ -338,4 +368,5 @@ module _ (old mid new : StoreState) (front back : List Entry) (first : AreFaults
         second.stops;
     count = omega (arith, first.count, second.count);
     quiet = λ none going. quiet_on (sym devices ∙ none) going;
+    numbers = subst (λ (n : ℕ). IsRaisedBy n old new) (sym (length-append front back)) (raised_on (length front) (length back) old mid new first.numbers second.numbers);
   }

@@ -1,12 +1,14 @@
 -- How replies tell the faults of a store's disk.
-use Rattle.std.specs.Prelude.{ℕ, ◌≡◌, ◌⊎◌, ◌+◌, ◌-◌, ◌^◌, ◌<◌, ◌≤◌, min, nat_eq, List, [], Option, Some, None}
+use Rattle.std.specs.Prelude.{ℕ, ◌≡◌, ◌⊎◌, ◌+◌, ◌-◌, ◌*◌, ◌^◌, ◌<◌, ◌≤◌, min, nat_eq, length, List, [], Option, Some, None}
 use Rattle.std.specs.List.{AllByRecursion, IsDistinct, filter_map}
 use Rattle.ufs_base.specs.Faults.{RoseTo}
 use Rattle.ufs_model.specs.declared.data.Entry.{Entry}
 use Rattle.ufs_model.specs.declared.data.Reply.{Reply}
 use Rattle.ufs_server.specs.Answered.{TellsFaults, device_in, stopped_in}
+use Rattle.ufs_server.specs.Numbers.{most_raised}
 use Rattle.ufs_sound.specs.Owned.{Has}
-use Rattle.ufs_store.specs.State.{StoreState}
+use Rattle.ufs_store.specs.Numbers.{HasRaised}
+use Rattle.ufs_store.specs.State.{StoreState, geometry_of_store}
 
 -- ---- a count of faults goes on
 
@@ -42,7 +44,12 @@ devices_in history = filter_map (λ entry. device_in entry.reply) history
 abbrev pub AreToldStop : Option ℕ → List Entry → Type 0
 AreToldStop stop history = AllByRecursion (λ entry. (fault : ℕ) → stopped_in entry.reply ≡ Some fault → stop ≡ Some fault) history
 
--- The store's count of faults, and where it stopped, before and after a history.
+-- The store's epoch and next commit number are raised by no more than so many requests may raise them.
+pub record IsRaisedBy (requests : ℕ) (old new : StoreState) : Type 0 where
+  pub geometry : geometry_of_store new ≡ geometry_of_store old
+  pub raised : HasRaised (requests * most_raised (geometry_of_store old)) (requests * most_raised (geometry_of_store old)) old new
+
+-- The store's count of faults, where it stopped, and its numbers, before and after a history.
 pub record AreFaultsTold (old new : StoreState) (history : List Entry) : Type 0 where
   -- a fault that a reply tells is that of a read, or the one at which the store stopped
   pub each : (fault : ℕ) → Has fault (devices_in history) → IsReadFault old new fault ⊎ IsStopFault old new fault
@@ -56,6 +63,7 @@ pub record AreFaultsTold (old new : StoreState) (history : List Entry) : Type 0 
   pub count : min old.faults (2 ^ 64 - 1) ≤ new.faults
   -- where none is told and the store goes on, no call failed that could have been told
   pub quiet : devices_in history ≡ [] → new.stop ≡ None → IsCountStill old.faults new.faults
+  pub numbers : IsRaisedBy (length history) old new
 
 -- ---- one request
 

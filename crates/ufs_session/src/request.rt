@@ -18,6 +18,8 @@ ghost use Rattle.ufs_session.specs.Serving.{IsServedReading};
 ghost use Rattle.ufs_session.specs.Throughout.{IsExplainedThroughout};
 ghost use Rattle.ufs_session.specs.Told.{AreFaultsTold, TellsRequest};
 ghost use Rattle.ufs_stamped.specs.Stamped.{IsStamping, before_of};
+ghost use Rattle.ufs_server.specs.Numbers.{most_raised};
+ghost use Rattle.ufs_store.specs.Numbers.{HasRaised};
 ghost use Rattle.ufs_store.specs.State.{StoreState, geometry_of_store};
 ghost use Rattle.ufs_stored.specs.OnDisk.{IsExplainedBetween, IsOnDisk};
 ghost use Rattle.ufs_stored.specs.Parts.{Parts};
@@ -145,6 +147,7 @@ fn serve_asked<N: Naming, D: Door, S: Stamping>(
     ensures geometry { geometry_of_store (D.store result.1) ≡ geometry_of_store (D.store door) }
     ensures sectors { (D.store result.1).sectors ≡ (D.store door).sectors }
     ensures told { TellsRequest (D.store door) (D.store result.1) result.2.entry.reply }
+    ensures raised { HasRaised (most_raised (geometry_of_store (D.store door))) (most_raised (geometry_of_store (D.store door))) (D.store door) (D.store result.1) }
 {
     let geometry = door.geometry();
     on_disk_law(&geometry);
@@ -203,6 +206,7 @@ fn serve_stamped<N: Naming, D: Door, S: Stamping>(
     ensures geometry { geometry_of_store (D.store result.1) ≡ geometry_of_store (D.store door) }
     ensures sectors { (D.store result.1).sectors ≡ (D.store door).sectors }
     ensures told { TellsRequest (D.store door) (D.store result.1) result.2.entry.reply }
+    ensures raised { HasRaised (most_raised (geometry_of_store (D.store door))) (most_raised (geometry_of_store (D.store door))) (D.store door) (D.store result.1) }
 {
     // For the prover alone.
     let _ = apart;
@@ -242,6 +246,7 @@ fn serve_one<D: Door>(
     ensures geometry { geometry_of_store (D.store door.new) ≡ geometry_of_store (D.store door.old) }
     ensures sectors { (D.store door.new).sectors ≡ (D.store door.old).sectors }
     ensures told { TellsRequest (D.store door.old) (D.store door.new) result.entry.reply }
+    ensures raised { HasRaised (most_raised (geometry_of_store (D.store door.old))) (most_raised (geometry_of_store (D.store door.old))) (D.store door.old) (D.store door.new) }
 {
     let geometry = door.geometry();
     on_disk_law(&geometry);

@@ -11,7 +11,7 @@ ghost use Rattle.ufs_stored.specs.Stored.{ArePartsOf};
 ghost use Rattle.ufs_client.specs.declared.played.EndFault.TheVariants as fault;
 ghost use Rattle.ufs_one_hand.specs.OneHand.{IsStart};
 ghost use Rattle.ufs_session.specs.Drawing.{SeesDisk, had_as};
-ghost use Rattle.ufs_session.specs.Told.{AreFaultsTold};
+ghost use Rattle.ufs_session.specs.Told.{AreFaultsTold, IsRaisedBy};
 ghost use Rattle.ufs_session.specs.Picked.{Pick};
 ghost use Rattle.ufs_session.specs.Played.{BeginsAs, IsPlayedFrom, IsPlayedLike, MayBegin};
 ghost use Rattle.ufs_session.specs.Reading.{HasServedOn, IsNewTo};
@@ -84,6 +84,7 @@ pub fn serve<D: Door>(
     ensures stamped { IsDiskVisible opened.start → IsTrue D.keeps → AreMomentsStamped opened.start.tree (joined result.session.told) (D.store result.door).sectors (D.store door).moments (D.store result.door).moments }
     ensures once { AreTicketsOnce (joined result.session.told) }
     ensures faults { AreFaultsTold (D.store door) (D.store result.door) (joined result.session.told) }
+    ensures raised { IsRaisedBy (length (joined result.session.told)) (D.store door) (D.store result.door) }
     ensures sound { IsSoundServer (geometry_of_store (D.store result.door)) (D.store result.door).unassigned.free server.new }
     ensures geometry { geometry_of_store (D.store result.door) ≡ geometry_of_store (D.store door) }
     ensures sectors { (D.store result.door).sectors ≡ (D.store door).sectors }

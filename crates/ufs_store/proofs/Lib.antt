@@ -8,3 +8,4 @@ pub mod Marking
 pub mod Numbers
 pub mod Cleaned
 pub mod Stamping
+pub mod Raised

@@ -1,5 +1,5 @@
 -- A commit behind a checkpoint, or without one.
-use Rattle.std.proofs.Common.{◌≡◌, inl, inr, Bool, true, false, List, [], ◌∷◌, sym, subst}
+use Rattle.std.proofs.Common.{◌≡◌, ◌⊎◌, inl, inr, Bool, true, false, List, [], ◌∷◌, sym, subst}
 use Rattle.std.specs.Prelude.{if◌then◌else◌}
 use Rattle.ufs_layout.specs.declared.geometry.Geometry.{Geometry}
 use Rattle.ufs_layout.specs.declared.records.LogRecord.{LogRecord}
@@ -42,6 +42,14 @@ module _ (s : StoreState) (records : List LogRecord) (l : Ledger) where
       by : (b : Bool) → AnyOf P (commit_stages t (if b then l else checkpointed s l)) → AnyOf P (stages_if b)
       by true any = any
       by false any = inr (inr any)
+
+  -- The ledger is as it was, or as a checkpoint leaves it.
+  pub by_room : (P : Ledger → Type 0) → P (with_room s records l) → P l ⊎ P (checkpointed s l)
+  by_room P has = by (has_room s records) has
+    where
+      by : (b : Bool) → P (if b then l else checkpointed s l) → P l ⊎ P (checkpointed s l)
+      by true has = inl has
+      by false has = inr has
 
   -- The records may still be committed next.
   pub may_in_room : (g : Geometry) (u : Committed) → g ≡ s.journal.geometry → u ≡ t → MayCommitNext s records l → MayCommit g u (with_room s records l).now

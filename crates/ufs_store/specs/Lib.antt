@@ -3,6 +3,7 @@ pub mod Ends
 pub mod Laws
 pub mod Ledgers
 pub mod Mounting
+pub mod Numbers
 pub mod Refusals
 pub mod Stamping
 pub mod State

@@ -11,6 +11,7 @@ ghost use Rattle.ufs_ledger.specs.Ledger.{Ledger, IsLedgerOf, IsLeftBy};
 ghost use Rattle.ufs_ledger.specs.Changes.{committed_one, settled};
 ghost use Rattle.ufs_store.specs.Ends.{IsLackOf};
 ghost use Rattle.ufs_store.specs.Ledgers.{HasAny, HasLedger, IsLeftByAny, MayCommitNext, after_commit, checkpointed, commit_stages, room_stages, stages, with_room};
+ghost use Rattle.ufs_store.specs.Numbers.{HasRaised};
 ghost use Rattle.ufs_store.specs.Refusals.{IsTold, fault_in, is_own};
 ghost use Rattle.ufs_store.specs.State.{StoreState, next_commit};
 ghost use Rattle.ufs_store.specs.Tables.{state_of};
@@ -45,6 +46,7 @@ pub(crate) fn commit<D: Disk>(
     ensures at_end { tables.old.journal.number ≡ 2 ^ 64 - 1 → result ≡ Err (refusal.Lack AtEnd) }
     ensures number { IfOk result (λ number. number ≡ tables.old.journal.number) }
     ensures rises { OnOk result (tables.new.journal.number ≡ tables.old.journal.number + 1) }
+    ensures raised { HasRaised 1 1 (state_of (D.size disk.old) (D.moments disk.old) (D.faults disk.old) tables.old) (state_of (D.size disk.new) (D.moments disk.new) (D.faults disk.new) tables.new) }
     ensures geometry { tables.new.journal.geometry ≡ tables.old.journal.geometry }
     ensures blocks { tables.new.unassigned ≡ tables.old.unassigned }
     ensures size { D.size disk.new ≡ D.size disk.old }
@@ -78,6 +80,7 @@ fn make_room<D: Disk>(
     ensures lack { (w : Lack) → result ≡ Err (refusal.Lack w) → IsLackOf (state_of (D.size disk.old) (D.moments disk.old) (D.faults disk.old) tables.old) w }
     ensures room { OnOk result (tables.new.journal.used + sector_count_of records.now < tables.new.journal.geometry.journal) }
     ensures number { tables.new.journal.number ≡ tables.old.journal.number }
+    ensures raised { HasRaised 1 0 (state_of (D.size disk.old) (D.moments disk.old) (D.faults disk.old) tables.old) (state_of (D.size disk.new) (D.moments disk.new) (D.faults disk.new) tables.new) }
     ensures geometry { tables.new.journal.geometry ≡ tables.old.journal.geometry }
     ensures blocks { tables.new.unassigned ≡ tables.old.unassigned }
     ensures size { D.size disk.new ≡ D.size disk.old }
@@ -112,6 +115,7 @@ fn commit_in_room<D: Disk>(
     ensures lack { (s : StoreState) (w : Lack) → result ≡ Err (refusal.Lack w) → IsLackOf s w }
     ensures number { IfOk result (λ number. number ≡ tables.old.journal.number) }
     ensures rises { OnOk result (tables.new.journal.number ≡ tables.old.journal.number + 1) }
+    ensures raised { HasRaised 0 1 (state_of (D.size disk.old) (D.moments disk.old) (D.faults disk.old) tables.old) (state_of (D.size disk.new) (D.moments disk.new) (D.faults disk.new) tables.new) }
     ensures geometry { tables.new.journal.geometry ≡ tables.old.journal.geometry }
     ensures blocks { tables.new.unassigned ≡ tables.old.unassigned }
     ensures size { D.size disk.new ≡ D.size disk.old }

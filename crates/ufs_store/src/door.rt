@@ -22,9 +22,10 @@ ghost use Rattle.ufs_ledger.specs.Ledger.{IsDataBlock, IsLedgerOf, IsLeftBy, Led
 ghost use Rattle.ufs_store.specs.Ends.{IsLackOf};
 ghost use Rattle.ufs_store.specs.Blocks.{AreApart, AreInside, MayReturn, MovesLowest};
 ghost use Rattle.ufs_store.specs.Ledgers.{AnyOf, HasAny, HasLedger, IsLeftByAny, MayCommitNext, after_commit, beginning_next, checkpointed, stages};
+ghost use Rattle.ufs_store.specs.Numbers.{HasRaised};
 ghost use Rattle.ufs_store.specs.Refusals.{IsTold, answer_of, fault_in, is_no_space, is_of_disk, stop_after};
 ghost use Rattle.ufs_store.specs.Stamping.{MayLeaveDelta, MayLeaveHome, MayLeaveStages, MayLeaveWritten};
-ghost use Rattle.ufs_store.specs.State.{StoreState, geometry_of_store, last_commit};
+ghost use Rattle.ufs_store.specs.State.{StoreState, geometry_of_store, last_commit, next_superblock};
 ghost use Rattle.ufs_store.specs.declared.fault.StoreFault.TheVariants as refusal;
 
 use crate::{StoreFault, Uncommitted};
@@ -138,6 +139,7 @@ pub trait Door {
         ensures done { log.old ≡ [] → (store self.old).stop ≡ None → result ≡ Ok (last_commit (store self.old)) }
         ensures number { IfOk result (λ number. number ≡ last_commit (store self.new)) }
         ensures rises { log.old ≢ [] → OnOk result (last_commit (store self.new) ≡ last_commit (store self.old) + 1) }
+        ensures raised { HasRaised 1 1 (store self.old) (store self.new) }
         ensures emptied { OnOk result (log.new ≡ []) }
         ensures kept { OnErr result (log.new ≡ log.old) }
         ensures blocks { (store self.new).unassigned ≡ (store self.old).unassigned }
@@ -178,6 +180,7 @@ pub trait Door {
         ensures number { IfOk result (λ number. number ≡ last_commit (store self.new)) }
         ensures rises { log.old.noted ≢ log.old.committed → OnOk result (last_commit (store self.new) ≡ last_commit (store self.old) + 1) }
         ensures stays { log.old.noted ≡ log.old.committed → last_commit (store self.new) ≡ last_commit (store self.old) }
+        ensures raised { HasRaised 1 1 (store self.old) (store self.new) }
         ensures emptied { OnOk result (log.new ≡ record log.old { committed = log.old.noted }) }
         ensures kept { OnErr result (log.new ≡ log.old) }
         ensures freed { OnOk result ((store self.new).unassigned ≡ record ((store self.old).unassigned) { free = set.union (store self.old).unassigned.free (set_of freed) }) }
@@ -225,6 +228,9 @@ pub trait Door {
         ensures lack { (w : Lack) → result ≡ Err (refusal.Lack w) → IsLackOf (store self.old) w }
         ensures at_end { (store self.old).stop ≡ None → (store self.old).superblock.epoch ≡ 2 ^ 64 - 1 → result ≡ Err (refusal.Lack AtEnd) }
         ensures number { last_commit (store self.new) ≡ last_commit (store self.old) }
+        ensures begun { OnOk result ((store self.new).superblock ≡ next_superblock (store self.old)) }
+        ensures unbegun { OnErr result ((store self.new).superblock ≡ (store self.old).superblock) }
+        ensures raised { HasRaised 1 0 (store self.old) (store self.new) }
         ensures blocks { (store self.new).unassigned ≡ (store self.old).unassigned }
         ensures geometry { geometry_of_store (store self.new) ≡ geometry_of_store (store self.old) }
         ensures sectors { (store self.new).sectors ≡ (store self.old).sectors }

@@ -6,7 +6,9 @@ ghost use Rattle.ufs_layout.specs.Areas.{sector_count};
 ghost use Rattle.ufs_ledger.specs.Ledger.{Ledger};
 ghost use Rattle.ufs_store.specs.Ends.{IsLackOf};
 ghost use Rattle.ufs_store.specs.Ledgers.{HasAny, HasLedger, IsLeftByAny, beginning_next, checkpointed};
+ghost use Rattle.ufs_store.specs.Numbers.{HasRaised};
 ghost use Rattle.ufs_store.specs.Refusals.{IsTold, fault_in, is_own};
+ghost use Rattle.ufs_store.specs.State.{next_superblock};
 ghost use Rattle.ufs_store.specs.Tables.{state_of};
 ghost use Rattle.ufs_store.specs.declared.fault.StoreFault.TheVariants as refusal;
 
@@ -31,6 +33,9 @@ pub(crate) fn begin_next<D: Disk>(tables: &mut Tables, disk: &mut D) -> Result<(
     ensures settled { OnOk result (tables.new.unsettled ≡ false) }
     ensures unsettled { OnErr result (tables.new.unsettled ≡ tables.old.unsettled) }
     ensures number { tables.new.journal.number ≡ tables.old.journal.number }
+    ensures begun { OnOk result (tables.new.superblock ≡ next_superblock (state_of (D.size disk.old) (D.moments disk.old) (D.faults disk.old) tables.old)) }
+    ensures unbegun { OnErr result (tables.new.superblock ≡ tables.old.superblock) }
+    ensures raised { HasRaised 1 0 (state_of (D.size disk.old) (D.moments disk.old) (D.faults disk.old) tables.old) (state_of (D.size disk.new) (D.moments disk.new) (D.faults disk.new) tables.new) }
     ensures geometry { tables.new.journal.geometry ≡ tables.old.journal.geometry }
     ensures blocks { tables.new.unassigned ≡ tables.old.unassigned }
     ensures size { D.size disk.new ≡ D.size disk.old }

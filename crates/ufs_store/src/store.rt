@@ -11,6 +11,7 @@ ghost use Rattle.ufs_ledger.specs.Ledger.{IsLedgerOf, IsLeftBy, Ledger};
 ghost use Rattle.ufs_store.specs.Ends.{IsLackOf};
 ghost use Rattle.ufs_store.specs.Ledgers.{HasAny, HasLedger, IsLeftByAny, MayCommitNext, after_commit, checkpointed, stages};
 ghost use Rattle.ufs_store.specs.Mounting.{IsMountable, in_use, marking};
+ghost use Rattle.ufs_store.specs.Numbers.{HasRaised};
 ghost use Rattle.ufs_store.specs.Refusals.{IsTold, fault_in, fault_of, is_no_space, is_own, stop_after};
 ghost use Rattle.ufs_store.specs.State.{geometry_of_store};
 ghost use Rattle.ufs_store.specs.Tables.{state_of};
@@ -176,6 +177,7 @@ fn commit_delta<D: Disk>(
     ensures number { IfOk result (λ number. number ≡ tables.new.journal.number - 1) }
     ensures rises { log.old.noted ≢ log.old.committed → OnOk result (tables.new.journal.number ≡ tables.old.journal.number + 1) }
     ensures stays { log.old.noted ≡ log.old.committed → tables.new.journal.number ≡ tables.old.journal.number }
+    ensures raised { HasRaised 1 1 (state_of (D.size disk.old) (D.moments disk.old) (D.faults disk.old) tables.old) (state_of (D.size disk.new) (D.moments disk.new) (D.faults disk.new) tables.new) }
     ensures emptied { OnOk result (log.new ≡ record log.old { committed = log.old.noted }) }
     ensures kept { OnErr result (log.new ≡ log.old) }
     ensures blocks { tables.new.unassigned ≡ tables.old.unassigned }

@@ -5,8 +5,10 @@ use Rattle.ufs_ilog.specs.Deltas.{FileLog, IsDelta}
 use Rattle.ufs_layout.specs.declared.records.LogRecord.{LogRecord}
 use Rattle.ufs_ledger.specs.Ledger.{IsLeftBy, Ledger}
 use Rattle.ufs_store.specs.Ledgers.{HasLedger, IsLeftByAny, MayCommitNext, stages}
+use Rattle.ufs_store.specs.Numbers.{HasRaised}
 use Rattle.ufs_store.specs.Refusals.{answer_of}
 use Rattle.ufs_store.specs.State.{StoreState}
+use Rattle.ufs_store.proofs.Raised.{raises_none, raises_then}
 use Rattle.ufs_durable.specs.State.{CommitState, IsNoted, state_of}
 use Rattle.ufs_durable.specs.Writes.{MayWriteAll, at_moments, with_writes, writes_of}
 use Rattle.ufs_durable.proofs.Lacks.{lack_stays}
@@ -148,3 +150,22 @@ commit_file-requires-clause-stamped g c stamped going some =
     let leaves = c.requires.stamped stamped (sym (ap (λ (t : StoreState). t.stop) passed) ∙ going) in
     let log : c.args.commits.now.log ≡ c.commits.inside.log = sym (ap (λ (v : CommitState). v.log) c.commits.view_is) in
     synced_delta g.D.Door.allows s mid passed (state_of c.args.hand.now c.args.commits.now) c.commits.inside.log log some leaves (c.in_default.ensures.ok (g.met.D.Door.sees stamped) leaves.ledger leaves.knows leaves.may)
+
+-- ---- its numbers
+
+pub returns-in-Err-clause-raised : goal.returns-in-Err-clause-raised
+returns-in-Err-clause-raised g c =
+    raises_none 1 1 (g.D.Door.store c.args.door.now) (g.D.Door.store c.write_dirty.new.door) (ap (λ (s : StoreState). s.superblock) c.write_dirty.ensures.rest) (ap (λ (s : StoreState). s.journal) c.write_dirty.ensures.rest)
+
+module _ (g : Over) (c : After-commit_file g) where
+  raised_behind : HasRaised 1 1 (g.D.Door.store c.args.door.now) (g.D.Door.store c.commit_file.new.self)
+  raised_behind =
+      raises_then 0 0 1 1 (g.D.Door.store c.args.door.now) (g.D.Door.store c.write_dirty.new.door) (g.D.Door.store c.commit_file.new.self)
+      (raises_none 0 0 (g.D.Door.store c.args.door.now) (g.D.Door.store c.write_dirty.new.door) (ap (λ (s : StoreState). s.superblock) c.write_dirty.ensures.rest) (ap (λ (s : StoreState). s.journal) c.write_dirty.ensures.rest))
+      c.commit_file.ensures.raised
+
+pub returns-in-Ok-clause-raised : goal.returns-in-Ok-clause-raised
+returns-in-Ok-clause-raised g c = raised_behind g (goal.at.returns-in-Ok-clause-raised g c).After-commit_file
+
+pub returns-in-Err-commit_file-clause-raised : goal.returns-in-Err-commit_file-clause-raised
+returns-in-Err-commit_file-clause-raised g c = raised_behind g (goal.at.returns-in-Err-commit_file-clause-raised g c).After-commit_file

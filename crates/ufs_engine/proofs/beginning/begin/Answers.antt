@@ -11,6 +11,7 @@ use Rattle.ufs_start.specs.Begun.{IsBegun}
 use Rattle.ufs_start.specs.Refused.{HasStartCause}
 use Rattle.ufs_stored.specs.OnDisk.{IsExplainedBetween}
 use Rattle.ufs_engine.specs.Begins.{BeginsWith}
+use Rattle.ufs_engine.proofs.Numbers.{begins_from}
 use Rattle.ufs_engine.proofs.Read.{begins_alike, outside_session, proper_begins, recovery_explained, same_tree}
 use Rattle.ufs_engine.proofs.beginning.begin.Given.{Over}
 use Rattle.ufs_engine.proofs.beginning.begin.Goals.{After-mount}
@@ -103,3 +104,11 @@ returns-in-Err-clause-opened g c visible proper = proper_begins (g.D.Disk.size c
 pub returns-in-Err-clause-err_moments : goal.returns-in-Err-clause-err_moments
 returns-in-Err-clause-err_moments g c visible proper start with_it =
     recovery_explained g.D.Disk.keeps (g.D.Disk.size c.args.disk) (g.D.Disk.moments c.args.disk) (g.D.Disk.moments c.recovered_start.new.disk) (c.recovered_start.ensures.tree visible proper) c.a_request_keeps_the_tree.ensures start proper with_it
+
+-- ---- its numbers
+
+pub returns-in-Ok-clause-numbers : goal.returns-in-Ok-clause-numbers
+returns-in-Ok-clause-numbers g c visible proper =
+    let mid = reads (g.D.Disk.moments c.recovered_start.new.disk) in
+    MatchResult-weaker c.mount.result (c.mount.ensures.numbers mid (begun g c visible))
+    (λ x goes. begins_from (reads (g.D.Disk.moments c.args.disk)) mid _ (c.in-Ok.ensures.numbers visible proper) goes) (λ u none. none)

@@ -22,6 +22,10 @@ use Rattle.ufs_stored.specs.Parts.{Parts}
 use Rattle.ufs_stored.specs.Sound.{IsSoundServer}
 use Rattle.ufs_engine.specs.Begins.{BeginsWith}
 use Rattle.ufs_engine.specs.Laws.{IsReadClean, parts_of}
+use Rattle.ufs_image.specs.Volume.{Volume, superblock_of}
+use Rattle.ufs_image.proofs.Journals.{taken}
+use Rattle.ufs_layout.specs.Superblock.{geometry_of}
+use Rattle.ufs_layout.specs.declared.superblock.Super.{Super}
 use Rattle.ufs_engine.proofs.Read.{clean_explained}
 use Rattle.ufs_engine.proofs.Refused.{refused_leaves}
 use Rattle.ufs_engine.proofs.Seen.{clean_seen, seen_clean, seen_visible}
@@ -148,3 +152,15 @@ returns-in-Err-mount-clause-err_moments g c visible clean begun start with_it =
     old (g.D.Disk.moments c.in-Err-mount.unmounted.disk) c.in-Err-mount.unmounted.fault (λ w lacks. ap g.D.Disk.moments (m.memory w lacks)) (m.err_crash visible (law.mountable size old.state c.args.parts is))
     (λ image left. record { explained = law.explained size old.state c.args.parts start image is with_it left; proper = law.proper size old.state c.args.parts image is left })
     (clean_explained c.a_request_keeps_the_tree.ensures size old.state start clean with_it)
+
+-- ---- its numbers
+
+pub returns-in-Ok-mount-clause-numbers : goal.returns-in-Ok-mount-clause-numbers
+returns-in-Ok-mount-clause-numbers g c image begun =
+    let m = c.in-Ok-mount.ensures in
+    let same : c.args.parts.superblock.superblock ≡ superblock_of image = ap (λ (v : Volume). v.superblock) (taken (g.D.Disk.size c.args.disk) image (volume_under c.args.parts.superblock image) begun.standing.taken).same in
+    record {
+      geometry = m.geometry ∙ ap geometry_of same;
+      epoch = ap (λ (h : Super). h.epoch) m.superblock ∙ ap (λ (h : Super). h.epoch) same;
+      number = m.number ∙ ap (λ (h : Super). h.next) same;
+    }

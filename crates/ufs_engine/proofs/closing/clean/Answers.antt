@@ -1,8 +1,11 @@
-use Rattle.std.proofs.Common.{ℕ, subst}
+use Rattle.std.proofs.Common.{ℕ, subst, ◌∙◌, ap, sym}
 use Rattle.ufs_recovery.specs.Home.{KeepsTree}
-use Rattle.ufs_recovery.specs.Recovered.{IsCleanDisk, IsProperDisk}
+use Rattle.ufs_recovery.specs.Recovered.{IsCleanDisk, IsProperDisk, IsRecovered}
 use Rattle.ufs_store.specs.Refusals.{IsTold}
 use Rattle.ufs_engine.specs.Closes.{device_told_by}
+use Rattle.ufs_base.specs.Images.{Image}
+use Rattle.ufs_disk.specs.Moments.{reads}
+use Rattle.ufs_image.specs.Volume.{superblock_of}
 use Rattle.ufs_engine.proofs.Ended.{as_it_was, cleaned, proper_behind}
 use Rattle.ufs_engine.proofs.closing.clean.Goals as goal
 
@@ -36,3 +39,13 @@ returns-in-Err-recover-clause-cause g c =
     let now = g.D.Disk.faults c.recover.new.disk in
     subst (λ (before : ℕ). IsTold before now (device_told_by c.unclean.result)) c.in_default.ensures.cause.passed
     (c.unclean.ensures.cause (g.D.Disk.faults c.barrier.new.self) now c.in-Err-recover.ensures.cause)
+
+pub returns-in-Ok-clause-recovered : goal.returns-in-Ok-clause-recovered
+returns-in-Ok-clause-recovered g c visible proper used =
+    let mid = g.D.Disk.moments c.barrier.new.self in
+    let new = g.D.Disk.moments c.recover.new.disk in
+    let same = c.barrier.ensures.content visible in
+    subst (λ (d : Image). IsRecovered d (reads new)) same
+    (c.in-Ok.ensures.recovered visible
+    (subst (λ (sectors : ℕ). IsProperDisk sectors mid.state) (sym c.barrier.ensures.size) (proper_behind (g.D.Disk.size c.args.disk.now) (g.D.Disk.moments c.args.disk.now).state mid.state same (c.in_default.ensures.ok visible) proper))
+    (ap (λ (d : Image). (superblock_of d).clean) same ∙ used))

@@ -8,7 +8,13 @@ use Rattle.ufs_model.specs.declared.data.Excuse.TheVariants as excuse
 use Rattle.ufs_engine.specs.declared.closing.CloseFault.TheVariants as cause
 use Rattle.ufs_store.specs.Refusals.{IsTold}
 use Rattle.ufs_stored.specs.OnDisk.{IsExplainedBetween}
-use Rattle.ufs_engine.proofs.Ended.{ended_clean, ended_explained, ended_last, tells_none, told_alike, told_behind}
+use Rattle.ufs_base.specs.Images.{Image}
+use Rattle.ufs_disk.specs.Moments.{reads}
+use Rattle.ufs_recovery.specs.Recovered.{IsRecovered}
+use Rattle.ufs_store.specs.State.{StoreState}
+use Rattle.ufs_store.specs.Tables.{state_of}
+use Rattle.ufs_engine.proofs.ClosedNumbers.{closes_from, has_superblock}
+use Rattle.ufs_engine.proofs.Ended.{ended_clean, ended_explained, ended_last, proper_given, tells_none, told_alike, told_behind}
 use Rattle.ufs_engine.proofs.closing.close.Goals as goal
 
 -- ---- it isn't made clean
@@ -74,3 +80,18 @@ returns-clause-stopped g c fault = (
   λ e. absurd (tells_none c.clean-ended.result fault c.clean-ended.ensures.going e),
   λ e. let refused = c.in_default.ensures.refused fault e in cc,
 )
+
+-- ---- its numbers
+
+pub returns-clause-numbers : goal.returns-clause-numbers
+returns-clause-numbers g c visible =
+    let before = g.D.Disk.moments c.into_disk-disk.result in
+    let behind = reads (g.D.Disk.moments c.clean-ended.new.disk) in
+    on_ok_weaker c.clean-ended.result
+    (λ recovered start history on_disk.
+    let all = c.in_default.ensures.ok visible start history on_disk in
+    let proper = proper_given c.geometry-geometry.result c.on_disk_law.ensures.explained c.on_disk_law.ensures.proper c.last_law.ensures (g.D.Disk.size c.args.store.disk) _ start history _
+    (c.sync_all.ensures.geometry ∙ sym c.geometry-geometry.ensures.is) c.sync_all.ensures.sectors all before (g.D.Disk.moments c.clean-ended.new.disk) c.into_disk-disk.ensures.moments
+    (g.D.Disk.size c.into_disk-disk.result) c.into_disk-disk.ensures.size g.D.Disk.keeps (c.clean-ended.ensures.tree visible) in
+    closes_from _ _ start history _ c.args.server on_disk c.sync_all.ensures.geometry c.sync_all.ensures.raised all (reads before) behind (ap reads c.into_disk-disk.ensures.moments) (recovered proper))
+    (c.clean-ended.ensures.recovered visible)

@@ -1,5 +1,6 @@
-use Rattle.std.proofs.Common.{◌≡◌, ℕ, List, [], Result, Ok, Err, sym, subst, ◌∙◌}
-use Rattle.std.specs.Prelude.{IsTrue}
+use Rattle.std.proofs.Common.{◌≡◌, ℕ, List, [], length, Result, Ok, Err, IsOk, sym, subst, ◌∙◌}
+use Rattle.std.proofs.lemmas.Result.{IfOk-weaker}
+use Rattle.std.specs.Prelude.{IsTrue, OnOk}
 use Rattle.std.specs.FinMap.{get-empty}
 use Rattle.ufs_disk.specs.Disk.{Leaves}
 use Rattle.ufs_disk.specs.Moments.{reads}
@@ -14,8 +15,9 @@ use Rattle.ufs_model.specs.Order.{fd_cmp}
 use Rattle.ufs_model.specs.PosixTree.{PosixTree, root_alone}
 use Rattle.ufs_model.specs.declared.data.Entry.{Entry}
 use Rattle.ufs_engine.specs.Begins.{BeginsWith}
-use Rattle.ufs_engine.specs.Plays.{AreFaultsOf, IsEndFault, IsStampedThroughout, MayPlay, served_end}
+use Rattle.ufs_engine.specs.Plays.{AreFaultsOf, HasBytes, IsEndFault, IsStampedThroughout, MayPlay, served_end}
 use Rattle.ufs_recovery.specs.Recovered.{IsCleanDisk}
+use Rattle.ufs_server.specs.Sizes.{total_size}
 use Rattle.ufs_session.specs.Played.{IsPlayedFrom, MayBegin}
 use Rattle.ufs_session.specs.Throughout.{AreMomentsStamped, IsExplainedThroughout}
 use Rattle.ufs_session.proofs.HadLemmas.{begins_itself}
@@ -23,7 +25,10 @@ use Rattle.ufs_session.proofs.ThroughoutLemmas.{throughout_after, throughout_bef
 use Rattle.ufs_store.specs.State.{StoreState}
 use Rattle.ufs_store.specs.Tables.{state_of}
 use Rattle.ufs_stored.specs.OnDisk.{IsExplainedBetween, IsOnDisk}
-use Rattle.ufs_engine.proofs.EndLemmas.{both_ok, end_fault, faults_of, no_faults, none_played, not_served, played_as}
+use Rattle.ufs_stored.specs.Stored.{ArePartsOf}
+use Rattle.ufs_engine.proofs.EndLemmas.{both_ok, bytes_told, end_fault, faults_of, never_ended, no_faults, none_played, not_served, played_as}
+use Rattle.ufs_engine.proofs.Numbers.{raises_numbers}
+use Rattle.ufs_engine.specs.Numbers.{RaisesNumbers}
 use Rattle.ufs_engine.proofs.StampedLemmas.{none_stamped, passed_throughout}
 use Rattle.ufs_engine.proofs.playing.play.Given.{Over}
 use Rattle.ufs_engine.proofs.playing.play.Goals.{After-drop-script}
@@ -67,12 +72,31 @@ module _ (g : Over) (c : After-drop-script g) where
 pub serve-session-requires-clause-start : goal.serve-session-requires-clause-start
 serve-session-requires-clause-start g c = begins_itself c.in-Ok.begun.opened.start c.in-Ok.begun.server c.in-Ok.ensures.may
 
+-- How it ended as a whole, by how it was served.
+whole : (g : Over) (c : After-drop-script g) → OnOk (served_end c.whole_end.result) (IsOk c.serve-session.result.session.ended)
+whole g c = both_ok (served_end c.whole_end.result) c.measured_end-served.result (λ is. is) c.whole_end.ensures.served c.measured_end-served.ensures.served
+
+-- The files have so many bytes in each tree of which the server has the parts.
+sized_in : (g : Over) (c : After-drop-script g) (start : PosixTree) → ArePartsOf c.serve-session.new.server (tree_after start (told g c)) → HasBytes start (told g c) (served_end c.whole_end.result) c.bytes_of.result
+sized_in g c start parts =
+    bytes_told (served_end c.whole_end.result) c.total_size-total.result (tree_after start (told g c))
+    (both_ok (served_end c.whole_end.result) c.measured_end-served.result (λ is. is) c.whole_end.ensures.served c.measured_end-served.ensures.total)
+    (IfOk-weaker c.total_size-total.result (λ n. (t : PosixTree) → ArePartsOf c.serve-session.new.server t → n ≡ total_size t) (λ n. n ≡ total_size (tree_after start (told g c))) (λ n each. each (tree_after start (told g c)) parts) c.total_size-total.ensures)
+    c.bytes_of.result c.bytes_of.ensures
+
 pub returns-in-Ok-clause-legal : goal.returns-in-Ok-clause-legal
 returns-in-Ok-clause-legal g c =
     let s = c.serve-session in
-    let end = c.whole_end in
-    let from = s.ensures.played in
-    (from.tree, from.begins.closed, played_as from.tree c.args.script.clients s.result.session.told s.result.session.ended (served_end end.result) (told g c) end.ensures.served from.played)
+    let from = s.ensures.played in (
+      from.tree,
+      from.begins.closed,
+      played_as from.tree c.args.script.clients s.result.session.told s.result.session.ended (served_end c.whole_end.result) (told g c) (whole g c) from.played,
+      sized_in g c from.tree from.left,
+    )
+
+pub returns-in-Ok-clause-sized : goal.returns-in-Ok-clause-sized
+returns-in-Ok-clause-sized g c may start begins =
+    sized_in g c start (c.serve-session.ensures.left may.is_visible start (may_begin g c may start begins) (begun_on_disk g c may start begins))
 
 pub returns-in-Ok-clause-faults : goal.returns-in-Ok-clause-faults
 returns-in-Ok-clause-faults g c =
@@ -111,8 +135,7 @@ returns-in-Ok-clause-size g c = c.close-closed.ensures.size ∙ sized g c
 pub returns-in-Ok-clause-played : goal.returns-in-Ok-clause-played
 returns-in-Ok-clause-played g c may start begins =
     let s = c.serve-session in
-    let end = c.whole_end in
-    played_as start c.args.script.clients s.result.session.told s.result.session.ended (served_end end.result) (told g c) end.ensures.served
+    played_as start c.args.script.clients s.result.session.told s.result.session.ended (served_end c.whole_end.result) (told g c) (whole g c)
     (s.ensures.seen may.is_visible start (may_begin g c may start begins) (begun_on_disk g c may start begins))
 
 pub returns-in-Ok-clause-opened : goal.returns-in-Ok-clause-opened
@@ -159,6 +182,15 @@ returns-in-Ok-clause-clean g c may =
     (λ leads. subst (λ (n : ℕ). IsCleanDisk n (g.D.Disk.moments closing.result.disk).state) (sized g c) (leads from.0 (told g c) (served_on_disk g c may from.0 from.1)))
     c.whole_end.ensures.closed (closing.ensures.clean may.is_visible)
 
+pub returns-in-Ok-clause-numbers : goal.returns-in-Ok-clause-numbers
+returns-in-Ok-clause-numbers g c may =
+    let from = c.begin.ensures.opened may.is_visible may.proper in
+    let closing = c.close-closed in
+    both_ok c.whole_end.result closing.result.ended
+    (λ leads. raises_numbers (reads (g.D.Disk.moments c.args.disk)) (reads (g.D.Disk.moments closing.result.disk)) (length (told g c)) (first g c) (last g c)
+    (c.in-Ok.ensures.numbers may.is_visible may.proper) c.serve-session.ensures.raised (leads from.0 (told g c) (served_on_disk g c may from.0 from.1)))
+    c.whole_end.ensures.closed (closing.ensures.numbers may.is_visible)
+
 pub returns-in-Ok-clause-last : goal.returns-in-Ok-clause-last
 returns-in-Ok-clause-last g c may start begins =
     let closing = c.close-closed in
@@ -179,7 +211,12 @@ returns-in-Err-clause-legal g c =
       (λ client fd. get-empty fd_cmp (client, fd)),
       subst (λ (told : List (List Entry)). IsPlayedFrom root_alone clients told (served_end (Err c.unbegun_end.result)) (joined told)) (sym (c.from_vec.ensures ∙ c.new.ensures.items))
           (subst (λ (r : Result (Unit {0}) EndFault). IsPlayedFrom root_alone clients [] r []) (sym ended) (none_played root_alone clients)),
+      (λ ok. absurd (never_ended _ (sym ended ∙ ok))),
     )
+
+pub returns-in-Err-clause-sized : goal.returns-in-Err-clause-sized
+returns-in-Err-clause-sized g c may start begins ok =
+    absurd (never_ended _ (sym (not_served c.unbegun_end.result c.in-Err.unbegun.fault c.unbegun_end.ensures.which) ∙ ok))
 
 pub returns-in-Err-clause-once : goal.returns-in-Err-clause-once
 returns-in-Err-clause-once g c = subst (λ (told : List (List Entry)). AreTicketsOnce (joined told)) (sym (c.from_vec.ensures ∙ c.new.ensures.items)) (once_rising [] tt)

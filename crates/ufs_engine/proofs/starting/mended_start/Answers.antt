@@ -1,4 +1,4 @@
-use Rattle.std.proofs.Common.{ℕ, ap, sym, ◌∙◌, subst}
+use Rattle.std.proofs.Common.{ℕ, ap, sym, ◌∙◌, subst, arith}
 use Rattle.std.proofs.lemmas.Result.{MatchResult-weaker}
 use Rattle.ufs_disk.specs.Moments.{reads}
 use Rattle.ufs_image.specs.Opens.{opens}
@@ -7,6 +7,9 @@ use Rattle.ufs_recovery.specs.Recovered.{IsCleanDisk, IsProperDisk}
 use Rattle.ufs_recovery.proofs.SuperblockPut.{kept_on}
 use Rattle.ufs_start.specs.Begun.{IsBegun}
 use Rattle.ufs_engine.specs.Begins.{TellsNoSession}
+use Rattle.ufs_engine.specs.Numbers.{IsMendedBy}
+use Rattle.ufs_base.specs.Images.{Image}
+use Rattle.ufs_engine.proofs.Numbers.{mended_more, mended_none, mended_same}
 use Rattle.ufs_engine.proofs.Read.{clean_still, no_session, proper_still, same_session, tree_still}
 use Rattle.ufs_engine.proofs.starting.mended_start.Goals as goal
 
@@ -68,3 +71,21 @@ returns-else-is_mended-clause-tree g c visible =
 pub returns-else-is_mended-clause-refused : goal.returns-else-is_mended-clause-refused
 returns-else-is_mended-clause-refused g c visible proper =
     no_session (g.D.Disk.size c.args.disk.now) (reads (g.D.Disk.moments c.args.disk.now)) c.in-Err.fault (sym c.is_mended.ensures ∙ c.if-is_mended.false) (c.in-Err.ensures.refused visible)
+
+-- ---- its numbers
+
+pub returns-in-Ok-clause-numbers : goal.returns-in-Ok-clause-numbers
+returns-in-Ok-clause-numbers g c visible clean =
+    let old = reads (g.D.Disk.moments c.args.disk.now) in
+    let new = reads (g.D.Disk.moments c.start_of.new.disk) in
+    mended_more 0 1 old new (omega arith) (mended_same 0 old old new (c.start_of.ensures.read_only visible).content (mended_none old))
+
+pub returns-then-is_mended-clause-numbers : goal.returns-then-is_mended-clause-numbers
+returns-then-is_mended-clause-numbers g c visible clean =
+    let size = g.D.Disk.size c.args.disk.now in
+    let mid = g.D.Disk.moments c.start_of.new.disk in
+    let new = g.D.Disk.moments c.freed_start.new.disk in
+    let read = c.start_of.ensures.read_only visible in
+    let proper = proper_still g.D.Disk.keeps (g.D.Disk.moments c.args.disk.now) mid read size clean.proper in
+    MatchResult-weaker c.freed_start.result (c.freed_start.ensures.numbers visible (subst (λ (n : ℕ). IsProperDisk n mid.state) (sym c.start_of.ensures.size) proper))
+    (λ s is. subst (λ (d : Image). IsMendedBy 1 d (reads new)) read.content is) (λ f none. none)

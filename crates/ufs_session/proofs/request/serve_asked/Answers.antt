@@ -6,6 +6,8 @@ use Rattle.ufs_model.specs.History.{is_excused}
 use Rattle.ufs_model.specs.PosixTree.{Files}
 use Rattle.ufs_server.proofs.Beside.{calm_told, no_device}
 use Rattle.ufs_server.proofs.FileFetching.{none_read}
+use Rattle.ufs_server.specs.Numbers.{most_raised}
+use Rattle.ufs_store.proofs.Raised.{raises_none}
 use Rattle.ufs_session.specs.Asking.{IsOwnTold}
 use Rattle.ufs_store.specs.State.{geometry_of_store}
 use Rattle.ufs_session.proofs.OwnLemmas.{bytes_behind, nothing, own_answered, parts_behind, parts_on_disk, same_bytes}
@@ -76,3 +78,9 @@ returns-in-Some-clause-told g c =
     let plain = (told g (goal.at.returns-in-Some-clause-told g c).In-Some).plain in
     let calm = plain_calm r plain in
     served_told s s r (calm_told s s r calm refl refl) (λ fault is. let clash : None ≡ Some fault = sym (plain_going r plain) ∙ is in cc) (λ fault is. no_device r calm)
+
+pub returns-in-Some-clause-raised : goal.returns-in-Some-clause-raised
+returns-in-Some-clause-raised g c =
+    let s = g.D.Door.store c.args.door in
+    let most = most_raised (geometry_of_store s) in
+    raises_none most most s s refl refl

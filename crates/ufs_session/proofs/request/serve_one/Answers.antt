@@ -1,4 +1,4 @@
-use Rattle.std.proofs.Common.{◌≡◌, ◌∷◌, ◌++◌, [], ℕ, List, Option, None, Some, Result, Err, inl, true, false, ap, sym, refl, subst, ◌∙◌}
+use Rattle.std.proofs.Common.{◌≡◌, ◌∷◌, ◌++◌, [], ℕ, List, Option, None, Some, Result, Err, inl, true, false, ap, sym, refl, subst, ◌∙◌, arith}
 use Rattle.std.specs.Prelude.{IfOk, IsTrue}
 use Rattle.ufs_alike.proofs.StepLemmas.{asks}
 use Rattle.ufs_alike.proofs.TreeLemmas.{either_way}
@@ -20,6 +20,10 @@ use Rattle.ufs_server.specs.Answered.{device_told}
 use Rattle.ufs_store.specs.State.{geometry_of_store}
 use Rattle.ufs_stored.specs.OnDisk.{IsExplainedBetween, IsOnDisk}
 use Rattle.ufs_stored.proofs.Stamping.{go_on}
+use Rattle.ufs_layout.specs.declared.geometry.Geometry.{Geometry}
+use Rattle.ufs_server.specs.Numbers.{most_raised}
+use Rattle.ufs_store.specs.Numbers.{HasRaised}
+use Rattle.ufs_store.proofs.Raised.{raises_behind, raises_more, raises_none}
 use Rattle.ufs_session.proofs.FurtherLemmas.{tree_read}
 use Rattle.ufs_session.proofs.OwnLemmas.{parts_on_disk}
 use Rattle.ufs_session.proofs.ReadingLemmas.{nothing_forgotten, parts_before, read_failed, read_served, same_excuse}
@@ -175,3 +179,25 @@ pub returns-in-Err-clause-told : goal.returns-in-Err-clause-told
 returns-in-Err-clause-told g c =
     let s = g.D.Door.store c.args.door.now in
     read_failed s s excuse.Memory refl refl (λ fault device. absurd cc) (λ none. inl refl) c.unread.result.entry.reply (c.unread.ensures.reply ∙ ap reply.Excused c.from.ensures)
+
+-- ---- the numbers of the store
+
+pub returns-in-Ok-fetch-clause-raised : goal.returns-in-Ok-fetch-clause-raised
+returns-in-Ok-fetch-clause-raised g c =
+    let old = g.D.Door.store c.args.door.now in
+    let mid = g.D.Door.store c.fetch.new.door in
+    let new = g.D.Door.store c.apply.new.door in
+    let most = most_raised (geometry_of_store mid) in
+    subst (λ (h : Geometry). HasRaised (most_raised h) (most_raised h) old new) c.fetch.ensures.geometry (raises_behind most most old mid new c.fetch.ensures.raised c.apply.ensures.raised)
+
+pub returns-in-Err-fetch-clause-raised : goal.returns-in-Err-fetch-clause-raised
+returns-in-Err-fetch-clause-raised g c =
+    let old = g.D.Door.store c.args.door.now in
+    let most = most_raised (geometry_of_store old) in
+    raises_more 0 0 most most old (g.D.Door.store c.fetch.new.door) (omega arith) (omega arith) c.fetch.ensures.raised
+
+pub returns-in-Err-clause-raised : goal.returns-in-Err-clause-raised
+returns-in-Err-clause-raised g c =
+    let s = g.D.Door.store c.args.door.now in
+    let most = most_raised (geometry_of_store s) in
+    raises_none most most s s refl refl

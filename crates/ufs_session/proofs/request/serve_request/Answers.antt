@@ -27,7 +27,7 @@ use Rattle.ufs_session.proofs.HadLemmas.{had_alike, had_own, reply_had, served_h
 use Rattle.ufs_session.proofs.ReadOnLemmas.{began_before, may_seen, one_on, picked_now, read_now}
 use Rattle.ufs_session.proofs.RestingLemmas.{knows_beside, knows_on, stamping_begins, stamping_faults, stamping_knows}
 use Rattle.ufs_session.proofs.SeenLemmas.{explained_cells}
-use Rattle.ufs_session.proofs.ToldLemmas.{legal_told, one_told, told_on}
+use Rattle.ufs_session.proofs.ToldLemmas.{legal_told, one_raised, one_told, told_on}
 use Rattle.ufs_session.proofs.request.serve_request.Given.{Over}
 use Rattle.ufs_session.proofs.request.serve_request.Goals as goal
 use Rattle.ufs_session.proofs.request.serve_request.Goals.{After-draw-entry, After-gather, After-keep}
@@ -122,7 +122,7 @@ module _ (g : Over) (c : After-keep g) where
   new = c.serve_asked-hand.new.server
 
   all_more : AreFaultsTold c.requires.faults.0 next (history ++ entry ∷ [])
-  all_more = told_on c.requires.faults.0 now next history (entry ∷ []) c.requires.faults.1 (one_told now next entry c.serve_asked-hand.ensures.told)
+  all_more = told_on c.requires.faults.0 now next history (entry ∷ []) c.requires.faults.1 (one_told now next entry c.serve_asked-hand.ensures.told (one_raised now next c.serve_asked-hand.ensures.geometry c.serve_asked-hand.ensures.raised))
 
   -- however far the session had read before
   module _ (begun : Parts) (picks : List Pick) (asks : AsksOf k begun picks c.args.server.now history c.args.fds.now c.args.asked) where
@@ -295,7 +295,7 @@ pub returns-clause-faults : goal.returns-clause-faults
 returns-clause-faults g c =
     let now = g.D.Door.store c.args.running.door in
     let next = g.D.Door.store c.serve_asked-hand.result.1 in
-    subst (λ (e : Entry). AreFaultsTold now next (e ∷ [])) (sym c.draw-entry.ensures.same) (one_told now next c.serve_asked-hand.result.2.entry c.serve_asked-hand.ensures.told)
+    subst (λ (e : Entry). AreFaultsTold now next (e ∷ [])) (sym c.draw-entry.ensures.same) (one_told now next c.serve_asked-hand.result.2.entry c.serve_asked-hand.ensures.told (one_raised now next c.serve_asked-hand.ensures.geometry c.serve_asked-hand.ensures.raised))
 
 pub returns-clause-resting : goal.returns-clause-resting
 returns-clause-resting g c =

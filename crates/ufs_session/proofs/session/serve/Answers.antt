@@ -50,6 +50,7 @@ returns-in-Ok g c =
           subst (λ (s : StoreState × StoreState). AreMomentsStamped c.args.opened.start.tree (joined c.serve_in-served.result.0.session.told) s.1.sectors s.0.moments s.1.moments) (same_stores g at) (c.serve_in-served.ensures.stamped sees keeps);
       once = once_rising _ (rising_from 0 is.played.tree _ is.played.played.legal.entries);
       faults = is.disk.faults;
+      raised = is.disk.faults.numbers;
       sound = is.disk.sound;
       geometry = is.disk.geometry;
       sectors = is.disk.sectors;
@@ -91,6 +92,7 @@ returns-in-Err g c =
       stamped = λ sees keeps. unstamped g at;
       once = once_rising _ (rising_from 0 is.played.tree _ is.played.played.legal.entries);
       faults = is.disk.faults;
+      raised = is.disk.faults.numbers;
       sound = is.disk.sound;
       geometry = is.disk.geometry;
       sectors = is.disk.sectors;

@@ -1,4 +1,4 @@
-use Rattle.std.proofs.Common.{◌≡◌, ℕ, ap, subst}
+use Rattle.std.proofs.Common.{◌≡◌, ℕ, ap, subst, refl, arith}
 use Rattle.std.specs.Prelude.{Err}
 use Rattle.std.proofs.lemmas.Result.{err_from_is_err_and, on_ok_weaker}
 use Rattle.ufs_disk.specs.Moments.{LeavesOnly}
@@ -10,7 +10,8 @@ use Rattle.ufs_store.specs.Ledgers.{HasAny, HasLedger, IsLeftByAny, commit_stage
 use Rattle.ufs_store.specs.State.{next_commit}
 use Rattle.ufs_store.specs.Tables.{state_of}
 use Rattle.ufs_store.specs.declared.fault.StoreFault.TheVariants as refusal
-use Rattle.ufs_store.proofs.Rooms.{at_first, at_room, at_commit, may_in_room}
+use Rattle.ufs_store.proofs.Raised.{raises_more, raises_none, raises_then}
+use Rattle.ufs_store.proofs.Rooms.{at_first, at_room, at_commit, by_room, may_in_room}
 use Rattle.ufs_store.proofs.commits.commit.Goals as goal
 
 pub returns-then-tables-clause-crash : goal.returns-then-tables-clause-crash
@@ -71,3 +72,21 @@ returns-clause-device g c visible fault is l has may =
     at_commit s rs l (IsLedgerOf t.sectors t.moments.state)
     (subst (λ (u : Committed). HasAny t (commit_stages u (with_room s rs l))) same
     (c.commit_in_room.ensures.device visible fault is (with_room s rs l) (c.in_ok-make_room.ensures.ok visible l has) (may_in_room s rs l c.make_room.new.tables.journal.geometry (record { number = c.make_room.new.tables.journal.number; records = rs }) c.make_room.ensures.geometry same may)))
+
+pub returns-clause-memory : goal.returns-clause-memory
+returns-clause-memory g c visible w is l has =
+    let s = state_of (g.D.Disk.size c.args.disk.now) (g.D.Disk.moments c.args.disk.now) (g.D.Disk.faults c.args.disk.now) c.args.tables.now in
+    let t = state_of (g.D.Disk.size c.commit_in_room.new.disk) (g.D.Disk.moments c.commit_in_room.new.disk) (g.D.Disk.faults c.commit_in_room.new.disk) c.commit_in_room.new.tables in
+    let rs = c.args.records.now in
+    by_room s rs l (HasLedger t) (c.commit_in_room.ensures.memory visible w is (with_room s rs l) (c.in_ok-make_room.ensures.ok visible l has))
+
+-- ---- its numbers
+
+pub returns-then-tables-clause-raised : goal.returns-then-tables-clause-raised
+returns-then-tables-clause-raised g c = raises_none 1 1 (state_of (g.D.Disk.size c.args.disk.now) (g.D.Disk.moments c.args.disk.now) (g.D.Disk.faults c.args.disk.now) c.args.tables.now) (state_of (g.D.Disk.size c.args.disk.now) (g.D.Disk.moments c.args.disk.now) (g.D.Disk.faults c.args.disk.now) c.args.tables.now) refl refl
+
+pub returns-in_err-make_room-clause-raised : goal.returns-in_err-make_room-clause-raised
+returns-in_err-make_room-clause-raised g c = raises_more 1 0 1 1 (state_of (g.D.Disk.size c.args.disk.now) (g.D.Disk.moments c.args.disk.now) (g.D.Disk.faults c.args.disk.now) c.args.tables.now) (state_of (g.D.Disk.size c.make_room.new.disk) (g.D.Disk.moments c.make_room.new.disk) (g.D.Disk.faults c.make_room.new.disk) c.make_room.new.tables) (omega arith) (omega arith) c.make_room.ensures.raised
+
+pub returns-clause-raised : goal.returns-clause-raised
+returns-clause-raised g c = raises_then 1 0 0 1 (state_of (g.D.Disk.size c.args.disk.now) (g.D.Disk.moments c.args.disk.now) (g.D.Disk.faults c.args.disk.now) c.args.tables.now) (state_of (g.D.Disk.size c.make_room.new.disk) (g.D.Disk.moments c.make_room.new.disk) (g.D.Disk.faults c.make_room.new.disk) c.make_room.new.tables) (state_of (g.D.Disk.size c.commit_in_room.new.disk) (g.D.Disk.moments c.commit_in_room.new.disk) (g.D.Disk.faults c.commit_in_room.new.disk) c.commit_in_room.new.tables) c.make_room.ensures.raised c.commit_in_room.ensures.raised

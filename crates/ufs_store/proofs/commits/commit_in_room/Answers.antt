@@ -54,3 +54,16 @@ returns-in-Ok-clause-ok g c visible l has may =
       older = committed_below (geometry_of l.superblock) t l.now.catalog k.number (omega (arith, more)) (below_more (geometry_of l.superblock) (geometry_of l.superblock) l.now.catalog j.number k.number refl (omega (arith, more)) has.older);
       fits = omega (arith, more, under);
     }
+
+-- ---- its numbers
+
+pub returns-in-Ok-clause-raised : goal.returns-in-Ok-clause-raised
+returns-in-Ok-clause-raised g c =
+    let up = c.in-Ok.ensures.rises in
+    let under = c.requires.numbers in
+    record { epoch = omega arith; epoch_most = omega arith; number = omega (arith, up, under); number_most = omega (arith, up, under) }
+
+pub returns-in-Err-clause-raised : goal.returns-in-Err-clause-raised
+returns-in-Err-clause-raised g c =
+    let same = c.in-Err.ensures.number_stays in
+    record { epoch = omega arith; epoch_most = omega arith; number = omega (arith, same); number_most = omega (arith, same) }

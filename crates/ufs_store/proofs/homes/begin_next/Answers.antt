@@ -1,4 +1,4 @@
-use Rattle.std.proofs.Common.{◌∙◌, ◌+◌, ◌∷◌, [], false, refl, sym, subst, arith}
+use Rattle.std.proofs.Common.{◌∙◌, ◌+◌, ◌∷◌, [], false, refl, sym, subst, arith, ◌≡◌, ap, ℕ}
 use Rattle.ufs_disk.specs.Moments.{LeavesOnly, reads}
 use Rattle.ufs_image.specs.Images.{block_at}
 use Rattle.ufs_layout.specs.Superblock.{geometry_of}
@@ -6,6 +6,8 @@ use Rattle.ufs_layout.specs.declared.superblock.Super.{Super}
 use Rattle.ufs_ledger.specs.Changes.{beginning, emptied, home_of}
 use Rattle.ufs_ledger.specs.Committing.{IsLedgerBy}
 use Rattle.ufs_store.specs.Ledgers.{IsLeftByAny}
+use Rattle.ufs_store.specs.Tables.{state_of}
+use Rattle.ufs_store.proofs.Raised.{raises_none}
 use Rattle.ufs_store.proofs.Stages.{by_two}
 use Rattle.ufs_store.proofs.Kept.{unused_at_first, home_is_settled}
 use Rattle.ufs_store.proofs.Numbers.{below_more}
@@ -50,3 +52,19 @@ returns-in-Err-clause-crash g c visible l has =
     let home = block_at (home_of l (reads old)) in
     subst (λ (h : Super). LeavesOnly g.D.Disk.keeps (IsLeftByAny size (l ∷ beginning h home l ∷ [])) old new) c.in-Some.ensures.superblock
     (by_two size g.D.Disk.keeps l (beginning c.in-Some.superblock home l) old new (c.checkpoint.ensures.crash visible l has.by has.added))
+
+-- ---- its numbers
+
+pub returns-in_default-clause-raised : goal.returns-in_default-clause-raised
+returns-in_default-clause-raised g c = raises_none 1 0 (state_of (g.D.Disk.size c.args.disk.now) (g.D.Disk.moments c.args.disk.now) (g.D.Disk.faults c.args.disk.now) c.args.tables.now) (state_of (g.D.Disk.size c.args.disk.now) (g.D.Disk.moments c.args.disk.now) (g.D.Disk.faults c.args.disk.now) c.args.tables.now) refl refl
+
+pub returns-in-Ok-clause-raised : goal.returns-in-Ok-clause-raised
+returns-in-Ok-clause-raised g c =
+    let up : c.in-Some.superblock.epoch ≡ c.args.tables.now.superblock.epoch + 1 = ap (λ (h : Super). h.epoch) c.in-Some.ensures.superblock in
+    let number : c.checkpoint.new.journal.number ≡ c.args.tables.now.journal.number = c.checkpoint.ensures.number in
+    record { epoch = omega (arith, up); epoch_most = omega (arith, up); number = omega (arith, number); number_most = omega (arith, number) }
+
+pub returns-in-Err-clause-raised : goal.returns-in-Err-clause-raised
+returns-in-Err-clause-raised g c =
+    let number : c.checkpoint.new.journal.number ≡ c.args.tables.now.journal.number = c.checkpoint.ensures.number in
+    record { epoch = omega arith; epoch_most = omega arith; number = omega (arith, number); number_most = omega (arith, number) }

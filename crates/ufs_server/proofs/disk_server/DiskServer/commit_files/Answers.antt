@@ -12,6 +12,7 @@ use Rattle.ufs_model.proofs.Facts.Histories.{take-push}
 use Rattle.ufs_names.specs.NamesPart.{NamesPart}
 use Rattle.ufs_stored.specs.OnDisk.{HasFiles}
 use Rattle.ufs_stored.proofs.Stamping.{named_go_on}
+use Rattle.ufs_store.proofs.Raised.{raises_more, raises_none, raises_then}
 use Rattle.ufs_server.proofs.Filed.{forgotten_more, none_yet, one_more}
 use Rattle.ufs_stored.proofs.Stretches.{explained_joined}
 use Rattle.ufs_server.specs.Served.{CommitEnds}
@@ -25,6 +26,8 @@ loop-place-init g c = record {
   names = refl;
   fresh = refl;
   forgotten = λ file is. (let clash = sym is ∙ has-none file in absurd cc);
+  within = omega arith;
+  raised = raises_none 0 0 (g.D.Door.store c.args.door.now) (g.D.Door.store c.args.door.now) refl refl;
   ends = none_ends c.args.self.now (g.D.Door.store c.args.door.now) c.requires.sound;
 }
 
@@ -59,6 +62,8 @@ loop-place-preserved g c =
       fresh = c.commit_here.ensures.fresh ∙ i.fresh;
       forgotten = λ other is. forgotten_more (take k files) file c.loop-place.self.commits after.commits c.in_ok-commit_here.ensures.forgotten i.forgotten other
           (ap (λ (xs : List ℕ). has xs other) (sym (take-push files k file at) ∙ ap (λ (n : ℕ). take n files) next) ∙ is);
+      within = omega (arith, less);
+      raised = raises_then k k 1 1 (g.D.Door.store c.args.door.now) (g.D.Door.store c.loop-place.door) new i.raised c.commit_here.ensures.raised;
       ends = ends_joined {r = Ok tt} i.ends c.in_ok-commit_here.ensures.ends;
     }
 
@@ -97,3 +102,15 @@ commit_here-requires-clause-stamped g c stamps =
     let i = c.loop-place.invariant in
     let e = c.requires.stamped stamps in
     named_go_on _ _ _ _ _ i.ends.sectors e (i.files (g.met.D.Door.sees stamps) e.start e.history e.named).names
+
+pub returns-clause-raised : goal.returns-clause-raised
+returns-clause-raised g c =
+    let within : c.loop-place.place ≤ length c.args.files.now = c.loop-place.invariant.within in
+    raises_more c.loop-place.place c.loop-place.place (length c.args.files.now) (length c.args.files.now) (g.D.Door.store c.args.door.now) (g.D.Door.store c.loop-place.door) within within c.loop-place.invariant.raised
+
+pub returns-in_err-commit_here-clause-raised : goal.returns-in_err-commit_here-clause-raised
+returns-in_err-commit_here-clause-raised g c =
+    let k : ℕ = c.loop-place.place in
+    let less : k < length c.args.files.now = omega (arith, c.loop-place-test.true) in
+    raises_more (k + 1) (k + 1) (length c.args.files.now) (length c.args.files.now) (g.D.Door.store c.args.door.now) (g.D.Door.store c.commit_here.new.door) (omega (arith, less)) (omega (arith, less))
+    (raises_then k k 1 1 (g.D.Door.store c.args.door.now) (g.D.Door.store c.loop-place.door) (g.D.Door.store c.commit_here.new.door) c.loop-place.invariant.raised c.commit_here.ensures.raised)

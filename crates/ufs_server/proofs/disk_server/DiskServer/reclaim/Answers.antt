@@ -1,5 +1,8 @@
-use Rattle.std.proofs.Common.{inl, ap}
+use Rattle.std.proofs.Common.{inl, ap, ◌+◌, arith}
 use Rattle.ufs_stored.proofs.Stamping.{go_on}
+use Rattle.ufs_store.proofs.Raised.{raises_more, raises_then}
+use Rattle.ufs_store.specs.State.{geometry_of_store}
+use Rattle.ufs_server.specs.Numbers.{most_committed}
 use Rattle.ufs_server.specs.Answered.{device_told}
 use Rattle.ufs_server.specs.Served.{Stays}
 use Rattle.ufs_server.proofs.Beside.{told_untold}
@@ -19,6 +22,10 @@ returns-in-Ok g c =
     } in
     record {
       stays = stays_joined front c.take_dropped.ensures.stays;
+      raised = λ t parts.
+          let most = most_committed (geometry_of_store (g.D.Door.store c.args.door.now)) in
+          raises_more (most + 1) (most + 0) (most + 1) most (g.D.Door.store c.args.door.now) (g.D.Door.store c.take_dropped.new.door) (omega arith) (omega arith)
+          (raises_then most most 1 0 (g.D.Door.store c.args.door.now) (g.D.Door.store c.sync_all-synced.new.door) (g.D.Door.store c.take_dropped.new.door) (synced.raised t parts) c.take_dropped.ensures.raised);
       promise = λ visible.
           on_disk_joined front (record { on_disk = λ start history on. inl (c.in-Ok.ensures.ok visible start history on).going; moments = synced.moments visible }) (c.take_dropped.ensures.promise visible);
     }
@@ -36,6 +43,9 @@ returns-in-Err g c =
         forgets = synced.forgets;
       };
       promise = λ visible. record { on_disk = c.in-Err.ensures.err visible; moments = synced.moments visible };
+      raised = λ t parts.
+          let most = most_committed (geometry_of_store (g.D.Door.store c.args.door.now)) in
+          raises_more most most (most + 1) most (g.D.Door.store c.args.door.now) (g.D.Door.store c.sync_all-synced.new.door) (omega arith) (omega arith) (synced.raised t parts);
     }
 
 pub take_dropped-requires-clause-stamped : goal.take_dropped-requires-clause-stamped

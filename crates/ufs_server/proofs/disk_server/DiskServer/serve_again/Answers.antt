@@ -1,6 +1,7 @@
-use Rattle.std.proofs.Common.{ap, sym}
+use Rattle.std.proofs.Common.{ap, sym, refl}
 use Rattle.ufs_client.specs.Played.{tells_fault}
 use Rattle.ufs_model.specs.History.{is_excused}
+use Rattle.ufs_store.proofs.Raised.{raises_none}
 use Rattle.ufs_server.proofs.Staying.{excused_promise, memory_served, rests, rests_on_disk}
 use Rattle.ufs_server.proofs.disk_server.DiskServer.serve_again.Goals as goal
 
@@ -17,4 +18,5 @@ returns-in-Err g c =
           excused_promise (rests_on_disk c.geometry-geometry.result c.always_law.ensures.rest g.D.Door.keeps now s form) c.geometry-geometry.result c.on_disk_law.ensures.excused form (ap is_excused memory.reply);
       calm = ap tells_fault memory.reply;
       untold = stays.untold;
+      raised = raises_none 1 1 s s refl refl;
     }

@@ -1,5 +1,7 @@
-use Rattle.std.proofs.Common.{◌≡◌, Option, Some, MutBor, true, ap, refl, rules, sym, ◌∙◌, subst}
+use Rattle.std.proofs.Common.{◌≡◌, ◌⊎◌, inl, inr, Option, Some, MutBor, true, ap, refl, rules, sym, ◌∙◌, subst}
 use Rattle.std.specs.FinMap as map
+use Rattle.std.specs.FinSet as set
+use Rattle.std.specs.Ordering.{nat_cmp}
 use Rattle.std.specs.Option.{OnSome}
 use Rattle.ufs_client.specs.Played.{tells_fault}
 use Rattle.ufs_client.proofs.FaultLemmas.{file_faultless, plain_faultless}
@@ -10,12 +12,15 @@ use Rattle.ufs_file.specs.Hand.{IsOf, whole_as}
 use Rattle.ufs_files.specs.Files.{AreNumbered}
 use Rattle.ufs_model.specs.History.{is_excused}
 use Rattle.ufs_model.specs.declared.data.Desc.{Desc}
+use Rattle.ufs_model.specs.declared.data.Excuse.TheVariants as excuse
 use Rattle.ufs_durable.specs.Serving.{IsApplied}
 use Rattle.ufs_durable.specs.State.{CommitState, DurableState, blocks_held, state_of}
 use Rattle.ufs_store.specs.State.{geometry_of_store}
-use Rattle.ufs_stored.specs.Parts.{Parts}
+use Rattle.ufs_stored.specs.Parts.{FileOwns, Parts}
+use Rattle.ufs_server.specs.Room.{IsFree}
 use Rattle.ufs_server.specs.Served.{Stays, StaysOnDisk}
-use Rattle.ufs_server.proofs.FileServing.{IsOut, IsServedBack, answered_at_last, apart, away_at_last, excused_on_disk, forgets_at_last, on_disk_at_last, parts_at_last, sound_at_last, whole}
+use Rattle.ufs_server.proofs.FileServing.{IsOut, IsServedBack, answered_at_last, apart, away_at_last, excused_on_disk, forgets_at_last, kept_free, on_disk_at_last, parts_at_last, sound_at_last, whole}
+use Rattle.ufs_server.proofs.Gathering.{memory_no_blocks, still_free}
 use Rattle.ufs_server.proofs.Holding.{put_is}
 use Rattle.ufs_server.proofs.Staying.{excused_promise, memory_served, on_disk_gathered, promise_at, rests, rests_on_disk, served_behind, stays_gathered}
 use Rattle.ufs_server.proofs.disk_server.DiskServer.serve_file.Given
@@ -40,8 +45,20 @@ returns-in-Err g c =
       promise = λ visible. excused_promise kept c.geometry-geometry.result c.on_disk_law.ensures.excused (ap geometry_of_store moved.store ∙ form) excused;
       excused = λ visible e. kept;
       calm = ap tells_fault memory.reply;
+      unready = λ unread. memory.reply;
+      short = λ need had is. (let clash = sym memory.reply ∙ is in absurd (memory_no_blocks need had clash));
+      free = λ block was. subst (λ (p : Parts). IsFree p s1 block ⊎ FileOwns p c.args.file block) same (inl (still_free p0.pool c.gather.new.self.pool s0.unassigned.free s1.unassigned.free moved.kept block was));
       store = moved.store;
     }
+
+pub returns-then-not-is_ready-clause-unready : goal.returns-then-not-is_ready-clause-unready
+returns-then-not-is_ready-clause-unready g c unread = c.out_of_memory.ensures.reply
+
+pub returns-then-not-is_ready-clause-short : goal.returns-then-not-is_ready-clause-short
+returns-then-not-is_ready-clause-short g c need had is = absurd (memory_no_blocks need had (sym c.out_of_memory.ensures.reply ∙ is))
+
+pub returns-then-not-is_ready-clause-free : goal.returns-then-not-is_ready-clause-free
+returns-then-not-is_ready-clause-free g c block was = inl was
 
 -- where blocks that it needs aren't in memory nothing has changed
 pub returns-then-not-is_ready-clause-promise : goal.returns-then-not-is_ready-clause-promise
@@ -131,6 +148,7 @@ returns g c =
       named = c.requires.named;
       kind = c.requires.kind;
     } in
+    let together = done.together ∙ ap (λ (p : Parts). set.union p.pool (set.from_list {R = nat_cmp} (blocks_held (state_of hand known)))) view in
     let numbered : AreNumbered p1.files = subst AreNumbered (ap (λ (p : Parts). p.files) c.self.view_is ∙ sym (ap (λ (p : Parts). p.files) moved.rest)) c.are_numbered.ensures in
     let there = desc_there ask.desc file c.requires.named in
     record {
@@ -151,6 +169,15 @@ returns g c =
         on_disk = λ start history on. excused_on_disk out back c.told_law.ensures.back c.told_law.ensures.on_disk numbered e start history (kept.on_disk start history on);
         moments = kept.moments;
       };
+      short = λ need had is.
+          let lacks = (done.excused (excuse.Blocks need had) is there.0 there.1 hand.content.bytes (record { long = refl; same = λ place at. refl })).cause in
+          let back = ap (λ (p : Parts). p.pool) back.put ∙ done.pool (ap is_excused is) in
+          (lacks.counted ∙ ap set.len (sym back), lacks.fewer, moved.all);
+      unready = λ unread. absurd (unread (c.is_ready.ensures.yes (search rules)));
+      free = λ block was. elim (still_free p0.pool p1.pool s0.unassigned.free s1.unassigned.free moved.kept block was) [
+        | inl pooled ↦ elim (kept_free out back together block pooled) [ inl is ↦ inl (inl is) | inr owns ↦ inr owns ]
+        | inr free ↦ inl (inr free)
+      ];
       calm = plain_faultless entry.reply (λ x is. ap tells_fault is ∙ file_faultless (whole_as hand.content.bytes hand) there.0 ask.op _ x (done.excused x is there.0 there.1 hand.content.bytes (record { long = refl; same = λ place at. refl })));
       store = moved.store;
     }

@@ -1,5 +1,6 @@
 use Rattle.std.proofs.Common.{ap, inl}
 use Rattle.ufs_store.specs.State.{StoreState}
+use Rattle.ufs_store.proofs.Raised.{raises_none}
 use Rattle.ufs_server.proofs.Asked.{asked_here}
 use Rattle.ufs_server.proofs.disk_server.DiskServer.serve_once.Goals as goal
 
@@ -11,3 +12,6 @@ returns-in-Some-clause-untold g c = inl (record { faults = ap (λ (s : StoreStat
 
 pub serve_names-requires-clause-touched : goal.serve_names-requires-clause-touched
 serve_names-requires-clause-touched g c = c.requires.touched c.in-None.ensures.names
+
+pub returns-in-Some-clause-raised : goal.returns-in-Some-clause-raised
+returns-in-Some-clause-raised g c = raises_none 1 1 (g.D.Door.store c.args.door.now) (g.D.Door.store c.serve_file.new.door) (ap (λ (s : StoreState). s.superblock) c.serve_file.ensures.store) (ap (λ (s : StoreState). s.journal) c.serve_file.ensures.store)

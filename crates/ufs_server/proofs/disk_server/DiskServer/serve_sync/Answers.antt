@@ -8,6 +8,9 @@ use Rattle.ufs_model.specs.declared.data.Reply.{Reply}
 use Rattle.ufs_model.specs.declared.data.Reply.TheVariants as reply
 use Rattle.ufs_prefix.specs.Steps.{is_ok}
 use Rattle.ufs_stored.specs.Laws.{leaves_tree}
+use Rattle.ufs_store.specs.State.{geometry_of_store}
+use Rattle.ufs_store.proofs.Raised.{raises_none}
+use Rattle.ufs_server.specs.Numbers.{most_raised}
 use Rattle.ufs_server.specs.Answered.{IsSyncReply}
 use Rattle.ufs_server.proofs.Away.{away_still}
 use Rattle.ufs_server.proofs.Replied.{done_reply, excuse_kind}
@@ -80,3 +83,9 @@ returns-clause-promise g c visible =
           synced.on_disk visible start history c.answered-2.result.entry out.entry.client out.entry.asked out.reply asked (sym (c.own_refusal.ensures (tree_after start history) c.args.ask.client asked.desc asked.fd) ∙ c.in_default.is) legal;
       moments = synced.moments visible;
     }
+
+pub returns-in-Some-clause-raised : goal.returns-in-Some-clause-raised
+returns-in-Some-clause-raised g c =
+    let s = g.D.Door.store c.args.door.now in
+    let most = most_raised (geometry_of_store s) in
+    raises_none most most s s refl refl

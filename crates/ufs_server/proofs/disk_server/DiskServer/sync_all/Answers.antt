@@ -1,4 +1,4 @@
-use Rattle.std.proofs.Common.{◌∙◌, ◌≡◌, ℕ, true, List, ap, is_some, subst, sym}
+use Rattle.std.proofs.Common.{◌∙◌, ◌≡◌, ℕ, true, List, ap, is_some, subst, sym, length, ◌+◌, arith, refl}
 use Rattle.std.specs.Prelude.{IsSome}
 use Rattle.std.specs.FinMap as map
 use Rattle.std.proofs.lemmas.Result.{on_err_weaker, on_ok_weaker}
@@ -7,6 +7,11 @@ use Rattle.ufs_names.specs.NamesPart.{Holdings, NamesPart}
 use Rattle.ufs_stored.specs.Parts.{Parts}
 use Rattle.ufs_stored.proofs.Stretches.{explained_joined}
 use Rattle.ufs_stored.proofs.Stamping.{go_on_named}
+use Rattle.ufs_name_tree.specs.NameTable.{IsNameTable}
+use Rattle.ufs_store.specs.State.{geometry_of_store}
+use Rattle.ufs_store.proofs.Raised.{raises_more, raises_none, raises_then}
+use Rattle.ufs_server.specs.Numbers.{most_committed}
+use Rattle.ufs_server.proofs.Raising.{few_files}
 use Rattle.ufs_server.proofs.Filed.{keys_are}
 use Rattle.ufs_server.proofs.disk_server.DiskServer.sync_all.Goals as goal
 
@@ -69,3 +74,34 @@ pub commit_files-requires-clause-stamped : goal.commit_files-requires-clause-sta
 commit_files-requires-clause-stamped g c stamps =
     let e = c.requires.stamped stamps in
     go_on_named _ _ _ _ _ c.sync_names.ensures.ends.sectors e (c.in_ok-sync_names.ensures.ok (g.met.D.Door.sees stamps) e.start e.history e.on_disk)
+
+pub returns-clause-raised : goal.returns-clause-raised
+returns-clause-raised g c t parts =
+    let old = g.D.Door.store c.args.door.now in
+    let new = g.D.Door.store c.commit_files.new.door in
+    let p = c.args.self.now in
+    let n = length c.as_slice.result.now in
+    let keys : n ≡ length (map.keys p.names.held) = ap (λ (files : List ℕ). length files) (c.as_slice.ensures ∙ c.in_ok-live.ensures ∙ ap (λ (x : Parts). map.keys x.names.held) c.self.view_is) in
+    let table : IsNameTable p.names.tree = subst (λ (x : Parts). IsNameTable x.names.tree) c.self.view_is c.is_table.ensures in
+    let few = few_files (geometry_of_store old) old.unassigned.free p t parts table c.requires.sound in
+    let most = most_committed (geometry_of_store old) in
+    raises_more (1 + n) (1 + n) most most old new (omega (arith, few, keys)) (omega (arith, few, keys))
+    (raises_then 1 1 n n old (g.D.Door.store c.sync_names.new.door) new c.sync_names.ensures.raised c.commit_files.ensures.raised)
+
+pub returns-in-Some-clause-raised : goal.returns-in-Some-clause-raised
+returns-in-Some-clause-raised g c t parts =
+    let s = g.D.Door.store c.args.door.now in
+    let most = most_committed (geometry_of_store s) in
+    raises_none most most s s refl refl
+
+pub returns-in_err-live-clause-raised : goal.returns-in_err-live-clause-raised
+returns-in_err-live-clause-raised g c t parts =
+    let s = g.D.Door.store c.args.door.now in
+    let most = most_committed (geometry_of_store s) in
+    raises_none most most s s refl refl
+
+pub returns-in_err-sync_names-clause-raised : goal.returns-in_err-sync_names-clause-raised
+returns-in_err-sync_names-clause-raised g c t parts =
+    let s = g.D.Door.store c.args.door.now in
+    let most = most_committed (geometry_of_store s) in
+    raises_more 1 1 most most s (g.D.Door.store c.sync_names.new.door) (omega arith) (omega arith) c.sync_names.ensures.raised

@@ -1,10 +1,12 @@
-use Rattle.std.proofs.Common.{◌≡◌, ℕ, ◌⊎◌, inl, inr, Some, None, ap, sym, subst, ◌∙◌}
+use Rattle.std.proofs.Common.{◌≡◌, ℕ, ◌⊎◌, inl, inr, Some, None, ap, sym, subst, ◌∙◌, arith}
 use Rattle.ufs_model.specs.Descriptors.{opened}
 use Rattle.ufs_model.specs.History.{tree_after}
 use Rattle.ufs_model.specs.declared.data.Desc.{Desc}
 use Rattle.ufs_model.specs.declared.data.Op.TheVariants as op
 use Rattle.ufs_store.specs.Refusals.{IsTold, stop_after}
 use Rattle.ufs_store.specs.State.{geometry_of_store}
+use Rattle.ufs_store.proofs.Raised.{raises_more}
+use Rattle.ufs_server.specs.Numbers.{most_committed, most_raised}
 use Rattle.ufs_server.specs.Answered.{IsSyncReply, device_in, device_told, stopped_in}
 use Rattle.ufs_server.proofs.Replied.{reply_device, reply_stopped, synced_entry}
 use Rattle.ufs_server.proofs.Syncs.{live_file, opened_is, reply_kind, which}
@@ -35,6 +37,9 @@ returns-in_default g c =
       stopped = λ fault is. c.sync_all.ensures.stopped fault (reply_stopped r fault (sym (ap stopped_in told_reply) ∙ is));
       told = record { told = subst (IsTold s0.faults s1.faults) (sym device) c.sync_all.ensures.cause; stop = c.sync_all.ensures.stop ∙ ap (stop_after s0.stop) (sym device) };
       still = λ fault is. device ∙ ap device_told (c.sync_all.ensures.refused fault is);
+      raised =
+          let most = most_committed (geometry_of_store s0) in
+          raises_more most most (most_raised (geometry_of_store s0)) (most_raised (geometry_of_store s0)) s0 s1 (omega arith) (omega arith) (c.sync_all.ensures.raised c.requires.asked.0 c.requires.asked.1);
     }
   where
     by : ((fd : ℕ) × (c.args.ask.now.op ≡ op.Fsync fd)) ⊎ (c.args.ask.now.op ≡ op.Sync) → c.args.ask.now.op ≡ op.Sync
@@ -82,3 +87,13 @@ returns-in-Some-file-clause-still g c fault is = ap device_in c.sync_reply-in-So
 
 pub returns-in-None-clause-still : goal.returns-in-None-clause-still
 returns-in-None-clause-still g c fault is = ap device_in c.sync_reply-in-None.ensures ∙ reply_device c.sync_names.result ∙ ap device_told (c.sync_names.ensures.refused fault is)
+
+pub returns-in-Some-file-clause-raised : goal.returns-in-Some-file-clause-raised
+returns-in-Some-file-clause-raised g c =
+    let most = most_raised (geometry_of_store (g.D.Door.store c.args.door.now)) in
+    raises_more 2 2 most most (g.D.Door.store c.args.door.now) (g.D.Door.store c.sync_file.new.door) (omega arith) (omega arith) c.sync_file.ensures.raised
+
+pub returns-in-None-clause-raised : goal.returns-in-None-clause-raised
+returns-in-None-clause-raised g c =
+    let most = most_raised (geometry_of_store (g.D.Door.store c.args.door.now)) in
+    raises_more 1 1 most most (g.D.Door.store c.args.door.now) (g.D.Door.store c.sync_names.new.door) (omega arith) (omega arith) c.sync_names.ensures.raised

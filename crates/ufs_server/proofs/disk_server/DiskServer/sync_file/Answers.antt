@@ -6,6 +6,7 @@ use Rattle.ufs_names.specs.NamesPart.{NamesPart}
 use Rattle.ufs_stored.specs.Parts.{Parts}
 use Rattle.ufs_stored.proofs.Stretches.{explained_joined}
 use Rattle.ufs_stored.proofs.Stamping.{go_on_named}
+use Rattle.ufs_store.proofs.Raised.{raises_then}
 use Rattle.ufs_server.proofs.Filed.{has_file, none_yet}
 use Rattle.ufs_server.proofs.Staying.{ends_joined}
 use Rattle.ufs_server.proofs.disk_server.DiskServer.sync_file.Goals as goal
@@ -39,3 +40,6 @@ pub commit_file-requires-clause-stamped : goal.commit_file-requires-clause-stamp
 commit_file-requires-clause-stamped g c stamps =
     let e = c.requires.stamped stamps in
     go_on_named _ _ _ _ _ c.sync_names.ensures.ends.sectors e (c.in_ok-sync_names.ensures.ok (g.met.D.Door.sees stamps) e.start e.history e.on_disk)
+
+pub returns-clause-raised : goal.returns-clause-raised
+returns-clause-raised g c = raises_then 1 1 1 1 (g.D.Door.store c.args.door.now) (g.D.Door.store c.sync_names.new.door) (g.D.Door.store c.commit_file.new.door) c.sync_names.ensures.raised c.commit_file.ensures.raised

@@ -20,7 +20,7 @@ use Rattle.ufs_stored.specs.Stored.{ArePartsOf}
 use Rattle.ufs_stored.proofs.Stamping.{is_going}
 use Rattle.ufs_server.specs.Away.{ForgetsNothing}
 use Rattle.ufs_server.proofs.Away.{forgets_none}
-use Rattle.ufs_server.proofs.Committed.{parts_committed, sound_committed}
+use Rattle.ufs_stored.proofs.Unfresh.{parts_committed, sound_committed}
 use Rattle.ufs_server.proofs.disk_server.DiskServer.sync_names.Given.{Over}
 use Rattle.ufs_server.proofs.disk_server.DiskServer.sync_names.Goals.{After-commit_notes-committed}
 use Rattle.ufs_server.proofs.disk_server.DiskServer.sync_names.Goals as goal

@@ -36,6 +36,7 @@ returns-in-Ok g c =
         untold = told_untold old new None c.in-Ok.ensures.cause (λ n stopped. none_passed n ((c.in-Ok.ensures.stopped n).1 stopped)) c.in-Ok.ensures.stop;
         forgets = forgets_none p _ (ap (λ (q : Parts). q.files) made);
       };
+      raised = passed.raised;
       promise = λ visible. record {
         on_disk = λ start history on. subst (IsOnDisk new start history) (sym made)
             (checkpoint_ok c.geometry-geometry.result c.reclaim_law.ensures.reclaimed old new start history p beside c.requires.nothing (subst (λ (h : Geometry). IsSoundServer h old.unassigned.free p) form c.requires.sound)
@@ -62,6 +63,7 @@ returns-in-Err g c =
         untold = told_untold old new _ failed.cause (λ n stopped. none_told _ n ((failed.stopped n).1 stopped)) failed.stop;
         forgets = λ file place away. away;
       };
+      raised = passed.raised;
       promise = λ visible. record {
         on_disk = λ start history. checkpoint_err c.geometry-geometry.result c.reclaim_law.ensures.fails old new start history p _ (record { old_form = form; new_form = passed.geometry ∙ form; unassigned = passed.blocks })
             (failed.device visible) failed.memory (λ n e. (failed.stopped n).0 e) failed.still failed.stop failed.refused;

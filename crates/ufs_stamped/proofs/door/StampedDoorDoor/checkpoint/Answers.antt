@@ -41,3 +41,12 @@ returns-clause-device g c = let at : g.D.Door.store c.self.inside.door ≡ g.D.D
 
 pub returns-clause-stopped : goal.returns-clause-stopped
 returns-clause-stopped g c = let at : g.D.Door.store c.self.inside.door ≡ g.D.Door.store c.args.self.now.door = ap (λ d. g.D.Door.store d.door) c.self.view_is in rw (← at) c.checkpoint-home.ensures.stopped
+
+pub returns-clause-begun : goal.returns-clause-begun
+returns-clause-begun g c = let at : g.D.Door.store c.self.inside.door ≡ g.D.Door.store c.args.self.now.door = ap (λ d. g.D.Door.store d.door) c.self.view_is in rw (← at) c.checkpoint-home.ensures.begun
+
+pub returns-clause-unbegun : goal.returns-clause-unbegun
+returns-clause-unbegun g c = let at : g.D.Door.store c.self.inside.door ≡ g.D.Door.store c.args.self.now.door = ap (λ d. g.D.Door.store d.door) c.self.view_is in rw (← at) c.checkpoint-home.ensures.unbegun
+
+pub returns-clause-raised : goal.returns-clause-raised
+returns-clause-raised g c = let at : g.D.Door.store c.self.inside.door ≡ g.D.Door.store c.args.self.now.door = ap (λ d. g.D.Door.store d.door) c.self.view_is in rw (← at) c.checkpoint-home.ensures.raised

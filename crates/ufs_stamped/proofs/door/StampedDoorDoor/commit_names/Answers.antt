@@ -48,3 +48,6 @@ returns-clause-ok g c = let at : g.D.Door.store c.self.inside.door ≡ g.D.Door.
 
 pub returns-clause-memory : goal.returns-clause-memory
 returns-clause-memory g c = let at : g.D.Door.store c.self.inside.door ≡ g.D.Door.store c.args.self.now.door = ap (λ d. g.D.Door.store d.door) c.self.view_is in rw (← at) c.commit_names-number.ensures.memory
+
+pub returns-clause-raised : goal.returns-clause-raised
+returns-clause-raised g c = let at : g.D.Door.store c.self.inside.door ≡ g.D.Door.store c.args.self.now.door = ap (λ d. g.D.Door.store d.door) c.self.view_is in rw (← at) c.commit_names-number.ensures.raised
