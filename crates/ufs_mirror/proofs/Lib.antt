@@ -13,3 +13,5 @@ mod Begun
 mod Ended
 mod Openings
 mod Faulty
+pub mod Counting
+pub mod Following

@@ -1,8 +1,8 @@
 -- What a pair of legs was and is, and what a mirror has by it.
-use Rattle.std.specs.Prelude.{◌≡◌, ℕ, Bool, IsTrue, List, [], ◌∷◌, ◌++◌, length, drop, map, if◌then◌else◌, nat_lt}
+use Rattle.std.specs.Prelude.{◌≡◌, ◌⊎◌, ℕ, Bool, IsTrue, List, [], ◌∷◌, ◌++◌, length, drop, map, if◌then◌else◌, nat_lt, ⊤}
 use Rattle.std.specs.List.{AllByRecursion}
 use Rattle.ufs_disk.specs.Disk.{Cell, State, possible}
-use Rattle.ufs_disk.specs.Moments.{Moments, all}
+use Rattle.ufs_disk.specs.Moments.{Moments, Passes, all}
 use Rattle.ufs_mirror.specs.declared.legs.Picks.{Picks}
 use Rattle.ufs_mirror.specs.declared.legs.Picks.TheVariants.{Either, First, Second}
 
@@ -29,18 +29,6 @@ nothing = record { older = []; seen = [] }
 abbrev pub state_of : ℕ → Pair → State
 state_of size pair sector = if nat_lt sector size then cell_of pair.picks (pair.first sector) (pair.second sector) else nothing
 
--- the moment that the pair is in, and those that it was in before, in order
-pub record Pairs : Type 0 where
-  pub earlier : List Pair
-  pub now : Pair
-
-abbrev pub all_pairs : Pairs → List Pair
-all_pairs pairs = pairs.earlier ++ pairs.now ∷ []
-
--- the mirror's moments
-abbrev pub moments_of : ℕ → Pairs → Moments
-moments_of size pairs = record { earlier = map (state_of size) pairs.earlier; state = state_of size pairs.now }
-
 -- the two legs between two calls
 pub record Snap : Type 0 where
   pub first : Moments
@@ -49,6 +37,19 @@ pub record Snap : Type 0 where
 
 abbrev pub present : Snap → Pair
 present snap = record { first = snap.first.state; second = snap.second.state; picks = snap.picks }
+
+-- the moment that the pair is in, and those that it was in before, in order; and the two legs, as they are now
+pub record Pairs : Type 0 where
+  pub earlier : List Pair
+  pub now : Pair
+  pub legs : Snap
+
+abbrev pub all_pairs : Pairs → List Pair
+all_pairs pairs = pairs.earlier ++ pairs.now ∷ []
+
+-- the mirror's moments
+abbrev pub moments_of : ℕ → Pairs → Moments
+moments_of size pairs = record { earlier = map (state_of size) pairs.earlier; state = state_of size pairs.now }
 
 -- the states that a leg passed from one to the other
 abbrev pub passed : Moments → Moments → List State
@@ -69,16 +70,34 @@ leads [] now = []
 leads (snap ∷ rest) now = present snap ∷ inside snap (next rest now) ++ leads rest now
 
 abbrev pub pairs_of : List Snap → Snap → Pairs
-pairs_of noted now = record { earlier = leads noted now; now = present now }
+pairs_of noted now = record { earlier = leads noted now; now = present now; legs = now }
 
 -- what was noted, by the moments of each leg
 abbrev pub watched : {E : Type 0} → (E → Moments) → (E → Moments) → List (E × Picks) → E → Picks → Pairs
 watched first second noted now picks =
     pairs_of (map (λ e. record { first = first e.0; second = second e.0; picks = e.1 }) noted) (record { first = first now; second = second now; picks = picks })
 
--- From the old moment to the new one, both included, the pair was only in moments that have R. Of legs of which one keeps
--- no moments this is known of the two alone.
+-- the state is one of these
+abbrev pub IsOneOf : State → List State → Type 0
+IsOneOf state [] = ⊥
+IsOneOf state (other ∷ rest) = (state ≡ other) ⊎ IsOneOf state rest
+
+-- Each state that a leg went through stands in one of these moments of the pair.
+pub record WentBy (pairs : List Pair) (old new : Snap) : Type 0 where
+  pub first : Passes (λ state. IsOneOf state (map (λ (pair : Pair). pair.first) pairs)) old.first new.first
+  pub second : Passes (λ state. IsOneOf state (map (λ (pair : Pair). pair.second) pairs)) old.second new.second
+
+-- From the old moment to the new one, both included, the pair was only in moments that have R, and each leg in no other state than
+-- in these. Of legs of which one keeps no moments this is known of the two moments alone.
 pub record Runs (keeps : Bool) (R : Pair → Type 0) (old new : Pairs) : Type 0 where
   pub before : R old.now
   pub after : R new.now
-  pub between : IsTrue keeps → (list : List Pair) × (all_pairs new ≡ all_pairs old ++ list) × AllByRecursion R list
+  pub between : IsTrue keeps → (list : List Pair) × (all_pairs new ≡ all_pairs old ++ list) × AllByRecursion R list × WentBy list old.legs new.legs
+
+-- so it is, whatever these moments are
+abbrev pub Follows : Bool → Pairs → Pairs → Type 0
+Follows keeps old new = Runs keeps (λ pair. ⊤) old new
+
+-- The pair was in no other moment.
+abbrev pub RunsStill : Bool → Pairs → Pairs → Type 0
+RunsStill keeps old new = Runs keeps (λ pair. pair ≡ old.now) old new

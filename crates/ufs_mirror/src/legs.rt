@@ -1,12 +1,12 @@
 // The two legs, watched: each call of a leg is noted, for proofs alone.
 ghost use Rattle.std.specs.Prelude.{◌≡◌, ◌+◌, ◌-◌, ◌≤◌, ◌<◌, ◌^◌, ◌&&◌, ◌/◌, ◌∷◌, ◌++◌, [], length, IsTrue, false, if◌then◌else◌, ℕ};
 ghost use Rattle.ufs_disk.specs.Disk.{IsImage, IsPartlyWritten, IsRange, IsSettled, Mixes, bytes_from, overwritten};
-ghost use Rattle.ufs_disk.specs.Moments.{reads};
+ghost use Rattle.ufs_disk.specs.Moments.{IsStill, reads};
 ghost use Rattle.ufs_base.specs.Faults.{raised};
 ghost use Rattle.ufs_mirror.specs.Calls.{Counts, IsSame, Rests, Wrote};
-ghost use Rattle.ufs_mirror.specs.Failing.{FailedAll, LetsGo};
+ghost use Rattle.ufs_mirror.specs.Failing.{FailedAll, HaveGrown, LetsGo};
 ghost use Rattle.ufs_mirror.specs.Labelled.{IsAlike, IsLabelled, IsMoment};
-ghost use Rattle.ufs_mirror.specs.Pairs.{Runs, moments_of, state_of, watched};
+ghost use Rattle.ufs_mirror.specs.Pairs.{Runs, RunsStill, moments_of, state_of, watched};
 ghost use Rattle.ufs_mirror.specs.declared.legs.Picks.{Picks};
 
 use crate::label::label;
@@ -72,6 +72,8 @@ impl<A: Disk, B: Disk> Legs<A, B> {
             → buf.new ≡ bytes_from (reads (A.moments self.old.both.first)) sector (length buf.old / 512) }
         ensures rests { IsTrue A.visible
             → Rests A.keeps (A.moments self.old.both.first) (A.moments self.new.both.first) }
+        ensures still { IsTrue A.visible
+            → IsStill A.keeps (A.moments self.old.both.first) (A.moments self.new.both.first) }
     {
         self.note();
         match self.both.first.read(sector, buf) {
@@ -137,6 +139,8 @@ impl<A: Disk, B: Disk> Legs<A, B> {
             → buf.new ≡ bytes_from (reads (B.moments self.old.both.second)) sector (length buf.old / 512) }
         ensures rests { IsTrue B.visible
             → Rests B.keeps (B.moments self.old.both.second) (B.moments self.new.both.second) }
+        ensures still { IsTrue B.visible
+            → IsStill B.keeps (B.moments self.old.both.second) (B.moments self.new.both.second) }
     {
         self.note();
         match self.both.second.read(sector, buf) {
@@ -251,6 +255,7 @@ impl<A: Disk, B: Disk> Legs<A, B> {
     }
 
     // After a call of both legs: one that failed it is let go, if the other did it.
+    #[tactic(auto, using(crate::proofs::Counting::none_calls, crate::proofs::Counting::first_calls, crate::proofs::Counting::second_calls))]
     fn go_on(&mut self, sectors: u32, number: &mut u64, first: bool, second: bool) -> bool
         requires either { self.old.picks ≡ Picks.Either }
         requires room { number.old < 2 ^ 64 - 1 }
@@ -266,6 +271,7 @@ impl<A: Disk, B: Disk> Legs<A, B> {
         ensures passed { IsTrue result → (A.faults self.new.both.first ≡ A.faults self.old.both.first) × (B.faults self.new.both.second ≡ B.faults self.old.both.second) }
         ensures first_failed { result ≡ false → A.faults self.new.both.first ≡ (if first then raised (A.faults self.old.both.first) else A.faults self.old.both.first) }
         ensures second_failed { result ≡ false → B.faults self.new.both.second ≡ (if second then raised (B.faults self.old.both.second) else B.faults self.old.both.second) }
+        ensures counts { HaveGrown (A.faults self.old.both.first) (A.faults self.new.both.first) (B.faults self.old.both.second) (B.faults self.new.both.second) }
         ensures first_did { IsTrue result → self.new.picks ≡ Picks.First → IsTrue first }
         ensures second_did { IsTrue result → self.new.picks ≡ Picks.Second → IsTrue second }
         ensures first_sized { A.size self.new.both.first ≡ A.size self.old.both.first }
@@ -294,6 +300,7 @@ impl<A: Disk, B: Disk> Legs<A, B> {
         requires range { IsRange sectors sector (length buf.old) }
         ensures picks { self.new.picks ≡ self.old.picks }
         ensures failed { result ≡ false → FailedAll self.old.picks (A.faults self.old.both.first) (A.faults self.new.both.first) (B.faults self.old.both.second) (B.faults self.new.both.second) }
+        ensures counts { HaveGrown (A.faults self.old.both.first) (A.faults self.new.both.first) (B.faults self.old.both.second) (B.faults self.new.both.second) }
         ensures first_sized { A.size self.new.both.first ≡ A.size self.old.both.first }
         ensures second_sized { B.size self.new.both.second ≡ B.size self.old.both.second }
         ensures bytes { IsTrue A.visible → IsTrue B.visible → (self.old.picks ≡ Picks.Either → IsAlike sectors (watched (λ l. A.moments l.first) (λ l. B.moments l.second) self.old.log.items self.old.both self.old.picks).now) → IsTrue result
@@ -302,6 +309,7 @@ impl<A: Disk, B: Disk> Legs<A, B> {
         ensures second { IsTrue B.visible → reads (B.moments self.new.both.second) ≡ reads (B.moments self.old.both.second) }
         ensures runs { (number : ℕ) → IsTrue A.visible → IsTrue B.visible → IsLabelled sectors number (watched (λ l. A.moments l.first) (λ l. B.moments l.second) self.old.log.items self.old.both self.old.picks).now
             → Runs (A.keeps && B.keeps) (IsMoment sectors number (IsImage (state_of sectors (watched (λ l. A.moments l.first) (λ l. B.moments l.second) self.old.log.items self.old.both self.old.picks).now))) (watched (λ l. A.moments l.first) (λ l. B.moments l.second) self.old.log.items self.old.both self.old.picks) (watched (λ l. A.moments l.first) (λ l. B.moments l.second) self.new.log.items self.new.both self.new.picks) }
+        ensures still { IsTrue A.visible → IsTrue B.visible → RunsStill (A.keeps && B.keeps) (watched (λ l. A.moments l.first) (λ l. B.moments l.second) self.old.log.items self.old.both self.old.picks) (watched (λ l. A.moments l.first) (λ l. B.moments l.second) self.new.log.items self.new.both self.new.picks) }
     {
         match self.picks {
             Picks::First => self.read_first(sector, buf),
@@ -324,6 +332,7 @@ impl<A: Disk, B: Disk> Legs<A, B> {
         requires room { self.old.picks ≡ Picks.Either → number.old < 2 ^ 64 - 1 }
         ensures room { IsTrue result → self.new.picks ≡ Picks.Either → number.new < 2 ^ 64 - 1 }
         ensures failed { result ≡ false → FailedAll self.old.picks (A.faults self.old.both.first) (A.faults self.new.both.first) (B.faults self.old.both.second) (B.faults self.new.both.second) }
+        ensures counts { HaveGrown (A.faults self.old.both.first) (A.faults self.new.both.first) (B.faults self.old.both.second) (B.faults self.new.both.second) }
         ensures lets_go { IsTrue result → LetsGo self.new.picks self.old.picks (A.faults self.old.both.first) (A.faults self.new.both.first) (B.faults self.old.both.second) (B.faults self.new.both.second) }
         ensures first_sized { A.size self.new.both.first ≡ A.size self.old.both.first }
         ensures second_sized { B.size self.new.both.second ≡ B.size self.old.both.second }
@@ -353,6 +362,7 @@ impl<A: Disk, B: Disk> Legs<A, B> {
         requires room { self.old.picks ≡ Picks.Either → number.old < 2 ^ 64 - 1 }
         ensures room { IsTrue result → self.new.picks ≡ Picks.Either → number.new < 2 ^ 64 - 1 }
         ensures failed { result ≡ false → FailedAll self.old.picks (A.faults self.old.both.first) (A.faults self.new.both.first) (B.faults self.old.both.second) (B.faults self.new.both.second) }
+        ensures counts { HaveGrown (A.faults self.old.both.first) (A.faults self.new.both.first) (B.faults self.old.both.second) (B.faults self.new.both.second) }
         ensures lets_go { IsTrue result → LetsGo self.new.picks self.old.picks (A.faults self.old.both.first) (A.faults self.new.both.first) (B.faults self.old.both.second) (B.faults self.new.both.second) }
         ensures first_sized { A.size self.new.both.first ≡ A.size self.old.both.first }
         ensures second_sized { B.size self.new.both.second ≡ B.size self.old.both.second }

@@ -2,11 +2,11 @@
 ghost use Rattle.std.specs.Prelude.{◌≡◌, ◌+◌, ◌-◌, ◌<◌, ◌^◌, ◌/◌, ◌&&◌, false, length, IfErr, IsTrue, OnErr, OnOk};
 ghost use Rattle.ufs_base.specs.Faults.{HasCause, raised};
 ghost use Rattle.ufs_disk.specs.Disk.{IsImage, IsPartlyWritten, IsRange, IsSettled, Mixes, bytes_from, overwritten};
-ghost use Rattle.ufs_disk.specs.Moments.{LeavesOnly, reads};
-ghost use Rattle.ufs_mirror.specs.Failing.{FailedAll, LetsGo};
+ghost use Rattle.ufs_disk.specs.Moments.{IsStill, LeavesOnly, reads};
+ghost use Rattle.ufs_mirror.specs.Failing.{FailedAll, HaveGrown, LetsGo};
 ghost use Rattle.ufs_mirror.specs.Labelled.{IsFit};
 ghost use Rattle.ufs_mirror.specs.Opens.{OpenRight};
-ghost use Rattle.ufs_mirror.specs.Pairs.{watched, moments_of};
+ghost use Rattle.ufs_mirror.specs.Pairs.{Follows, watched, moments_of};
 ghost use Rattle.ufs_mirror.specs.Props.{fit_prop};
 ghost use Rattle.ufs_mirror.specs.declared.legs.Picks.{Picks};
 ghost use Rattle.ufs_mirror.specs.declared.mirror.LiveLegs.{LiveLegs};
@@ -126,12 +126,19 @@ impl<A: Disk, B: Disk> Disk for Mirror<A, B> {
         ensures content { IsTrue (A.visible && B.visible) → reads (moments_of self.new.sectors (watched (λ l. A.moments l.first) (λ l. B.moments l.second) self.new.legs.log.items self.new.legs.both self.new.legs.picks)) ≡ reads (moments_of self.old.sectors (watched (λ l. A.moments l.first) (λ l. B.moments l.second) self.old.legs.log.items self.old.legs.both self.old.legs.picks)) }
         ensures crash { IsTrue (A.visible && B.visible) → LeavesOnly (A.keeps && B.keeps) (IsImage (moments_of self.old.sectors (watched (λ l. A.moments l.first) (λ l. B.moments l.second) self.old.legs.log.items self.old.legs.both self.old.legs.picks)).state)
             (moments_of self.old.sectors (watched (λ l. A.moments l.first) (λ l. B.moments l.second) self.old.legs.log.items self.old.legs.both self.old.legs.picks)) (moments_of self.new.sectors (watched (λ l. A.moments l.first) (λ l. B.moments l.second) self.new.legs.log.items self.new.legs.both self.new.legs.picks)) }
+        ensures still { IsTrue (A.visible && B.visible) → IsStill (A.keeps && B.keeps) (moments_of self.old.sectors (watched (λ l. A.moments l.first) (λ l. B.moments l.second) self.old.legs.log.items self.old.legs.both self.old.legs.picks)) (moments_of self.new.sectors (watched (λ l. A.moments l.first) (λ l. B.moments l.second) self.new.legs.log.items self.new.legs.both self.new.legs.picks)) }
         ensures size { self.new.sectors ≡ self.old.sectors }
         ensures cause { HasCause self.old.faults self.new.faults result }
         ensures number { IfErr result (λ fault. fault.number ≡ self.new.faults) }
 
         // A fault is answered only where each live leg failed in this call, or none was live.
         ensures failed { OnErr result (self.old.stopped ≡ false → FailedAll self.old.legs.picks (A.faults self.old.legs.both.first) (A.faults self.new.legs.both.first) (B.faults self.old.legs.both.second) (B.faults self.new.legs.both.second)) }
+
+        // No leg's count falls.
+        ensures counts { HaveGrown (A.faults self.old.legs.both.first) (A.faults self.new.legs.both.first) (B.faults self.old.legs.both.second) (B.faults self.new.legs.both.second) }
+
+        // Each moment that a leg was in is noted.
+        ensures noted { IsTrue A.visible → IsTrue B.visible → Follows (A.keeps && B.keeps) (watched (λ l. A.moments l.first) (λ l. B.moments l.second) self.old.legs.log.items self.old.legs.both self.old.legs.picks) (watched (λ l. A.moments l.first) (λ l. B.moments l.second) self.new.legs.log.items self.new.legs.both self.new.legs.picks) }
         ensures live { (self.new.stopped ≡ self.old.stopped) × (self.new.legs.picks ≡ self.old.legs.picks) }
     {
         if self.stopped {
@@ -158,6 +165,12 @@ impl<A: Disk, B: Disk> Disk for Mirror<A, B> {
 
         // A fault is answered only where each live leg failed in this call, or none was live.
         ensures failed { OnErr result (self.old.stopped ≡ false → FailedAll self.old.legs.picks (A.faults self.old.legs.both.first) (A.faults self.new.legs.both.first) (B.faults self.old.legs.both.second) (B.faults self.new.legs.both.second)) }
+
+        // No leg's count falls.
+        ensures counts { HaveGrown (A.faults self.old.legs.both.first) (A.faults self.new.legs.both.first) (B.faults self.old.legs.both.second) (B.faults self.new.legs.both.second) }
+
+        // Each moment that a leg was in is noted.
+        ensures noted { IsTrue A.visible → IsTrue B.visible → Follows (A.keeps && B.keeps) (watched (λ l. A.moments l.first) (λ l. B.moments l.second) self.old.legs.log.items self.old.legs.both self.old.legs.picks) (watched (λ l. A.moments l.first) (λ l. B.moments l.second) self.new.legs.log.items self.new.legs.both self.new.legs.picks) }
 
         // A leg is let go only where it failed. After a fault none is live.
         ensures live { OnOk result ((self.new.stopped ≡ false) × LetsGo self.new.legs.picks self.old.legs.picks (A.faults self.old.legs.both.first) (A.faults self.new.legs.both.first) (B.faults self.old.legs.both.second) (B.faults self.new.legs.both.second)) }
@@ -187,6 +200,12 @@ impl<A: Disk, B: Disk> Disk for Mirror<A, B> {
 
         // A fault is answered only where each live leg failed in this call, or none was live.
         ensures failed { OnErr result (self.old.stopped ≡ false → FailedAll self.old.legs.picks (A.faults self.old.legs.both.first) (A.faults self.new.legs.both.first) (B.faults self.old.legs.both.second) (B.faults self.new.legs.both.second)) }
+
+        // No leg's count falls.
+        ensures counts { HaveGrown (A.faults self.old.legs.both.first) (A.faults self.new.legs.both.first) (B.faults self.old.legs.both.second) (B.faults self.new.legs.both.second) }
+
+        // Each moment that a leg was in is noted.
+        ensures noted { IsTrue A.visible → IsTrue B.visible → Follows (A.keeps && B.keeps) (watched (λ l. A.moments l.first) (λ l. B.moments l.second) self.old.legs.log.items self.old.legs.both self.old.legs.picks) (watched (λ l. A.moments l.first) (λ l. B.moments l.second) self.new.legs.log.items self.new.legs.both self.new.legs.picks) }
 
         // A leg is let go only where it failed. After a fault none is live.
         ensures live { OnOk result ((self.new.stopped ≡ false) × LetsGo self.new.legs.picks self.old.legs.picks (A.faults self.old.legs.both.first) (A.faults self.new.legs.both.first) (B.faults self.old.legs.both.second) (B.faults self.new.legs.both.second)) }

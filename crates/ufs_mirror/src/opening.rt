@@ -294,6 +294,7 @@ impl<A: Disk, B: Disk> Mirror<A, B> {
     /// only where there is none, at 2^64 - 1, its fault refuses too.
     pub fn open(first: A, second: B) -> Result<Self, Unpaired<A, B>>
         ensures size { IfOk result (λ m. (m.sectors + 1 ≡ A.size first) × (m.sectors + 1 ≡ B.size second)) }
+        ensures least { OnOk result (2 ≤ A.size first) }
         ensures faults { IfOk result (λ m. m.faults ≡ 0) }
         ensures begun { IfOk result (λ m. m.stopped ≡ false) }
 
@@ -376,6 +377,7 @@ impl<A: Disk, B: Disk> Mirror<A, B> {
     /// are there for good nothing is promised of a crash.
     pub fn make(first: A, second: B) -> Result<Self, Unpaired<A, B>>
         ensures size { IfOk result (λ m. (m.sectors + 1 ≡ A.size first) × (m.sectors + 1 ≡ B.size second)) }
+        ensures least { OnOk result (2 ≤ A.size first) }
         ensures faults { IfOk result (λ m. m.faults ≡ 0) }
         ensures begun { IfOk result (λ m. m.stopped ≡ false) }
         ensures both { IfOk result (λ m. m.legs.picks ≡ Picks.Either) }

@@ -5,6 +5,8 @@
 #[cfg(test)]
 mod asserts;
 #[cfg(test)]
+mod copies;
+#[cfg(test)]
 mod labels;
 #[cfg(test)]
 mod legs;

@@ -1,4 +1,4 @@
-use Rattle.std.proofs.Common.{◌≡◌, ◌+◌, ◌-◌, arith, sym, ap, subst, ◌∙◌}
+use Rattle.std.proofs.Common.{◌≡◌, ◌≤◌, ◌+◌, ◌-◌, arith, sym, ap, subst, ◌∙◌}
 use Rattle.std.specs.Prelude.{IfOk}
 use Rattle.ufs_disk.specs.Moments.{reads}
 use Rattle.ufs_mirror.specs.Opens.{unlabelled}
@@ -14,6 +14,10 @@ returns-in-Ok-clause-size g c =
     let other : c.in-Ok.sectors - 1 + 1 ≡ g.B.Disk.size c.args.second = one ∙ c.in-Ok.ensures.both in
     ok_with c.make_of.result (λ m. m.sectors ≡ c.in-Ok.sectors - 1) (λ m. (m.sectors + 1 ≡ g.A.Disk.size c.args.first) × (m.sectors + 1 ≡ g.B.Disk.size c.args.second))
     (λ m is. (ap (λ n. n + 1) is ∙ one, ap (λ n. n + 1) is ∙ other)) c.make_of.ensures.size
+
+pub returns-in-Ok-clause-least : goal.returns-in-Ok-clause-least
+returns-in-Ok-clause-least g c =
+    ok_with c.make_of.result (λ m. m.sectors ≡ c.in-Ok.sectors - 1) (λ m. 2 ≤ g.A.Disk.size c.args.first) (λ m is. c.in-Ok.ensures.least) c.make_of.ensures.size
 
 pub returns-in-Ok-clause-content : goal.returns-in-Ok-clause-content
 returns-in-Ok-clause-content g c va vb =

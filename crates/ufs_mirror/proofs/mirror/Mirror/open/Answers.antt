@@ -1,4 +1,4 @@
-use Rattle.std.proofs.Common.{◌≡◌, ◌+◌, ◌-◌, None, Some, arith, sym, ap, subst, ◌∙◌}
+use Rattle.std.proofs.Common.{◌≡◌, ◌≤◌, ◌+◌, ◌-◌, None, Some, arith, sym, ap, subst, ◌∙◌}
 use Rattle.std.specs.Prelude.{IfErr, IfOk}
 use Rattle.ufs_disk.specs.Moments.{reads}
 use Rattle.ufs_mirror.specs.Joined.{IsCalm, next_generation}
@@ -26,6 +26,10 @@ pub returns-in-Ok-clause-size : goal.returns-in-Ok-clause-size
 returns-in-Ok-clause-size g c =
     ok_with c.open_found.result (λ m. m.sectors ≡ c.in-Ok.found.sectors) (λ m. (m.sectors + 1 ≡ g.A.Disk.size c.args.first) × (m.sectors + 1 ≡ g.B.Disk.size c.args.second))
     (λ m is. (ap (λ n. n + 1) is ∙ c.in-Ok.ensures.sectors.0, ap (λ n. n + 1) is ∙ c.in-Ok.ensures.sectors.1)) c.open_found.ensures.size
+
+pub returns-in-Ok-clause-least : goal.returns-in-Ok-clause-least
+returns-in-Ok-clause-least g c =
+    ok_with c.open_found.result (λ m. m.sectors ≡ c.in-Ok.found.sectors) (λ m. 2 ≤ g.A.Disk.size c.args.first) (λ m is. omega (arith, c.in-Ok.ensures.sectors.0, c.in-Ok.ensures.sectors.2)) c.open_found.ensures.size
 
 pub returns-in-Ok-clause-content : goal.returns-in-Ok-clause-content
 returns-in-Ok-clause-content g c va vb =
