@@ -6,11 +6,11 @@ use Rattle.std.specs.List.{AllByRecursion, flat_map}
 use Rattle.std.proofs.lemmas.List.{length-append, append_assoc, append-nil, drop_all}
 use Rattle.ufs_model.specs.declared.data.Op.{Op}
 use Rattle.ufs_model.proofs.Facts.Histories.{all-push}
-use Rattle.ufs_audit.specs.Trace.{IsFree}
-use Rattle.ufs_audit.specs.Replies.{IsReplyLine}
+use Rattle.ufs_lines.specs.Trace.{IsFree}
+use Rattle.ufs_lines.specs.Replies.{IsReplyLine}
 use Rattle.ufs_audit.specs.Audit.{IsLine, IsEnded, AreAnswersOf, AreAnswersFrom, AreAnswers, HasAnswers, LacksAnswers, text_of}
 use Rattle.ufs_audit.specs.Ends.{IsLast, Reads, TextLine, Settles, LacksOwn, OwnAnswers, AllAnswers}
-use Rattle.ufs_audit.proofs.CutLemmas.{IsSameCut, one_cut}
+use Rattle.ufs_lines.proofs.CutLemmas.{IsSameCut, one_cut}
 use Rattle.ufs_audit.proofs.ReadLemmas.{reads_on, reads_as}
 
 pub text_of-push : (lines : List (List ℕ)) (line : List ℕ) → text_of (lines ++ line ∷ []) ≡ text_of lines ++ line

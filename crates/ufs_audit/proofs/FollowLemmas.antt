@@ -8,11 +8,11 @@ use Rattle.ufs_model.specs.PosixTree.{PosixTree}
 use Rattle.ufs_model.specs.History.{tree_after, entries_of, requests_of, IsComplete}
 use Rattle.ufs_model.specs.declared.data.Op.{Op}
 use Rattle.ufs_model.specs.declared.data.Entry.{Entry}
-use Rattle.ufs_audit.specs.Trace.{Tells, TellOne}
+use Rattle.ufs_lines.specs.Trace.{Tells, TellOne}
 use Rattle.ufs_audit.specs.Audit.{IsLine, Begins, IsNextRequest, IsNextEntry, IsAnswered, IsAllowed, Reaches, IsAny, IsWhole, IsWrong, TellsNothing, TellsNext, GoesOn, entry_of}
 use Rattle.ufs_audit.specs.Following.{Follows, Stands, IsStep, IsTraceVerdict, total}
-use Rattle.ufs_audit.proofs.CutLemmas.{IsSameCut, one_cut}
-use Rattle.ufs_audit.specs.declared.told.Told.{Told}
+use Rattle.ufs_lines.proofs.CutLemmas.{IsSameCut, one_cut}
+use Rattle.ufs_lines.specs.declared.told.Told.{Told}
 use Rattle.ufs_audit.specs.declared.verdict.Verdict.{Verdict}
 use Rattle.ufs_audit.specs.declared.verdict.Verdict.TheVariants as verdict
 use Rattle.ufs_audit.specs.declared.verdict.Wrong.{Wrong}

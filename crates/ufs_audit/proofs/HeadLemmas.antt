@@ -21,7 +21,7 @@ use Rattle.ufs_script.specs.declared.fault.ScriptFault.TheVariants as script_fau
 use Rattle.ufs_audit.specs.Audit.{IsLine, IsEnded, IsVerdict, text_of}
 use Rattle.ufs_audit.specs.Sources.{IsBlank, AreBlanks, IsEndWord, IsEndLine, IsOther, IsOpen, IsClosed, IsSplit, Gives, HasScript, HasBrokenScript, HasVerdict, HasLongText, max_text}
 use Rattle.ufs_audit.specs.Ends.{IsLast, NextLine, NoBlankFirst, IsFrontCut, Stops, HasHead, HasScriptHead, Passes, TextVerdict}
-use Rattle.ufs_audit.proofs.CutLemmas.{free_last, one_last}
+use Rattle.ufs_lines.proofs.CutLemmas.{free_last, one_last}
 use Rattle.ufs_audit.proofs.AnswerLemmas.{text_of-push}
 use Rattle.ufs_audit.proofs.ReadLemmas.{gives_on, gives_none}
 

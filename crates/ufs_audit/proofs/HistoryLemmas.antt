@@ -17,12 +17,12 @@ use Rattle.ufs_model.specs.declared.data.Reply.TheVariants as reply
 use Rattle.ufs_model.proofs.Facts.Histories.{legal-push, order-push, order_none, all-push, take-push}
 use Rattle.ufs_model.proofs.PosixReplyLemmas.{posix_plain, plain_unexcused}
 use Rattle.ufs_script.specs.Output.{actor_text, via_text, why_text, line_text, lines_of, output_of, trace_text, excuse_words}
-use Rattle.ufs_audit.specs.Trace.{Tells, told_text, end_text, excuse_told}
+use Rattle.ufs_lines.specs.Trace.{Tells, told_text, end_text, excuse_told}
 use Rattle.ufs_audit.specs.Audit.{Begins, AreAnswersOf, AreAnswersFrom, AreAnswers, Reaches, IsAny, IsWhole, IsNextEntry, IsAnswered, answer_to, reply_with, text_of, entry_of}
 use Rattle.ufs_audit.specs.Laws.{IsHistory, IsFront, Transcript, LegalTextsArePrinted, LegalFrontsArePrinted, entries_in, traces_of, printed_of, front_of}
-use Rattle.ufs_audit.specs.declared.told.Told.{Told}
-use Rattle.ufs_audit.specs.declared.told.Why.{Why}
-use Rattle.ufs_audit.specs.declared.told.Why.TheVariants as why
+use Rattle.ufs_lines.specs.declared.told.Told.{Told}
+use Rattle.ufs_lines.specs.declared.told.Why.{Why}
+use Rattle.ufs_lines.specs.declared.told.Why.TheVariants as why
 use Rattle.ufs_audit.proofs.AnswerLemmas.{flat-push}
 
 -- ---- the line of an entry

@@ -1,17 +1,13 @@
 pub mod FollowLemmas
 pub mod FaultLemmas
 pub mod StepLemmas
-pub mod CutLemmas
 pub mod ReadLemmas
-pub mod WordLemmas
 pub mod AnswerLemmas
 pub mod CauseLemmas
 pub mod VerdictLemmas
 pub mod TraceLemmas
 pub mod HeadLemmas
-pub mod ReplyLemmas
 pub mod RequestLemmas
-pub mod TellLemmas
 pub mod Rows
 pub mod HistoryLemmas
 pub mod PrintedLemmas

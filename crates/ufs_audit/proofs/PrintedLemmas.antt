@@ -17,15 +17,15 @@ use Rattle.ufs_model.specs.declared.data.Reply.{Reply}
 use Rattle.ufs_model.specs.declared.data.Reply.TheVariants as reply
 use Rattle.ufs_model.proofs.Facts.Histories.{tree_after-push}
 use Rattle.ufs_script.specs.Output.{actor_text, more_actors, via_text, why_text, excuse_words, reply_text, line_text, lines_of, output_of, trace_text}
-use Rattle.ufs_audit.specs.Trace.{IsFree, IsActor, IsExcuse, IsWhy, IsTold, Tells, told_text, end_text, excuse_told}
-use Rattle.ufs_audit.specs.Replies.{FitsReply, IsReplyLine}
+use Rattle.ufs_lines.specs.Trace.{IsFree, IsActor, IsExcuse, IsWhy, IsTold, Tells, told_text, end_text, excuse_told}
+use Rattle.ufs_lines.specs.Replies.{FitsReply, IsReplyLine}
 use Rattle.ufs_audit.specs.Audit.{IsLine, IsEnded, AreAnswersOf, AreAnswersFrom, AreAnswers, Reaches, IsAny, IsWhole, IsNextEntry, IsNextRequest, IsAnswered, answer_to, reply_with, text_of, entry_of}
 use Rattle.ufs_audit.specs.Laws.{IsHistory, IsFront, Transcript, FitsEntry, PrintedTextsAreLegal, PrintedFrontsAreLegal, entries_in, traces_of, printed_of, front_of}
-use Rattle.ufs_audit.specs.declared.told.Told.{Told}
-use Rattle.ufs_audit.specs.declared.told.Why.{Why}
-use Rattle.ufs_audit.specs.declared.told.Why.TheVariants as why
-use Rattle.ufs_audit.proofs.CutLemmas.{free_append}
-use Rattle.ufs_audit.proofs.WordLemmas.{decimal_free, actor_free}
+use Rattle.ufs_lines.specs.declared.told.Told.{Told}
+use Rattle.ufs_lines.specs.declared.told.Why.{Why}
+use Rattle.ufs_lines.specs.declared.told.Why.TheVariants as why
+use Rattle.ufs_lines.proofs.CutLemmas.{free_append}
+use Rattle.ufs_lines.proofs.WordLemmas.{decimal_free, actor_free}
 use Rattle.ufs_audit.proofs.StepLemmas.{there}
 use Rattle.ufs_audit.proofs.HistoryLemmas.{trace_is, own_entries}
 

@@ -5,11 +5,11 @@ use Rattle.std.specs.List.{position}
 use Rattle.std.specs.Io.KnownBytes.{Consumes, IsAtEnd}
 use Rattle.std.proofs.KnownBytes.{Consumes-trans, Consumes-nil}
 use Rattle.std.proofs.lemmas.List.{length-append, append_assoc, append-nil, take-append-drop, drop_all}
-use Rattle.ufs_audit.specs.Trace.{IsFree}
+use Rattle.ufs_lines.specs.Trace.{IsFree}
 use Rattle.ufs_audit.specs.Audit.{IsLine, IsEnded}
 use Rattle.ufs_audit.specs.Sources.{Gives}
 use Rattle.ufs_audit.specs.Ends.{IsLast, Moved, Refilled, Filled, NextLine, Reads, Passes, TextLine, Settles}
-use Rattle.ufs_audit.proofs.CutLemmas.{free_append, cut_at, through, all_free, drop_twice}
+use Rattle.ufs_lines.proofs.CutLemmas.{free_append, cut_at, through, all_free, drop_twice}
 
 pub gives_none : (a : Option (List ℕ)) (h : List ℕ) → Gives a a h h []
 gives_none a h = ([], Consumes-nil a, append-nil h)

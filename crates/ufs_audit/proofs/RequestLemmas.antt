@@ -10,8 +10,8 @@ use Rattle.ufs_model.specs.History.{requests_of}
 use Rattle.ufs_model.specs.declared.data.Op.{Op}
 use Rattle.ufs_audit.specs.Audit.{IsLine, IsEnded, answer_to}
 use Rattle.ufs_audit.specs.Following.{IsCount}
-use Rattle.ufs_audit.specs.declared.told.Told.{Told}
-use Rattle.ufs_audit.proofs.CutLemmas.{free_last}
+use Rattle.ufs_lines.specs.declared.told.Told.{Told}
+use Rattle.ufs_lines.proofs.CutLemmas.{free_last}
 use Rattle.ufs_audit.proofs.StepLemmas.{there}
 
 -- ---- an item that is there

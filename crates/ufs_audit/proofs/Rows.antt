@@ -8,8 +8,8 @@ use Rattle.ufs_model.specs.declared.data.Actor.TheVariants as actor
 use Rattle.ufs_model.specs.declared.data.Excuse.TheVariants as excuse
 use Rattle.ufs_model.specs.declared.data.Op.TheVariants as op
 use Rattle.ufs_model.specs.declared.data.Reply.TheVariants as reply
-use Rattle.ufs_audit.specs.declared.told.Why.TheVariants as why
-use Rattle.ufs_audit.specs.Trace.{told_text, Tells}
+use Rattle.ufs_lines.specs.declared.told.Why.TheVariants as why
+use Rattle.ufs_lines.specs.Trace.{told_text, Tells}
 use Rattle.ufs_audit.specs.Audit.{IsLegalText, IsVerdict, entry_of}
 use Rattle.ufs_audit.specs.declared.verdict.Verdict.TheVariants as verdict
 
@@ -25,7 +25,7 @@ sent_on = refl
 nothing : IsLegalText root_alone [] 0 []
 nothing = ([], [], (tt, refl), (refl, λ client. refl))
 
-told_ok : (seq : ℕ) (l : List ℕ) → slice_get (codes "0.0 ok\n" ∷ []) seq ≡ Some l → Rattle.ufs_audit.specs.Replies.IsReplyLine 0 seq l
+told_ok : (seq : ℕ) (l : List ℕ) → slice_get (codes "0.0 ok\n" ∷ []) seq ≡ Some l → Rattle.ufs_lines.specs.Replies.IsReplyLine 0 seq l
 unfolding digits
 told_ok zero l is = let same : codes "0.0 ok\n" ≡ l = cc in (reply.Done, tt, sym same)
 told_ok (suc seq) l is = cc

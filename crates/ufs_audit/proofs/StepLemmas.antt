@@ -16,11 +16,11 @@ use Rattle.ufs_model.specs.declared.data.Excuse.TheVariants as excuse
 use Rattle.ufs_model.proofs.Facts.Histories.{own-push, others-push, tree_after-push}
 use Rattle.ufs_model.proofs.PosixReplyLemmas.{unexcused, stepped_on}
 use Rattle.ufs_script.specs.Output.{line_text}
-use Rattle.ufs_audit.specs.Trace.{Tells, excuse_told}
+use Rattle.ufs_lines.specs.Trace.{Tells, excuse_told}
 use Rattle.ufs_audit.specs.Audit.{Begins, IsNextRequest, IsNextEntry, IsAnswered, IsAllowed, IsWhole, IsWrong, TellsNothing, answer_to, reply_with, entry_of}
 use Rattle.ufs_audit.specs.Following.{Follows, Stands, IsStep, IsCount, IsJudged, IsRight, IsFresh, AreFaultsOf, total, with_fault}
-use Rattle.ufs_audit.specs.declared.told.Told.{Told}
-use Rattle.ufs_audit.specs.declared.told.Why.TheVariants as why
+use Rattle.ufs_lines.specs.declared.told.Told.{Told}
+use Rattle.ufs_lines.specs.declared.told.Why.TheVariants as why
 use Rattle.ufs_audit.specs.declared.verdict.Wrong.{Wrong}
 use Rattle.ufs_audit.specs.declared.verdict.Wrong.TheVariants as wrong
 use Rattle.ufs_audit.proofs.FollowLemmas.{begins_one, not_nil}

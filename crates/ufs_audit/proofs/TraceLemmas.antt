@@ -6,7 +6,7 @@ use Rattle.ufs_model.specs.PosixTree.{PosixTree}
 use Rattle.ufs_model.specs.History.{tree_after, IsComplete}
 use Rattle.ufs_model.specs.declared.data.Op.{Op}
 use Rattle.ufs_model.specs.declared.data.Entry.{Entry}
-use Rattle.ufs_audit.specs.Trace.{TellOne, Tells}
+use Rattle.ufs_lines.specs.Trace.{TellOne, Tells}
 use Rattle.ufs_audit.specs.Audit.{IsLine, IsEnded, Begins, IsWrong, IsWhole, IsVerdict, AreAnswers, LacksAnswers, text_of, entry_of}
 use Rattle.ufs_audit.specs.Following.{Stands, Follows, IsStep, IsTraceVerdict}
 use Rattle.ufs_audit.specs.Sources.{Gives}
@@ -15,7 +15,7 @@ use Rattle.ufs_audit.specs.declared.verdict.Verdict.{Verdict}
 use Rattle.ufs_audit.specs.declared.verdict.Verdict.TheVariants as verdict
 use Rattle.ufs_audit.specs.declared.verdict.Wrong.{Wrong}
 use Rattle.ufs_audit.specs.declared.verdict.Wrong.TheVariants as wrong
-use Rattle.ufs_audit.proofs.CutLemmas.{free_last, one_last}
+use Rattle.ufs_lines.proofs.CutLemmas.{free_last, one_last}
 use Rattle.ufs_audit.proofs.ReadLemmas.{reads_on, reads_as, reads_none, gives_on, settle}
 use Rattle.ufs_audit.proofs.AnswerLemmas.{no_ended}
 use Rattle.ufs_audit.proofs.FollowLemmas.{IsRun, begins_run, one_more, illegal, legal, few_entries}

@@ -1,5 +1,5 @@
 -- A verdict on the trace is one on the whole text, since a text has one cut between replies and trace.
-use Rattle.std.proofs.Common.{◌≡◌, ℕ, ◌+◌, List, [], ◌∷◌, ◌++◌, ap, sym, refl, subst, ◌∙◌, length, arith, inl, inr, zero, suc, Ok, Err, IfOk, Result}
+use Rattle.std.proofs.Common.{◌≡◌, ℕ, ◌+◌, List, [], ◌∷◌, ◌++◌, ap, sym, refl, subst, ◌∙◌, length, arith, inl, inr, zero, suc}
 use Rattle.std.specs.List.{AllByRecursion, flat_map}
 use Rattle.std.proofs.lemmas.List.{append_assoc}
 use Rattle.ufs_model.specs.PosixTree.{PosixTree}
@@ -58,10 +58,6 @@ module _ (start : PosixTree) (clients : List (List Op)) (text : List ℕ) (answe
     ends = λ to. is.1 (reaches_own IsAny (ticket + 1) to.0 to.1 to.2 to.3);
     stands = inl (answers, trace, has, is.2);
   }
-
-pub if_ok : {A E : Type 0} {P Q : A → Type 0} (r : Result A E) → ((x : A) → P x → Q x) → IfOk r P → IfOk r Q
-if_ok (Ok x) f p = f x p
-if_ok (Err e) f p = tt
 
 -- a text that lacks lines of replies
 pub lacks_verdict : (start : PosixTree) (clients : List (List Op)) (text : List ℕ) → LacksAnswers clients text → IsVerdict start clients text (verdict.Illegal 0 wrong.Text)

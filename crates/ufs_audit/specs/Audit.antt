@@ -10,9 +10,9 @@ use Rattle.ufs_model.specs.declared.data.Excuse.{Excuse}
 use Rattle.ufs_model.specs.declared.data.Reply.{Reply}
 use Rattle.ufs_model.specs.declared.data.Reply.TheVariants as reply
 use Rattle.ufs_script.specs.Output.{line_text}
-use Rattle.ufs_audit.specs.Trace.{Tells, IsFree, IsCut, excuse_told}
-use Rattle.ufs_audit.specs.Replies.{IsReplyLine}
-use Rattle.ufs_audit.specs.declared.told.Told.{Told}
+use Rattle.ufs_lines.specs.Trace.{Tells, IsFree, IsCut, excuse_told}
+use Rattle.ufs_lines.specs.Replies.{IsReplyLine}
+use Rattle.ufs_lines.specs.declared.told.Told.{Told}
 use Rattle.ufs_audit.specs.declared.verdict.Verdict.{Verdict}
 use Rattle.ufs_audit.specs.declared.verdict.Verdict.TheVariants as verdict
 use Rattle.ufs_audit.specs.declared.verdict.Wrong.{Wrong}

@@ -13,21 +13,11 @@ use Rattle.ufs_audit.specs.declared.verdict.Wrong.TheVariants as wrong
 use Rattle.ufs_audit.specs.Sources.{Gives, IsBlank, AreBlanks, IsOpen, IsClosed}
 use Rattle.ufs_script.specs.Script.{script_of, max_script}
 use Rattle.ufs_script.specs.declared.script.Script.{Script}
-use Rattle.std.specs.List.{AllByRecursion, flat_map}
-use Rattle.ufs_model.specs.declared.data.Actor.{Actor}
-use Rattle.ufs_script.specs.Output.{actor_text, via_text}
-use Rattle.ufs_audit.specs.Trace.{IsActor, IsWhy, end_text, excuse_told}
-use Rattle.ufs_audit.specs.declared.trace.Server.{Server}
+use Rattle.std.specs.List.{flat_map}
 use Rattle.ufs_audit.specs.declared.fault.TextFault.{TextFault}
 use Rattle.ufs_audit.specs.declared.fault.TextFault.TheVariants as text_fault
 use Rattle.ufs_audit.specs.declared.fault.AuditFault.{AuditFault}
 use Rattle.ufs_audit.specs.declared.fault.AuditFault.TheVariants as fault
-
--- who served it, who sent it on, and the excuse
-abbrev pub TellsServer : Server → List ℕ → Type 0
-TellsServer served text =
-    (via : List Actor) × AllByRecursion IsActor via × IsActor served.by × IsWhy served.why
-    × (text ≡ actor_text served.by ++ (via_text via ++ end_text (excuse_told served.why)))
 
 -- ---- lines of a source
 

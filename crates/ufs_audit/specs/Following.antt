@@ -11,7 +11,7 @@ use Rattle.ufs_model.specs.declared.data.Excuse.TheVariants as excuse
 use Rattle.ufs_model.specs.declared.data.Reply.{Reply}
 use Rattle.ufs_model.specs.declared.data.Reply.TheVariants as reply
 use Rattle.ufs_audit.specs.Audit.{Begins, Reaches, IsAny, IsWhole, IsWrong, IsNextEntry, IsAnswered, entry_of}
-use Rattle.ufs_audit.specs.declared.told.Told.{Told}
+use Rattle.ufs_lines.specs.declared.told.Told.{Told}
 use Rattle.ufs_audit.specs.declared.verdict.Verdict.{Verdict}
 use Rattle.ufs_audit.specs.declared.verdict.Verdict.TheVariants as verdict
 use Rattle.ufs_audit.specs.declared.verdict.Wrong.{Wrong}

@@ -9,8 +9,8 @@ use Rattle.ufs_model.specs.declared.data.Entry.{Entry}
 use Rattle.ufs_model.specs.declared.data.Excuse.{Excuse}
 use Rattle.ufs_model.specs.declared.data.Reply.TheVariants as reply
 use Rattle.ufs_script.specs.Output.{reply_text, output_of, trace_text}
-use Rattle.ufs_audit.specs.Trace.{IsActor, IsExcuse}
-use Rattle.ufs_audit.specs.Replies.{FitsReply}
+use Rattle.ufs_lines.specs.Trace.{IsActor, IsExcuse}
+use Rattle.ufs_lines.specs.Replies.{FitsReply}
 use Rattle.ufs_audit.specs.Audit.{IsLine, IsLegalText, IsLegalTo, IsAny, IsAnswered, AreAnswers, text_of}
 
 -- a history of so many entries that is legal, in the clients' order and complete

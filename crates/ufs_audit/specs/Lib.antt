@@ -1,5 +1,3 @@
-pub mod Trace
-pub mod Replies
 pub mod Audit
 pub mod Following
 pub mod Sources

@@ -3,18 +3,17 @@ ghost use Rattle.std.specs.Prelude.{◌≡◌, ◌≢◌, ◌≤◌, ◌<◌, �
 ghost use Rattle.std.specs.Option.{option_map};
 ghost use Rattle.ufs_base.specs.Faults.{raised};
 ghost use Rattle.ufs_audit.specs.Audit.{IsEnded, IsLine, AreAnswersOf};
-ghost use Rattle.ufs_audit.specs.Replies.{IsReplyLine};
+ghost use Rattle.ufs_lines.specs.Replies.{IsReplyLine};
 ghost use Rattle.ufs_audit.specs.Ends.{TextLine, Passes, OwnAnswers, AllAnswers};
 ghost use Rattle.ufs_audit.specs.declared.fault.TextFault.TheVariants as fault;
 
 use crate::fault::TextFault;
 use crate::reader::{Ahead, next_line};
-use crate::replies::is_reply_line;
-use crate::words::without_last;
 use std::alloc::Global;
 use std::marker::Model;
 use ufs_base::Memory;
 use ufs_io::Source;
+use ufs_lines::{is_reply_line, without_last};
 use ufs_model::Bytes;
 use ufs_script::OpList;
 

@@ -12,13 +12,12 @@ ghost use Rattle.ufs_audit.specs.declared.fault.TextFault.TheVariants as text_fa
 use crate::answers::{AnswerList, read_answers, text_line};
 use crate::fault::{AuditFault, TextFault};
 use crate::head::read_script_head;
-use crate::law::a_line_tells_one_thing;
 use crate::reader::Ahead;
 use crate::state::State;
 use crate::verdict::{Verdict, Wrong};
-use crate::words::without_last;
 use std::alloc::Global;
 use ufs_io::{PlainSource, Source};
+use ufs_lines::{a_line_tells_one_thing, without_last};
 use ufs_model::PathTree;
 use ufs_script::OpList;
 use ufs_tree::Tree;

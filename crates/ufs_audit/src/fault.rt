@@ -50,32 +50,6 @@ impl From<Memory> for AuditFault {
     }
 }
 
-impl From<AllocError> for AuditFault {
-    ghost use Rattle.std.specs.Prelude.{◌≡◌};
-    ghost use Rattle.ufs_base.specs.Wanting.{wanting};
-    ghost use Rattle.ufs_base.specs.declared.lack.Lack.TheVariants as lack;
-    ghost use Rattle.ufs_audit.specs.declared.fault.AuditFault.TheVariants as fault;
-
-    ghost from_gives = { λ _ e. e ≡ fault.Lack (lack.Memory wanting) };
-
-    fn from(refused: AllocError) -> Self {
-        AuditFault::Lack(Lack::from(refused))
-    }
-}
-
-impl<T: Drop> From<AllocFailed<T>> for AuditFault {
-    ghost use Rattle.std.specs.Prelude.{◌≡◌};
-    ghost use Rattle.ufs_base.specs.Wanting.{wanting};
-    ghost use Rattle.ufs_base.specs.declared.lack.Lack.TheVariants as lack;
-    ghost use Rattle.ufs_audit.specs.declared.fault.AuditFault.TheVariants as fault;
-
-    ghost from_gives = { λ _ e. e ≡ fault.Lack (lack.Memory wanting) };
-
-    fn from(failed: AllocFailed<T>) -> Self {
-        AuditFault::Lack(Lack::from(failed))
-    }
-}
-
 impl From<Lack> for TextFault {
     ghost use Rattle.std.specs.Prelude.{◌≡◌};
     ghost use Rattle.ufs_audit.specs.declared.fault.TextFault.TheVariants as fault;

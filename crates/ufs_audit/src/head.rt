@@ -15,9 +15,9 @@ ghost use Rattle.ufs_audit.specs.declared.fault.AuditFault.TheVariants as fault;
 
 use crate::fault::{AuditFault, TextFault};
 use crate::reader::{Ahead, next_line};
-use crate::words::{behind, without_last};
 use std::alloc::Global;
 use ufs_io::{PlainSource, Source};
+use ufs_lines::{behind, without_last};
 use ufs_script::{Script, ScriptFault, a_longer_text_breaks_alike, read_script};
 
 // The greatest length of a script, in bytes.

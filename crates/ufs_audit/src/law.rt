@@ -1,10 +1,4 @@
 ghost use Rattle.ufs_audit.specs.Laws.{LegalTextsArePrinted, PrintedTextsAreLegal, LegalFrontsArePrinted, PrintedFrontsAreLegal};
-ghost use Rattle.ufs_audit.specs.Trace.{TellOne};
-
-/// A law on traces, which costs nothing: a line tells one thing at most.
-pub fn a_line_tells_one_thing()
-    ensures { TellOne }
-{}
 
 /// A law on texts, which costs nothing: a legal text is what is printed of a history that is legal, in order and
 /// complete.

@@ -9,11 +9,11 @@ ghost use Rattle.ufs_audit.specs.declared.fault.TextFault.{TextFault};
 ghost use Rattle.ufs_audit.specs.declared.fault.TextFault.TheVariants as fault;
 
 use crate::fault::TextFault;
-use crate::words::place_of;
 use std::alloc::Global;
 use std::marker::Model;
 use ufs_base::Memory;
 use ufs_io::Source;
+use ufs_lines::place_of;
 
 const PIECE: usize = 4096;
 

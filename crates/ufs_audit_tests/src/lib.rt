@@ -6,6 +6,8 @@ mod asserts;
 #[cfg(test)]
 mod audits;
 #[cfg(test)]
+mod lines;
+#[cfg(test)]
 mod long;
 #[cfg(test)]
 mod spoiled;

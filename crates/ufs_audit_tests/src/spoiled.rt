@@ -1,4 +1,4 @@
-// A legal text that is spoiled at each place: cut off, a line left out, doubled or swapped, a digit changed.
+// Legal texts that are spoiled at each place: cut off, a line left out, doubled or swapped, a digit or any byte changed.
 use crate::asserts::same;
 use crate::audits::{REPLIES, SCRIPT, TRACE, answer_to, illegal};
 use std::alloc::AllocGlobal;
@@ -57,12 +57,11 @@ const LINES: [(u64, u64, u64); 11] = [
 ];
 
 // The text's lines, those of these numbers in this order in the place of two.
-fn with_lines<R: Abort + AllocGlobal>(rt: &R, at: usize, order: &[usize]) -> Vec<u8> {
-    let text = whole(rt);
+fn with_lines<R: Abort + AllocGlobal>(rt: &R, text: &[u8], at: usize, order: &[usize]) -> Vec<u8> {
     let mut spoiled = Vec::new(rt.alloc());
-    for (i, line) in text.as_slice().split(|b| *b == b'\n').enumerate() {
+    for (i, line) in text.split(|b| *b == b'\n').enumerate() {
         if i == at {
-            put_lines(rt, &mut spoiled, text.as_slice(), order);
+            put_lines(rt, &mut spoiled, text, order);
         }
         if i != at && (i == 0 || i - 1 != at) && !line.is_empty() {
             put_line(rt, &mut spoiled, line);
@@ -88,22 +87,23 @@ fn put_lines<R: Abort>(rt: &R, spoiled: &mut Vec<u8>, text: &[u8], order: &[usiz
 
 #[test]
 fn each_line_has_its_place(rt: HostRuntime) {
+    let legal = whole(&rt);
     for (at, (out, twice, swapped)) in LINES.iter().enumerate() {
-        let text = with_lines(&rt, at, &[at + 1]);
+        let text = with_lines(&rt, legal.as_slice(), at, &[at + 1]);
         same(
             &rt,
             "out",
             verdict(&rt, text.as_slice()),
             Some(illegal(*out, Wrong::Text)),
         );
-        let text = with_lines(&rt, at, &[at, at, at + 1]);
+        let text = with_lines(&rt, legal.as_slice(), at, &[at, at, at + 1]);
         same(
             &rt,
             "twice",
             verdict(&rt, text.as_slice()),
             Some(illegal(*twice, Wrong::Text)),
         );
-        let text = with_lines(&rt, at, &[at + 1, at]);
+        let text = with_lines(&rt, legal.as_slice(), at, &[at + 1, at]);
         same(
             &rt,
             "swapped",
@@ -152,5 +152,81 @@ fn each_digit_counts(rt: HostRuntime) {
             }
             _ => {}
         }
+    }
+}
+
+// Three clients, whose requests were served in turn; a worker had the file for a while, and once memory was wanting.
+const OTHER: &str =
+    "client 0\nmkdir /d\nopen /d/a rw creat\nwrite 3 00ff10\nseek 3 set 1\nread 3 9\nclient 1\nopen /d/a r\npread 3 2 1\nclose 3\nclient 2\nrename /d /e\nstat /e/a\nend\n";
+
+const OTHER_REPLIES: &str =
+    "0.0 ok\n0.1 fd 3\n0.2 n 3\n0.3 at 1\n0.4 err ENOMEM\n1.0 fd 3\n1.1 data ff10\n1.2 ok\n2.0 ok\n2.1 file 3\n";
+
+const OTHER_TRACE: &str =
+    "# 0 0.0 by p\n# 1 0.1 by p\n# 2 0.2 by p\n# 3 1.0 by p\n# 4 0.3 by c0\n# 5 1.1 by w1 via p,w2\n# 6 2.0 by p\n# 7 0.4 by w1 excuse memory\n# 8 2.1 by p\n# 9 1.2 by c1\n";
+
+fn other<R: Abort + AllocGlobal>(rt: &R) -> Vec<u8> {
+    let text = format!(in rt.alloc(); "{OTHER_REPLIES}{OTHER_TRACE}").expect(rt, "memory");
+    text.into_bytes()
+}
+
+fn is_other<R: Abort + AllocGlobal>(rt: &R, row: &str, text: &[u8], wanted: Verdict) {
+    let found = answer_to(rt, OTHER.as_bytes(), text).ok();
+    same(rt, row, found, Some(wanted));
+}
+
+// Ticket 0 for the ten lines of the replies.
+fn ticket_of(line: u64) -> u64 {
+    line.saturating_sub(10)
+}
+
+// No line that is legal has a byte 0, and no front of the text is legal.
+#[test]
+fn each_byte_counts(rt: HostRuntime) {
+    let mut text = other(&rt);
+    is_other(
+        &rt,
+        "whole",
+        text.as_slice(),
+        Verdict::Legal { entries: 10 },
+    );
+    for i in 0..text.len() {
+        let ticket = ticket_of(lines_in(&text.as_slice()[..i]));
+        is_other(
+            &rt,
+            "front",
+            &text.as_slice()[..i],
+            illegal(ticket, Wrong::Text),
+        );
+        let byte = text[i];
+        text[i] = 0;
+        is_other(
+            &rt,
+            "changed",
+            text.as_slice(),
+            illegal(ticket, Wrong::Text),
+        );
+        text[i] = byte;
+    }
+}
+
+// Each line of a trace has its own ticket, and each line of a reply its own request.
+#[test]
+fn each_line_stands_once(rt: HostRuntime) {
+    let legal = other(&rt);
+    for at in 0..19usize {
+        let ticket = ticket_of(at as u64);
+        let twice = if at < 10 { 0 } else { ticket.saturating_add(1) };
+        let text = with_lines(&rt, legal.as_slice(), at, &[at + 1]);
+        is_other(&rt, "out", text.as_slice(), illegal(ticket, Wrong::Text));
+        let text = with_lines(&rt, legal.as_slice(), at, &[at, at, at + 1]);
+        is_other(&rt, "twice", text.as_slice(), illegal(twice, Wrong::Text));
+        let text = with_lines(&rt, legal.as_slice(), at, &[at + 1, at]);
+        is_other(
+            &rt,
+            "swapped",
+            text.as_slice(),
+            illegal(ticket, Wrong::Text),
+        );
     }
 }

@@ -1,5 +1,5 @@
 use Rattle.std.proofs.Common.{◌≡◌, ℕ, List, true, false, sym, ◌∙◌, refl}
-use Rattle.ufs_audit.proofs.VerdictLemmas.{if_ok}
+use Rattle.ufs_lines.proofs.Results.{if_ok}
 use Rattle.ufs_audit.proofs.RequestLemmas.{ended_front, ended_by, no_front}
 use Rattle.ufs_audit.proofs.answers.is_answer.Goals as goal
 

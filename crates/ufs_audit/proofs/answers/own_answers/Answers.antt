@@ -1,6 +1,6 @@
 use Rattle.std.proofs.Common.{◌≡◌, ◌++◌, ◌∷◌, [], ℕ, List, length, arith, refl, ap, sym, subst, ◌∙◌, ◌<◌, ◌≤◌, ◌+◌, ◌⊎◌, inl, inr, rules, true, false}
 use Rattle.ufs_audit.specs.Audit.{text_of, IsEnded}
-use Rattle.ufs_audit.specs.Replies.{IsReplyLine}
+use Rattle.ufs_lines.specs.Replies.{IsReplyLine}
 use Rattle.ufs_audit.specs.Ends.{Reads}
 use Rattle.ufs_audit.proofs.ReadLemmas.{reads_none, reads_on, reads_as, passes_on}
 use Rattle.ufs_audit.proofs.AnswerLemmas.{AreOwn, own_begins, own_more, own_lacks, own_whole, text_of-push}

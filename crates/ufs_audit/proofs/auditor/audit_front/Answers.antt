@@ -5,7 +5,7 @@ use Rattle.ufs_audit.specs.Audit.{text_of}
 use Rattle.std.specs.List.{flat_map}
 use Rattle.ufs_audit.specs.Ends.{AllAnswers, TraceVerdict}
 use Rattle.ufs_audit.proofs.ReadLemmas.{passes_on}
-use Rattle.ufs_audit.proofs.VerdictLemmas.{if_ok}
+use Rattle.ufs_lines.proofs.Results.{if_ok}
 use Rattle.ufs_audit.proofs.TraceLemmas.{front_verdict, lacks_so_far}
 use Rattle.ufs_audit.proofs.auditor.audit_front.Goals as goal
 

@@ -1,5 +1,5 @@
 use Rattle.std.proofs.Common.{◌≡◌, ℕ, List, true, refl, sym}
-use Rattle.ufs_audit.proofs.CutLemmas.{is_nil, nil_is}
+use Rattle.ufs_lines.proofs.CutLemmas.{is_nil, nil_is}
 use Rattle.ufs_audit.proofs.HeadLemmas.{end_word, word_rest, word_tail}
 use Rattle.ufs_audit.proofs.head.is_end_word.Goals as goal
 

@@ -1,6 +1,6 @@
 use Rattle.std.proofs.Common.{◌≡◌, ℕ, List, refl}
 use Rattle.ufs_audit.proofs.ReadLemmas.{filled_none, filled_read}
-use Rattle.ufs_audit.proofs.VerdictLemmas.{if_ok}
+use Rattle.ufs_lines.proofs.Results.{if_ok}
 use Rattle.ufs_audit.proofs.reader.Ahead.fill.Goals as goal
 
 pub returns-then-not-is_empty-clause-filled : goal.returns-then-not-is_empty-clause-filled

@@ -1,6 +1,6 @@
 use Rattle.std.proofs.Common.{◌≡◌, [], ℕ, List, drop, length, ap, sym, ◌∙◌}
 use Rattle.std.proofs.lemmas.Bool.{eqb-false}
-use Rattle.ufs_audit.proofs.CutLemmas.{drop_none}
+use Rattle.ufs_lines.proofs.CutLemmas.{drop_none}
 use Rattle.ufs_audit.proofs.reader.Ahead.is_empty.Goals as goal
 
 pub returns-clause-no : goal.returns-clause-no

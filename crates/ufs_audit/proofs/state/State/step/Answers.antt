@@ -3,10 +3,10 @@ use Rattle.ufs_model.specs.PosixTree.{PosixTree}
 use Rattle.ufs_model.specs.History.{tree_after}
 use Rattle.ufs_model.specs.declared.data.Op.{Op}
 use Rattle.ufs_model.specs.declared.data.Entry.{Entry}
-use Rattle.ufs_audit.specs.Trace.{Tells}
+use Rattle.ufs_lines.specs.Trace.{Tells}
 use Rattle.ufs_audit.specs.Audit.{Begins, IsWrong, entry_of}
 use Rattle.ufs_audit.specs.Following.{Stands, IsStep, IsCount, IsJudged}
-use Rattle.ufs_audit.specs.declared.told.Told.{Told}
+use Rattle.ufs_lines.specs.declared.told.Told.{Told}
 use Rattle.ufs_audit.specs.declared.verdict.Wrong.{Wrong}
 use Rattle.ufs_audit.specs.declared.verdict.Wrong.TheVariants as wrong
 use Rattle.ufs_audit.proofs.StepLemmas.{none_told, none_asked, judged_wrong, right_next, stands_more}
