@@ -1,5 +1,4 @@
 mod GeneratorLemmas
 mod WorkloadLemmas
 mod JoinedLemmas
-mod ReplayLemmas
 mod CountLemmas

@@ -13,8 +13,8 @@ use ufs_layout::Geometry;
 use ufs_model::{Bytes, Op};
 use ufs_script::{OpList, OpLists};
 
-/// How many clients there are.
-pub const CLIENTS: u8 = 8;
+// How many clients there are.
+const CLIENTS: u8 = 8;
 
 /// How many words of the generator each client takes.
 const WORDS_EACH: usize = 1_995;
@@ -40,8 +40,8 @@ fn dir_path(alloc: Global, client: u8) -> Result<Vec<u8>, AllocError>
     Ok(path)
 }
 
-/// The path of a client's file.
-pub fn file_path(alloc: Global, client: u8, file: u8) -> Result<Vec<u8>, AllocError>
+// The path of a client's file.
+fn file_path(alloc: Global, client: u8, file: u8) -> Result<Vec<u8>, AllocError>
     requires client { client < 8 }
     requires file { file < 4 }
     ensures { IfOk result (λ path. path.items ≡ file_path client file) }

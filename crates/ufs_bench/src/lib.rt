@@ -3,7 +3,6 @@
 
 mod clients;
 mod laws;
-mod replay;
 mod replies;
 
 pub use clients::{bench_geometry, workload};

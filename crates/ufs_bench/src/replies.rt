@@ -2,9 +2,8 @@ ghost use Rattle.std.specs.Prelude.{◌≡◌, ◌≤◌, ◌++◌, IfOk, OnOk, 
 ghost use Rattle.ufs_model.specs.History.{joined};
 ghost use Rattle.ufs_bench.specs.Summary.{count_in, is_of, number_line, summary_text};
 
-use crate::replay::total_size;
 use std::alloc::{AllocError, Global};
-use ufs_base::Lack;
+use ufs_base::Memory;
 use ufs_model::{Entry, EntryList, Reply};
 
 /// A kind of reply.
@@ -70,13 +69,11 @@ fn push_line(alloc: Global, text: &mut Vec<u8>, name: &str, number: u128) -> Res
     Ok(())
 }
 
-/// The lines that tell how many replies of each kind these transcripts have, and how large the workload's files are behind
-/// them, where they begin with the root alone.
+/// The lines that tell how many replies of each kind these transcripts have, and how many bytes there are.
 #[tactic(auto, using(crate::proofs::JoinedLemmas::seven))]
-pub fn summary(alloc: Global, told: &[EntryList]) -> Result<Vec<u8>, Lack>
-    ensures { IfOk result (λ text. text.items ≡ summary_text (joined told.now)) }
+pub fn summary(alloc: Global, told: &[EntryList], bytes: u128) -> Result<Vec<u8>, Memory>
+    ensures { IfOk result (λ text. text.items ≡ summary_text (joined told.now) bytes) }
 {
-    let bytes = total_size(alloc, told)?;
     let mut text = b"requests 16000\n".to_vec(alloc)?;
     push_line(alloc, &mut text, "ok", count_of(Kind::Done, told))?;
     push_line(alloc, &mut text, "fd", count_of(Kind::Fd, told))?;

@@ -1,5 +1,5 @@
 -- What the endings of `bench` tell.
-use Rattle.std.proofs.Common.{◌≡◌, ◌≢◌, ℕ, ◌<◌, ◌≤◌, List, [], ◌∷◌, ◌++◌, Bool, true, false, Ok, Err, ◌⊎◌, inl, inr, ap, refl, sym, subst, ◌∙◌, arith, map}
+use Rattle.std.proofs.Common.{◌≡◌, ◌≢◌, ℕ, ◌<◌, ◌≤◌, List, [], ◌∷◌, ◌++◌, Bool, true, false, Result, Ok, Err, ◌⊎◌, inl, inr, ap, refl, sym, subst, ◌∙◌, arith, map}
 use Rattle.std.specs.Prelude.{IsTrue, None, Some}
 use Rattle.std.specs.FinMap.{entries, from_entries, get-empty}
 use Rattle.ufs_model.proofs.Facts.Rising.{entries-rising}
@@ -7,8 +7,9 @@ use Rattle.std.specs.Io.KnownBytes.{Appends}
 use Rattle.ufs_base.specs.Faults.{raised}
 use Rattle.ufs_bench.specs.Workload.{bench_geometry}
 use Rattle.ufs_disk.specs.Disk.{seen}
-use Rattle.ufs_engine.specs.Begins.{BeginsWith}
-use Rattle.ufs_engine.specs.Plays.{AreFaultsOf, MayPlay}
+use Rattle.ufs_engine.specs.Begins.{BeginsWith, HasNothingOpen}
+use Rattle.ufs_engine.specs.Plays.{AreFaultsOf, ArePlayedFrom, HasBytes, MayPlay, served_end}
+use Rattle.ufs_engine.specs.declared.playing.PlayFault.{PlayFault}
 use Rattle.ufs_image.specs.Opens.{ImageTree, NodeBytes, opens, root_entry, root_tree}
 use Rattle.ufs_image.specs.Proper.{IsProperImage}
 use Rattle.ufs_layout.specs.Areas.{sector_count}
@@ -24,14 +25,15 @@ use Rattle.ufs_model.proofs.Facts.Orders.{path_same, path_total}
 use Rattle.ufs_names_image.specs.Starts.{image_start}
 use Rattle.ufs_session.specs.Told.{HasRisen}
 use Rattle.ufs_quiet.specs.declared.ending.Ending.{Ending}
-use Rattle.ufs_quiet.specs.declared.ending.Ending.TheVariants.{Done, Usage, BadGeometry, NotBuilt, BadScript, TooSmall, NoTree, DeviceFault, OutOfMemory, SourceFault, Damaged}
-use Rattle.ufs_quiet.specs.Bench.{EndsBench, EndsFormatted, EndsSmall, EndsUnformatted, HasServed, IsOnceFormatted, bench_script, bench_text}
+use Rattle.ufs_quiet.specs.declared.ending.Ending.TheVariants.{Done, Usage, BadGeometry, NotBuilt, BadScript, TooSmall, NoTree, DeviceFault, OutOfMemory, SourceFault, Damaged, Illegal}
+use Rattle.ufs_quiet.specs.Bench.{EndsBench, EndsFormatted, EndsSmall, EndsUnformatted, HasServed, IsOnceFormatted, IsServedFrom, bench_script, bench_text}
 use Rattle.ufs_quiet.specs.Endings.{EndsBehind, EndsPrinting, EndsServed, IsAnswer, sink_status, status_of}
 use Rattle.ufs_quiet.specs.Seen.{Formatting, Writing}
-use Rattle.ufs_quiet.specs.Served.{EndsSession, IsHistoryOf, IsSessionOf, TellsEnd}
+use Rattle.ufs_quiet.specs.Served.{EndsSession, IsFromDisk, IsHistoryOf, TellsEnd}
 use Rattle.ufs_quiet.specs.Texts.{device_line, memory_line, too_small_line}
 use Rattle.ufs_quiet.specs.Told.{AreCalmThroughout, TellsBench}
 use Rattle.ufs_quiet.proofs.PlayLemmas.{begun_there, end_risen, raised_risen}
+use Rattle.ufs_quiet.proofs.ServingLemmas.{HasPlayed}
 
 -- ---- a session on a new image begins with the root alone
 
@@ -60,21 +62,35 @@ module _ (d f : Formatting) (once : IsOnceFormatted d f) (known : IsTrue d.visib
   }
 
 module _ (clients : List (List Op)) (d f : Formatting) (once : IsOnceFormatted d f) where
-  served : (told : List (List Entry)) → IsSessionOf f (bench_script clients) told → HasServed clients d told
-  served told of = at d.visible refl
+  served : (told : List (List Entry)) (bytes : ℕ) → IsFromDisk f (IsServedFrom clients told bytes) → HasServed clients d told bytes
+  served told bytes of = at d.visible refl
     where
-      at : (v : Bool) → d.visible ≡ v → HasServed clients d told
-      at true known = (root_alone, (λ client fd. get-empty fd_cmp (client, fd)), (λ k. refl), of.history_is.begun (may d f once known) root_alone (begins d f once known))
-      at false is = (of.history_is.any.0, of.history_is.any.1, (λ known. absurd (let clash : true ≡ false = sym known ∙ is in cc)), of.history_is.any.2)
+      at : (v : Bool) → d.visible ≡ v → HasServed clients d told bytes
+      at true known = (root_alone, (λ client fd. get-empty fd_cmp (client, fd)), (λ k. refl), of.begun (may d f once known) root_alone (begins d f once known))
+      at false is = (of.any.0, of.any.1, (λ known. absurd (let clash : true ≡ false = sym known ∙ is in cc)), of.any.2)
+
+-- ---- a session that is whole was measured
+
+module _ (clients : List (List Op)) (d : Formatting) (told : List (List Entry)) (result : Result (Unit {0}) PlayFault) (bytes : ℕ) (h : HasPlayed d (bench_script clients) told result) (well : served_end result ≡ Ok tt) where
+  history : (start : PosixTree) → ArePlayedFrom start clients told result → IsHistoryOf start (bench_script clients) (joined told)
+  history start p = record { legal = p.legal; ordered = p.ordered; servers = p.servers; complete = p.complete well }
+
+  pub measured : ((start : PosixTree) × HasNothingOpen start × ArePlayedFrom start clients told result × HasBytes start (joined told) (served_end result) bytes)
+      → (MayPlay d.visible d.sectors d.state → (start : PosixTree) → BeginsWith d.sectors d.image start → HasBytes start (joined told) (served_end result) bytes) → IsFromDisk d (IsServedFrom clients told bytes)
+  measured from sized = record {
+    any = (from.0, from.1, (history from.0 from.2, from.3 well));
+    opened = h.opened;
+    begun = λ allowed start with. (history start (h.played allowed start with), sized allowed start with well);
+  }
 
 -- ---- by the status, of a disk that is large enough
 
 abbrev IsStopped : List (List Op) → Formatting → List (List Entry) → List ℕ → Type 0
 IsStopped clients d told text = ((told ≡ []) × (d.now ≡ raised d.before) × (text ≡ device_line d.now))
-    ⊎ (HasServed clients d told × (fault : ℕ) × TellsEnd d told fault × (text ≡ bench_text told ++ device_line fault))
+    ⊎ ((bytes : ℕ) × HasServed clients d told bytes × (fault : ℕ) × TellsEnd d told fault × (text ≡ bench_text told bytes ++ device_line fault))
 
 data ByStatus (clients : List (List Op)) (d : Formatting) (told : List (List Entry)) (status : ℕ) (text : List ℕ) : Type 0 where
-  whole : status ≡ 0 → HasServed clients d told → EndsSession d told (Ok tt) → text ≡ bench_text told → ByStatus clients d told status text
+  whole : status ≡ 0 → (bytes : ℕ) → HasServed clients d told bytes → EndsSession d told (Ok tt) → text ≡ bench_text told bytes → ByStatus clients d told status text
   unbegun : status ≡ 3 → (IsTrue d.visible → ⊥) → ByStatus clients d told status text
   stopped : status ≡ 4 → IsStopped clients d told text → ByStatus clients d told status text
   starved : status ≡ 5 → ByStatus clients d told status text
@@ -91,50 +107,54 @@ module _ (clients : List (List Op)) (d : Formatting) (told : List (List Entry)) 
     end_well : EndsSession f told (Ok tt) → EndsSession d told (Ok tt)
     end_well ends = subst (λ (n : ℕ). EndsSession (record d { before = n }) told (Ok tt)) once.before (subst (λ (n : ℕ). EndsSession (record f { now = n }) told (Ok tt)) once.now ends)
 
-    stopped_by : (text : List ℕ) → EndsServed (bench_text told) f (bench_script clients) told DeviceFault text → IsStopped clients d told text
-    stopped_by text (inl e) = inl (e.0, sym once.now ∙ e.1 ∙ ap raised once.before, e.2 ∙ ap device_line once.now)
-    stopped_by text (inr e) = inr (served clients d f once told e.0, e.1, end_as e.1 e.2, e.3)
+    abbrev EndsAs : ℕ → Ending → List ℕ → Type 0
+    EndsAs bytes ending text = EndsServed (IsFromDisk f (IsServedFrom clients told bytes)) (bench_text told bytes) f (bench_script clients) told ending text
+
+    stopped_by : (bytes : ℕ) (text : List ℕ) → EndsAs bytes DeviceFault text → IsStopped clients d told text
+    stopped_by bytes text (inl e) = inl (e.0, sym once.now ∙ e.1 ∙ ap raised once.before, e.2 ∙ ap device_line once.now)
+    stopped_by bytes text (inr e) = inr (bytes, served clients d f once told bytes e.0, e.1, end_as e.1 e.2, e.3)
 
     -- a new image has a tree
-    begun : IsTrue d.visible → (text : List ℕ) → EndsServed (bench_text told) f (bench_script clients) told NoTree text → ⊥
-    begun known text e =
+    begun : IsTrue d.visible → (bytes : ℕ) (text : List ℕ) → EndsAs bytes NoTree text → ⊥
+    begun known bytes text e =
         let m = may d f once known in
         begun_there f (subst (IsProperImage f.sectors) (sym f.read) m.proper.proper) e.2.fault e.2.ending_is (e.2.why m)
 
-    served_by : (ending : Ending) (text : List ℕ) → status ≡ status_of ending → EndsServed (bench_text told) f (bench_script clients) told ending text → ByStatus clients d told status text
-    served_by Done text is e = whole is (served clients d f once told e.0) (end_well e.1) e.2
-    served_by Usage text is e = absurd e
-    served_by (BadGeometry bad) text is e = absurd e
-    served_by NotBuilt text is e = absurd e
-    served_by BadScript text is e = absurd e
-    served_by TooSmall text is e = absurd e
-    served_by NoTree text is e = unbegun is (λ known. begun known text e)
-    served_by DeviceFault text is e = stopped is (stopped_by text e)
-    served_by OutOfMemory text is e = starved is
-    served_by SourceFault text is e = absurd e
-    served_by Damaged text is e = absurd e
+    served_by : (bytes : ℕ) (ending : Ending) (text : List ℕ) → status ≡ status_of ending → EndsAs bytes ending text → ByStatus clients d told status text
+    served_by bytes Done text is e = whole is bytes (served clients d f once told bytes e.0) (end_well e.1) e.2
+    served_by bytes Usage text is e = absurd e
+    served_by bytes (BadGeometry bad) text is e = absurd e
+    served_by bytes NotBuilt text is e = absurd e
+    served_by bytes BadScript text is e = absurd e
+    served_by bytes TooSmall text is e = absurd e
+    served_by bytes NoTree text is e = unbegun is (λ known. begun known bytes text e)
+    served_by bytes DeviceFault text is e = stopped is (stopped_by bytes text e)
+    served_by bytes OutOfMemory text is e = starved is
+    served_by bytes SourceFault text is e = absurd e
+    served_by bytes Damaged text is e = absurd e
+    served_by bytes Illegal text is e = absurd e
 
   by_status : (ending : Ending) (text : List ℕ) → status ≡ status_of ending → EndsUnformatted d told ending text ⊎ EndsFormatted clients d told ending text → ByStatus clients d told status text
   by_status ending text is (inl e) = unformatted_by ending text is e
-  by_status ending text is (inr e) = served_by e.0 e.1 ending text is e.2
+  by_status ending text is (inr e) = served_by e.0 e.1 e.2.0 ending text is e.2.1
 
   -- ---- what a status says
 
   module _ (text : List ℕ) where
-    whole_of : status ≡ 0 → ByStatus clients d told status text → HasServed clients d told × EndsSession d told (Ok tt) × (text ≡ bench_text told)
-    whole_of zero (whole is of ends e) = (of, ends, e)
+    whole_of : status ≡ 0 → ByStatus clients d told status text → (bytes : ℕ) × HasServed clients d told bytes × EndsSession d told (Ok tt) × (text ≡ bench_text told bytes)
+    whole_of zero (whole is bytes of ends e) = (bytes, of, ends, e)
     whole_of zero (unbegun is e) = absurd (omega (arith, zero, is))
     whole_of zero (stopped is e) = absurd (omega (arith, zero, is))
     whole_of zero (starved is) = absurd (omega (arith, zero, is))
 
     unbegun_of : status ≡ 3 → ByStatus clients d told status text → IsTrue d.visible → ⊥
-    unbegun_of three (whole is of ends e) known = absurd (omega (arith, three, is))
+    unbegun_of three (whole is bytes of ends e) known = absurd (omega (arith, three, is))
     unbegun_of three (unbegun is e) known = e known
     unbegun_of three (stopped is e) known = absurd (omega (arith, three, is))
     unbegun_of three (starved is) known = absurd (omega (arith, three, is))
 
     stopped_of : status ≡ 4 → ByStatus clients d told status text → IsStopped clients d told text
-    stopped_of four (whole is of ends e) = absurd (omega (arith, four, is))
+    stopped_of four (whole is bytes of ends e) = absurd (omega (arith, four, is))
     stopped_of four (unbegun is e) = absurd (omega (arith, four, is))
     stopped_of four (stopped is e) = e
     stopped_of four (starved is) = absurd (omega (arith, four, is))
@@ -142,10 +162,10 @@ module _ (clients : List (List Op)) (d : Formatting) (told : List (List Entry)) 
     module _ (quiet : (fault : ℕ) → HasRisen d.before d.now fault → ⊥) where
       never_stopped : IsStopped clients d told text → ⊥
       never_stopped (inl e) = quiet d.now (raised_risen d.before d.now e.1)
-      never_stopped (inr e) = quiet e.1 (end_risen d told e.1 e.2)
+      never_stopped (inr e) = quiet e.2 (end_risen d told e.2 e.3)
 
       complete_by : IsTrue d.visible → ByStatus clients d told status text → (status ≡ 0) ⊎ (status ≡ 5)
-      complete_by known (whole is of ends e) = inl is
+      complete_by known (whole is bytes of ends e) = inl is
       complete_by known (unbegun is e) = absurd (e known)
       complete_by known (stopped is e) = absurd (never_stopped e)
       complete_by known (starved is) = inr is
@@ -189,16 +209,16 @@ module _ (clients : List (List Op)) (d : Formatting) (told : List (List Entry)) 
 
   stopped_got : (text : List ℕ) → Appends w.held w.holds text → IsStopped clients d told text
       → ((told ≡ []) × (d.now ≡ raised d.before) × Appends w.held w.holds (device_line d.now))
-      ⊎ (HasServed clients d told × (fault : ℕ) × TellsEnd d told fault × Appends w.held w.holds (bench_text told ++ device_line fault))
+      ⊎ ((bytes : ℕ) × HasServed clients d told bytes × (fault : ℕ) × TellsEnd d told fault × Appends w.held w.holds (bench_text told bytes ++ device_line fault))
   stopped_got text got (inl e) = inl (e.0, e.1, subst (Appends w.held w.holds) e.2 got)
-  stopped_got text got (inr e) = inr (e.0, e.1, e.2, subst (Appends w.held w.holds) e.3 got)
+  stopped_got text got (inr e) = inr (e.0, e.1, e.2, e.3, subst (Appends w.held w.holds) e.4 got)
 
   pub bench_told : AreFaultsOf d.before d.now (joined told) → TellsBench clients d told w status
   bench_told faults = record {
     done = λ zero.
         let x = told_by (λ e. cc) in
         let e = whole_of clients d told status x.0 zero (large clients d told status x.0 (λ three. cc) x.1) in
-        (e.0, e.1, subst (Appends w.held w.holds) e.2 x.2);
+        (e.0, e.1, e.2, subst (Appends w.held w.holds) e.3 x.2);
     small = λ known three.
         let x = told_by (λ e. cc) in
         let e = small_of clients d told status x.0 known three x.1 in

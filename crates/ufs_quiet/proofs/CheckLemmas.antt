@@ -11,7 +11,7 @@ use Rattle.ufs_catalog.specs.Faults.{HasFaultCause, IsWhyNot}
 use Rattle.ufs_catalog.specs.declared.fault.RecoverFault.{RecoverFault}
 use Rattle.ufs_catalog.specs.declared.fault.RecoverFault.TheVariants as recover
 use Rattle.ufs_quiet.specs.declared.ending.Ending.{Ending}
-use Rattle.ufs_quiet.specs.declared.ending.Ending.TheVariants.{Done, Usage, BadGeometry, NotBuilt, BadScript, TooSmall, NoTree, DeviceFault, OutOfMemory, SourceFault, Damaged}
+use Rattle.ufs_quiet.specs.declared.ending.Ending.TheVariants.{Done, Usage, BadGeometry, NotBuilt, BadScript, TooSmall, NoTree, DeviceFault, OutOfMemory, SourceFault, Damaged, Illegal}
 use Rattle.ufs_quiet.specs.Texts.{device_line}
 use Rattle.ufs_quiet.specs.TreeLines.{refusal_line}
 use Rattle.ufs_quiet.specs.DamageLines.{clean_line, damage_lines}
@@ -33,6 +33,7 @@ list_told d list has calm DeviceFault text e = absurd e
 list_told d list has calm OutOfMemory text e = absurd e
 list_told d list has calm SourceFault text e = absurd e
 list_told d list has calm Damaged text e = (calm, list, e.0, has, e.1)
+list_told d list has calm Illegal text e = absurd e
 
 -- why there is none is told
 pub list_refused : (d : Formatting) (f : RecoverFault) → HasFaultCause d.before d.now f → (IsTrue d.visible → IsWhyNot (damage_list d.sectors d.image) f) → EndsCheck d (ending_of f) (line_of f)
@@ -71,6 +72,7 @@ by_status d status DeviceFault text is e = device is e.0
 by_status d status OutOfMemory text is e = memory is
 by_status d status SourceFault text is e = absurd e
 by_status d status Damaged text is e = damaged is (e.1, e.2, e.3, e.4)
+by_status d status Illegal text is e = absurd e
 
 clean_by : (d : Formatting) (status : ℕ) (text : List ℕ) → status ≡ 0 → ByStatus d status text → HasDamage d [] × (text ≡ clean_line)
 clean_by d status text zero (clean is h t) = (h, t)

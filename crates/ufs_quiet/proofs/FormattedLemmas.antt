@@ -15,8 +15,8 @@ use Rattle.ufs_recover.specs.Tables.{IsOutside}
 use Rattle.ufs_recovery.specs.Recovered.{IsCleanDisk}
 use Rattle.ufs_quiet.specs.declared.ending.Ending.{Ending}
 use Rattle.ufs_quiet.specs.declared.ending.Ending.TheVariants.{DeviceFault, OutOfMemory, TooSmall}
-use Rattle.ufs_quiet.specs.Bench.{EndsBench, IsOnceFormatted, bench_script, bench_text}
-use Rattle.ufs_quiet.specs.Endings.{EndsServed, IsAnswer, IsFixed, IsLine}
+use Rattle.ufs_quiet.specs.Bench.{EndsBench, EndsMeasured, IsOnceFormatted}
+use Rattle.ufs_quiet.specs.Endings.{IsAnswer, IsFixed, IsLine}
 use Rattle.ufs_quiet.specs.Left.{Benches, Formats, Plays}
 use Rattle.ufs_quiet.specs.Seen.{Course, Formatting, Writing, course, formatting}
 use Rattle.ufs_quiet.specs.Texts.{device_line}
@@ -69,9 +69,9 @@ module _ {D : Type 0} (visible keeps : Bool) (size : D → ℕ) (moments : D →
     once = record { visible = refl; sectors = sized; before = calm; now = refl; made = made }
 
     pub formatted_ends : (clients : List (List Op)) (told : List (List Entry)) (w : Writing) (status : ℕ)
-        → IsAnswer (EndsServed (bench_text told) f (bench_script clients) told) w status → IsAnswer (EndsBench clients d told) w status
+        → IsAnswer (EndsMeasured clients f told) w status → IsAnswer (EndsBench clients d told) w status
     formatted_ends clients told w status a =
-        answer_map (EndsServed (bench_text told) f (bench_script clients) told) (EndsBench clients d told) w status (λ ending text e. inr (large, inr (f, once, e))) a
+        answer_map (EndsMeasured clients f told) (EndsBench clients d told) w status (λ ending text e. inr (large, inr (f, once, e))) a
 
     module _ (told : List (List Entry)) (status : ℕ) (plays : Plays told status session) where
       clean : IsTrue visible → status ≡ 0 → IsCleanDisk (size old) (moments new).state

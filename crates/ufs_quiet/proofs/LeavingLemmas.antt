@@ -11,7 +11,7 @@ use Rattle.ufs_start.specs.Refused.{HasStartCause}
 use Rattle.ufs_start.specs.declared.fault.StartFault.{StartFault}
 use Rattle.ufs_start.specs.declared.fault.StartFault.TheVariants as start
 use Rattle.ufs_quiet.specs.declared.ending.Ending.{Ending}
-use Rattle.ufs_quiet.specs.declared.ending.Ending.TheVariants.{Done, Usage, BadGeometry, NotBuilt, BadScript, TooSmall, NoTree, DeviceFault, OutOfMemory, SourceFault, Damaged}
+use Rattle.ufs_quiet.specs.declared.ending.Ending.TheVariants.{Done, Usage, BadGeometry, NotBuilt, BadScript, TooSmall, NoTree, DeviceFault, OutOfMemory, SourceFault, Damaged, Illegal}
 use Rattle.ufs_quiet.specs.Seen.{Writing}
 use Rattle.ufs_quiet.specs.Endings.{EndsBehind, EndsPlayed, EndsPrinting, IsAnswer, status_of, start_ending}
 
@@ -44,6 +44,7 @@ behind_short lines fault DeviceFault text e = inl refl
 behind_short lines fault OutOfMemory text e = inr refl
 behind_short lines fault SourceFault text e = absurd e
 behind_short lines fault Damaged text e = absurd e
+behind_short lines fault Illegal text e = absurd e
 
 printed_status : (lines : List ℕ) (ending : Ending) (text : List ℕ) → EndsPrinting lines ending text → (status_of ending ≡ 0) ⊎ (status_of ending ≡ 5)
 printed_status lines Done text e = inl refl
@@ -57,6 +58,7 @@ printed_status lines DeviceFault text e = absurd e
 printed_status lines OutOfMemory text e = inr refl
 printed_status lines SourceFault text e = absurd e
 printed_status lines Damaged text e = absurd e
+printed_status lines Illegal text e = absurd e
 
 -- a session is whole, or its status is short
 by_end : (result : Result (Unit {0}) PlayFault) (lines : List ℕ) (ending : Ending) (text : List ℕ) → EndsPlayed result lines ending text → ((result ≡ Ok tt) × (status_of ending ≡ 0)) ⊎ IsShort (status_of ending)

@@ -20,10 +20,10 @@ use Rattle.ufs_stored.specs.OnDisk.{IsExplainedBetween, IsExplainedImage}
 use Rattle.ufs_quiet.specs.declared.ending.Ending.{Ending}
 use Rattle.ufs_quiet.specs.declared.words.Command.{Command}
 use Rattle.ufs_quiet.specs.declared.words.Command.TheVariants as command
-use Rattle.ufs_quiet.specs.Commands.{serves}
+use Rattle.ufs_quiet.specs.Commands.{reads_source, serves}
 use Rattle.ufs_quiet.specs.Laws.{StandsAsBegun}
 use Rattle.ufs_quiet.specs.Endings.{IsAnswer, TellsFault, status_of}
-use Rattle.ufs_quiet.specs.Seen.{Course, Writing}
+use Rattle.ufs_quiet.specs.Seen.{Course, Reading, Writing}
 use Rattle.ufs_quiet.specs.Left.{ActsOn, Benches, LeavesDisk, LeavesSource, Plays}
 
 -- of the command that the words are
@@ -57,6 +57,10 @@ bench_left words seed is lists status c acts size told = record {
 pub source_left : (words : Option Command) (status : ℕ) (left : Option (List ℕ)) (count : ℕ) → LeavesSource words status (record { left = left; rest = left; before = count; now = count })
 source_left words status left count = record { told = λ a b. refl; unread = λ other. (refl, refl) }
 
+-- one that is
+pub source_read : (words : Option Command) → reads_source words ≡ true → (status : ℕ) (r : Reading) → (status ≢ 6 → status ≢ 7 → r.now ≡ r.before) → LeavesSource words status r
+source_read words reads status r told = record { told = told; unread = λ other. absurd (let read : true ≡ false = sym reads ∙ other in cc) }
+
 -- ---- where nobody is served
 
 pub none_faults : (before now : ℕ) (told : List (List Entry)) → told ≡ [] → AreFaultsOf before now (joined told)
@@ -85,6 +89,7 @@ unread_left c told status stands none untouched same other = record {
       (none_stamped c.keeps c.sectors begun c.from c.to (as_begun begun (stands c.from.state begun may.proper with) may.proper));
   clean = λ may zero. absurd (other zero);
   last = λ may begun with zero. absurd (other zero);
+  numbers = λ may zero. absurd (other zero);
   unserved = λ visible refusal is. none;
   undone = λ visible refusal is. other;
   broken = λ two. untouched;

@@ -11,6 +11,7 @@ pub mod MkfsLemmas
 pub mod ResponseLemmas
 pub mod TextLemmas
 pub mod ProperLemmas
+pub mod AuditLemmas
 pub mod TreeLemmas
 pub mod DamageLemmas
 pub mod CheckLemmas

@@ -6,7 +6,7 @@ use Rattle.ufs_layout.specs.Areas.{geometry_refusal, sector_count}
 use Rattle.ufs_layout.specs.declared.geometry.Geometry.{Geometry}
 use Rattle.ufs_base.specs.Faults.{RoseTo}
 use Rattle.ufs_quiet.specs.declared.ending.Ending.{Ending}
-use Rattle.ufs_quiet.specs.declared.ending.Ending.TheVariants.{Done, Usage, BadGeometry, NotBuilt, BadScript, TooSmall, NoTree, DeviceFault, OutOfMemory, SourceFault, Damaged}
+use Rattle.ufs_quiet.specs.declared.ending.Ending.TheVariants.{Done, Usage, BadGeometry, NotBuilt, BadScript, TooSmall, NoTree, DeviceFault, OutOfMemory, SourceFault, Damaged, Illegal}
 use Rattle.ufs_quiet.specs.Texts.{device_line, made_line}
 use Rattle.ufs_quiet.specs.Seen.{Writing, Formatting}
 use Rattle.ufs_quiet.specs.Endings.{EndsMkfs, IsAnswer, status_of}
@@ -30,6 +30,7 @@ module _ (g : Geometry) (d : Formatting) (taken : geometry_refusal g ≡ None) (
   ends_well OutOfMemory text e = inr refl
   ends_well SourceFault text e = absurd e
   ends_well Damaged text e = absurd e
+  ends_well Illegal text e = absurd e
 
 -- the line of the numbers is told
 made_by : (g : Geometry) (d : Formatting) (ending : Ending) (text : List ℕ) → status_of ending ≡ 0 → EndsMkfs g d ending text → text ≡ made_line g
@@ -44,6 +45,7 @@ made_by g d DeviceFault text zero e = cc
 made_by g d OutOfMemory text zero e = cc
 made_by g d SourceFault text zero e = absurd e
 made_by g d Damaged text zero e = absurd e
+made_by g d Illegal text zero e = absurd e
 
 pub mkfs_told : (g : Geometry) (d : Formatting) (w : Writing) (status : ℕ) → IsAnswer (EndsMkfs g d) w status → TellsMkfs g d w status
 mkfs_told g d w status a = record {

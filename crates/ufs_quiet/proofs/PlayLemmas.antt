@@ -20,7 +20,7 @@ use Rattle.ufs_script.specs.declared.fault.ScriptFault.{ScriptFault}
 use Rattle.ufs_start.specs.declared.fault.StartFault.{StartFault}
 use Rattle.ufs_start.specs.declared.fault.StartFault.TheVariants as start
 use Rattle.ufs_quiet.specs.declared.ending.Ending.{Ending}
-use Rattle.ufs_quiet.specs.declared.ending.Ending.TheVariants.{Done, Usage, BadGeometry, NotBuilt, BadScript, TooSmall, NoTree, DeviceFault, OutOfMemory, SourceFault, Damaged}
+use Rattle.ufs_quiet.specs.declared.ending.Ending.TheVariants.{Done, Usage, BadGeometry, NotBuilt, BadScript, TooSmall, NoTree, DeviceFault, OutOfMemory, SourceFault, Damaged, Illegal}
 use Rattle.ufs_quiet.specs.Served.{EndsSession, IsSessionOf, TellsEnd, session_lines, session_text, trace_part}
 use Rattle.ufs_quiet.specs.Seen.{Formatting, Reading, Writing}
 use Rattle.ufs_quiet.specs.Texts.{break_line, device_line}
@@ -77,6 +77,7 @@ module _ (trace : Bool) (r : Reading) (d : Formatting) (told : List (List Entry)
   unread_by none OutOfMemory text is e = starved is
   unread_by none SourceFault text is e = unread is e.0
   unread_by none Damaged text is e = absurd e
+  unread_by none Illegal text is e = absurd e
 
   stopped_by : (script : Script) → ReadsScript r.left r.rest script → (text : List ℕ) → EndsServing trace d script told DeviceFault text → IsStopped trace r d told text
   stopped_by script read text (inl e) = inl e
@@ -94,6 +95,7 @@ module _ (trace : Bool) (r : Reading) (d : Formatting) (told : List (List Entry)
   served_by script read OutOfMemory text is e = starved is
   served_by script read SourceFault text is e = absurd e
   served_by script read Damaged text is e = absurd e
+  served_by script read Illegal text is e = absurd e
 
   by_status : (ending : Ending) (text : List ℕ) → status ≡ status_of ending → EndsPlay trace r d told ending text → ByStatus trace r d told status text
   by_status ending text is (inl e) = unread_by e.0 ending text is e.1

@@ -11,7 +11,7 @@ use Rattle.ufs_catalog.specs.declared.fault.RecoverFault.{RecoverFault}
 use Rattle.ufs_catalog.specs.declared.fault.RecoverFault.TheVariants as recover
 use Rattle.ufs_opening.specs.Told.{TellsWhy}
 use Rattle.ufs_quiet.specs.declared.ending.Ending.{Ending}
-use Rattle.ufs_quiet.specs.declared.ending.Ending.TheVariants.{Done, Usage, BadGeometry, NotBuilt, BadScript, TooSmall, NoTree, DeviceFault, OutOfMemory, SourceFault, Damaged}
+use Rattle.ufs_quiet.specs.declared.ending.Ending.TheVariants.{Done, Usage, BadGeometry, NotBuilt, BadScript, TooSmall, NoTree, DeviceFault, OutOfMemory, SourceFault, Damaged, Illegal}
 use Rattle.ufs_quiet.specs.Texts.{device_line, recovered_line}
 use Rattle.ufs_quiet.specs.Seen.{Writing, Formatting}
 use Rattle.ufs_quiet.specs.Endings.{EndsRecovery, HasCommitted, IsImproper, TellsNoTree, IsAnswer, status_of, sink_status, ending_of, line_of}
@@ -59,6 +59,7 @@ by_status d status DeviceFault text is e = device is e.0
 by_status d status OutOfMemory text is e = memory is
 by_status d status SourceFault text is e = absurd e
 by_status d status Damaged text is e = absurd e
+by_status d status Illegal text is e = absurd e
 
 not_none : (d : Formatting) (tree : ImageTree) (text : List ℕ) → IsTrue d.visible → opens d.sectors d.image ≡ Ok tree → Refused d text → ⊥
 not_none d tree text visible opened r = let both : Ok tree ≡ Err r.1.0 = sym opened ∙ r.1.1 visible in cc

@@ -21,7 +21,7 @@ use Rattle.ufs_start.specs.Refused.{HasStartCause}
 use Rattle.ufs_start.specs.declared.fault.StartFault.{StartFault}
 use Rattle.ufs_start.specs.declared.fault.StartFault.TheVariants as start
 use Rattle.ufs_quiet.specs.declared.ending.Ending.{Ending}
-use Rattle.ufs_quiet.specs.declared.ending.Ending.TheVariants.{Done, Usage, BadGeometry, NotBuilt, BadScript, TooSmall, NoTree, DeviceFault, OutOfMemory, SourceFault, Damaged}
+use Rattle.ufs_quiet.specs.declared.ending.Ending.TheVariants.{Done, Usage, BadGeometry, NotBuilt, BadScript, TooSmall, NoTree, DeviceFault, OutOfMemory, SourceFault, Damaged, Illegal}
 use Rattle.ufs_quiet.specs.Seen.{Formatting}
 use Rattle.ufs_quiet.specs.Served.{IsCutSessionOf, IsSessionOf, TellsEnd}
 use Rattle.ufs_quiet.specs.Texts.{device_line}
@@ -56,7 +56,7 @@ told_why given (recover.Lack _) why refusal is none = cc
 
 -- ---- how it ends
 
-module _ (printed : List ℕ) (d : Formatting) (script : Script) (told : List (List Entry)) where
+module _ (d : Formatting) (script : Script) (told : List (List Entry)) where
   cut_session : (result : Result (Unit {0}) PlayFault) → HasPlayed d script told result → IsCutSessionOf d script told
   cut_session result h = record {
     any = let p = h.legal in (p.0, p.1, record { legal = p.2.legal; ordered = p.2.ordered; servers = p.2.servers });
@@ -64,7 +64,7 @@ module _ (printed : List ℕ) (d : Formatting) (script : Script) (told : List (L
     begun = λ may begun with. let p = h.played may begun with in record { legal = p.legal; ordered = p.ordered; servers = p.servers };
   }
 
-  session : (result : Result (Unit {0}) PlayFault) → served_end result ≡ Ok tt → HasPlayed d script told result → IsSessionOf d script told
+  pub session : (result : Result (Unit {0}) PlayFault) → served_end result ≡ Ok tt → HasPlayed d script told result → IsSessionOf d script told
   session result well h = record {
     history_is = record {
       any = let p = h.legal in (p.0, p.1, record { legal = p.2.legal; ordered = p.2.ordered; servers = p.2.servers; complete = p.2.complete well });
@@ -74,6 +74,8 @@ module _ (printed : List ℕ) (d : Formatting) (script : Script) (told : List (L
     lines = let p = h.legal.2 in output_is told (joined told) (length script.clients) p.merged (p.each well);
   }
 
+-- `Whole` is what is known of a session that is whole.
+module _ (Whole : Type 0) (printed : List ℕ) (d : Formatting) (script : Script) (told : List (List Entry)) where
   -- none began
   abbrev Cause : StartFault → Type 0
   Cause fault = IsTrue d.visible → (refusal : Refusal) → opens d.sectors d.image ≡ Err refusal → (f : RecoverFault) × (start.Image f ≡ fault) × TellsWhy d.sectors d.image f
@@ -92,7 +94,7 @@ module _ (printed : List ℕ) (d : Formatting) (script : Script) (told : List (L
         ap start_line (sym x.1) ∙ told_why (opens d.sectors d.image) x.0 x.2 refusal none (ap start_ending x.1 ∙ is);
   }
 
-  unbegun : (fault : StartFault) → told ≡ [] → HasStartCause d.before d.now fault → Why fault → Cause fault → IsCutSessionOf d script told → EndsServed printed d script told (start_ending fault) (start_line fault)
+  unbegun : (fault : StartFault) → told ≡ [] → HasStartCause d.before d.now fault → Why fault → Cause fault → IsCutSessionOf d script told → EndsServed Whole printed d script told (start_ending fault) (start_line fault)
   unbegun (start.Image recover.NoSuperblock) none count why cause cut = (none, count, no_start (start.Image recover.NoSuperblock) refl why cause)
   unbegun (start.Image (recover.BadVersion found)) none count why cause cut = (none, count, no_start (start.Image (recover.BadVersion found)) refl why cause)
   unbegun (start.Image (recover.BadGeometry number)) none count why cause cut = (none, count, no_start (start.Image (recover.BadGeometry number)) refl why cause)
@@ -108,21 +110,22 @@ module _ (printed : List ℕ) (d : Formatting) (script : Script) (told : List (L
   cause_of fault h visible refusal none = elim (h.unopened visible refusal none) [ inl lacks ↦ (let clash = lacks.1 in absurd cc) | inr x ↦ (x.0, cc, x.2) ]
 
   -- each request was answered
-  well_ended : HasPlayed d script told (Ok tt) → (ending : Ending) (text : List ℕ) → EndsPrinting printed ending text → EndsServed printed d script told ending text
-  well_ended h Done text e = (session (Ok tt) refl h, h.closing, e)
-  well_ended h Usage text e = absurd e
-  well_ended h (BadGeometry bad) text e = absurd e
-  well_ended h NotBuilt text e = absurd e
-  well_ended h BadScript text e = absurd e
-  well_ended h TooSmall text e = absurd e
-  well_ended h NoTree text e = absurd e
-  well_ended h DeviceFault text e = absurd e
-  well_ended h OutOfMemory text e = inr (session (Ok tt) refl h, e.0, e.1, e.2)
-  well_ended h SourceFault text e = absurd e
-  well_ended h Damaged text e = absurd e
+  well_ended : Whole → HasPlayed d script told (Ok tt) → (ending : Ending) (text : List ℕ) → EndsPrinting printed ending text → EndsServed Whole printed d script told ending text
+  well_ended of h Done text e = (of, h.closing, e)
+  well_ended of h Usage text e = absurd e
+  well_ended of h (BadGeometry bad) text e = absurd e
+  well_ended of h NotBuilt text e = absurd e
+  well_ended of h BadScript text e = absurd e
+  well_ended of h TooSmall text e = absurd e
+  well_ended of h NoTree text e = absurd e
+  well_ended of h DeviceFault text e = absurd e
+  well_ended of h OutOfMemory text e = inr (of, e.0, e.1, e.2)
+  well_ended of h SourceFault text e = absurd e
+  well_ended of h Damaged text e = absurd e
+  well_ended of h Illegal text e = absurd e
 
   -- a call of the disk failed, in the session or behind it
-  fault_ended : (fault : ℕ) → IsSessionOf d script told → TellsEnd d told fault → (ending : Ending) (text : List ℕ) → EndsBehind printed fault ending text → EndsServed printed d script told ending text
+  fault_ended : (fault : ℕ) → Whole → TellsEnd d told fault → (ending : Ending) (text : List ℕ) → EndsBehind printed fault ending text → EndsServed Whole printed d script told ending text
   fault_ended fault of tells Done text e = absurd e
   fault_ended fault of tells Usage text e = absurd e
   fault_ended fault of tells (BadGeometry bad) text e = absurd e
@@ -134,12 +137,13 @@ module _ (printed : List ℕ) (d : Formatting) (script : Script) (told : List (L
   fault_ended fault of tells OutOfMemory text e = inr (of, e.0, e.1, e.2)
   fault_ended fault of tells SourceFault text e = absurd e
   fault_ended fault of tells Damaged text e = absurd e
+  fault_ended fault of tells Illegal text e = absurd e
 
-  pub played_ends : (result : Result (Unit {0}) PlayFault) → HasPlayed d script told result → (ending : Ending) (text : List ℕ) → EndsPlayed result printed ending text → EndsServed printed d script told ending text
-  played_ends (Ok x) h ending text e = well_ended h ending text e
-  played_ends (Err (ended.Image fault)) h ending text e =
-      subst (λ (x : Ending). EndsServed printed d script told x text) (sym e.0)
-      (subst (EndsServed printed d script told (start_ending fault)) (sym e.1) (unbegun fault (h.refused fault refl) (h.opening fault refl) (λ may. h.why may fault refl) (cause_of fault h) (cut_session (Err (ended.Image fault)) h)))
-  played_ends (Err (ended.Device fault)) h ending text e = fault_ended fault (session (Err (ended.Device fault)) refl h) (inl h.closing) ending text e
-  played_ends (Err (ended.Stopped fault)) h ending text e = fault_ended fault (session (Err (ended.Stopped fault)) refl h) (inr h.closing) ending text e
-  played_ends (Err (ended.Lack w)) h ending text e = subst (λ (x : Ending). EndsServed printed d script told x text) (sym e.0) (inl (cut_session (Err (ended.Lack w)) h, e.1))
+  pub played_ends : (result : Result (Unit {0}) PlayFault) → HasPlayed d script told result → (served_end result ≡ Ok tt → Whole) → (ending : Ending) (text : List ℕ) → EndsPlayed result printed ending text → EndsServed Whole printed d script told ending text
+  played_ends (Ok x) h whole ending text e = well_ended (whole refl) h ending text e
+  played_ends (Err (ended.Image fault)) h whole ending text e =
+      subst (λ (x : Ending). EndsServed Whole printed d script told x text) (sym e.0)
+      (subst (EndsServed Whole printed d script told (start_ending fault)) (sym e.1) (unbegun fault (h.refused fault refl) (h.opening fault refl) (λ may. h.why may fault refl) (cause_of fault h) (cut_session d script told (Err (ended.Image fault)) h)))
+  played_ends (Err (ended.Device fault)) h whole ending text e = fault_ended fault (whole refl) (inl h.closing) ending text e
+  played_ends (Err (ended.Stopped fault)) h whole ending text e = fault_ended fault (whole refl) (inr h.closing) ending text e
+  played_ends (Err (ended.Lack w)) h whole ending text e = subst (λ (x : Ending). EndsServed Whole printed d script told x text) (sym e.0) (inl (cut_session d script told (Err (ended.Lack w)) h, e.1))

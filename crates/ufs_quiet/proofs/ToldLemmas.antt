@@ -11,6 +11,7 @@ use Rattle.ufs_quiet.specs.Endings.{IsAnswer}
 use Rattle.ufs_quiet.specs.Ends.{EndsCommand}
 use Rattle.ufs_quiet.specs.Told.{Tells}
 use Rattle.ufs_bench.specs.Workload.{workload_of}
+use Rattle.ufs_quiet.proofs.AuditLemmas.{audit_told}
 use Rattle.ufs_quiet.proofs.BenchLemmas.{bench_told}
 use Rattle.ufs_quiet.proofs.PlayLemmas.{play_told}
 use Rattle.ufs_quiet.proofs.MkfsLemmas.{mkfs_told}
@@ -26,4 +27,5 @@ tells alike (Some (command.Mkfs blocks inodes journal)) r d told w status faults
 tells alike (Some (command.Bench seed)) r d told w status faults a = bench_told (workload_of seed) d told w status a faults
 tells alike (Some command.Tree) r d told w status faults a = λ known. tree_told d w status a known
 tells alike (Some command.Check) r d told w status faults a = λ known. check_told d w status a known
+tells alike (Some command.Audit) r d told w status faults a = audit_told r d w status a
 tells alike (Some command.Recover) r d told w status faults a = λ known. recovery_told d w status a known

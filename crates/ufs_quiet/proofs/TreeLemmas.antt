@@ -10,7 +10,7 @@ use Rattle.ufs_catalog.specs.declared.fault.RecoverFault.{RecoverFault}
 use Rattle.ufs_catalog.specs.declared.fault.RecoverFault.TheVariants as recover
 use Rattle.ufs_opening.specs.Told.{TellsWhy}
 use Rattle.ufs_quiet.specs.declared.ending.Ending.{Ending}
-use Rattle.ufs_quiet.specs.declared.ending.Ending.TheVariants.{Done, Usage, BadGeometry, NotBuilt, BadScript, TooSmall, NoTree, DeviceFault, OutOfMemory, SourceFault, Damaged}
+use Rattle.ufs_quiet.specs.declared.ending.Ending.TheVariants.{Done, Usage, BadGeometry, NotBuilt, BadScript, TooSmall, NoTree, DeviceFault, OutOfMemory, SourceFault, Damaged, Illegal}
 use Rattle.ufs_quiet.specs.Texts.{device_line}
 use Rattle.ufs_quiet.specs.TreeLines.{tree_lines}
 use Rattle.ufs_quiet.specs.Seen.{Writing, Formatting}
@@ -32,6 +32,7 @@ tree_shown d tree stands calm DeviceFault text e = absurd e
 tree_shown d tree stands calm OutOfMemory text e = (calm, inr (tree, e.0, stands, e.1, e.2))
 tree_shown d tree stands calm SourceFault text e = absurd e
 tree_shown d tree stands calm Damaged text e = absurd e
+tree_shown d tree stands calm Illegal text e = absurd e
 
 -- why there is none is told
 pub tree_refused : (d : Formatting) (f : RecoverFault) → HasFaultCause d.before d.now f → (IsTrue d.visible → TellsWhy d.sectors d.image f) → EndsTree d (ending_of f) (line_of f)
@@ -71,6 +72,7 @@ by_status d status DeviceFault text is e = device is e.0
 by_status d status OutOfMemory text is e = memory is
 by_status d status SourceFault text is e = absurd e
 by_status d status Damaged text is e = absurd e
+by_status d status Illegal text is e = absurd e
 
 not_none : (d : Formatting) (tree : ImageTree) (text : List ℕ) → IsTrue d.visible → opens d.sectors d.image ≡ Ok tree → TellsNoTree d text → ⊥
 not_none d tree text visible opened r = let both : Ok tree ≡ Err r.0 = sym opened ∙ r.1 visible in cc

@@ -5,7 +5,7 @@ use Rattle.ufs_bench.specs.Workload.{bench_geometry, workload_of}
 use Rattle.ufs_catalog.specs.Reading.{IsReadOnly}
 use Rattle.ufs_disk.specs.Disk.{IsImage}
 use Rattle.ufs_disk.specs.Moments.{Moments, reads}
-use Rattle.ufs_disk.proofs.Runs.{stays}
+use Rattle.ufs_disk.proofs.Runs.{stays, still}
 use Rattle.ufs_layout.specs.declared.geometry.Geometry.{Geometry}
 use Rattle.ufs_model.specs.declared.data.Entry.{Entry}
 use Rattle.ufs_model.specs.declared.data.Op.{Op}
@@ -47,7 +47,7 @@ lacking_five : (w : Writing) (status : ℕ) → IsAnswer (IsFixed OutOfMemory) w
 lacking_five w status a (inl five) calm = five
 lacking_five w status a (inr seven) calm = absurd (calm (a.rose seven))
 
-module _ (alike : LongerIsAlike) (r : Reading) (d : Formatting) (told : List (List Entry)) (w : Writing) (status : ℕ) (none : told ≡ []) (calm : d.now ≡ d.before) (a : IsAnswer (IsFixed OutOfMemory) w status) (is : (status ≡ 5) ⊎ (status ≡ 7)) where
+module _ (alike : LongerIsAlike) (r : Reading) (d : Formatting) (told : List (List Entry)) (w : Writing) (status : ℕ) (none : told ≡ []) (unread : r.rest ≡ r.left) (silent : r.now ≡ r.before) (calm : d.now ≡ d.before) (a : IsAnswer (IsFixed OutOfMemory) w status) (is : (status ≡ 5) ⊎ (status ≡ 7)) where
   -- of a command that may lack memory in the same way
   by_command : (words : Option Command) → EndsCommand words r d told OutOfMemory memory_line → Tells words r d told w status
   by_command words may = tells alike words r d told w status (none_faults d.before d.now told none) (answer_line (EndsCommand words r d told) OutOfMemory memory_line w status may a)
@@ -77,6 +77,7 @@ module _ (alike : LongerIsAlike) (r : Reading) (d : Formatting) (told : List (Li
   lacking_told (Some (command.Play trace)) = by_command (Some (command.Play trace)) (inl (none, refl))
   lacking_told (Some command.Tree) = by_command (Some command.Tree) (calm, inl refl)
   lacking_told (Some command.Check) = by_command (Some command.Check) (calm, refl)
+  lacking_told (Some command.Audit) = by_command (Some command.Audit) (inl (unread, silent, (calm, refl)))
   lacking_told (Some command.Recover) = by_command (Some command.Recover) (calm, refl)
   lacking_told (Some (command.Bench seed)) = unserved (workload_of seed)
   lacking_told (Some (command.Mkfs blocks inodes journal)) = unformatted (record { blocks = blocks; inodes = inodes; journal = journal })
@@ -85,7 +86,7 @@ module _ (alike : LongerIsAlike) (r : Reading) (d : Formatting) (told : List (Li
 
 module _ {D : Type 0} (c : Course D) (untouched : c.new ≡ c.old) (same : c.to ≡ c.from) (status : ℕ) (other : status ≡ 0 → ⊥) where
   only_read : IsReadOnly c.keeps c.from c.to
-  only_read = subst (IsReadOnly c.keeps c.from) (sym same) (record { content = refl; crash = stays c.keeps (IsImage c.from.state) c.from c.from refl (λ image left. left) })
+  only_read = subst (IsReadOnly c.keeps c.from) (sym same) (record { content = refl; crash = stays c.keeps (IsImage c.from.state) c.from c.from refl (λ image left. left); still = still c.keeps c.from })
 
   formats : (g : Geometry) → Formats g status c
   formats g = record {
@@ -124,6 +125,7 @@ module _ {D : Type 0} (c : Course D) (untouched : c.new ≡ c.old) (same : c.to 
   acts (Some (command.Play trace)) told stands none = unread_left c told status stands none untouched same other
   acts (Some command.Tree) told stands none = λ known. only_read
   acts (Some command.Check) told stands none = λ known. only_read
+  acts (Some command.Audit) told stands none = λ known. only_read
   acts (Some command.Recover) told stands none = λ known. recovers
   acts (Some (command.Bench seed)) told stands none = benches_left told none
   acts (Some (command.Mkfs blocks inodes journal)) told stands none = formats (record { blocks = blocks; inodes = inodes; journal = journal })

@@ -19,15 +19,17 @@ built (named.Bench seed (Some lease)) = Some command.NotBuilt
 built named.Recover = Some command.Recover
 built named.Check = Some command.Check
 built named.Tree = Some command.Tree
+built named.Audit = Some command.Audit
 
 -- the command that a program's words are
 abbrev pub asked : {Z : Type 0} → List (String Z) → Option Command
 asked words = option_and_then built (command_of (map string_bytes words))
 
--- it is `play`, with a trace or without
-abbrev pub is_play : Option Command → Bool
-is_play (Some (command.Play trace)) = true
-is_play _ = false
+-- it reads the source
+abbrev pub reads_source : Option Command → Bool
+reads_source (Some (command.Play trace)) = true
+reads_source (Some command.Audit) = true
+reads_source _ = false
 
 -- it serves clients
 abbrev pub serves : Option Command → Bool

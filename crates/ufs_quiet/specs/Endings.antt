@@ -27,7 +27,7 @@ use Rattle.ufs_script.specs.declared.fault.ScriptFault.{ScriptFault}
 use Rattle.ufs_script.specs.declared.fault.ScriptFault.TheVariants as fault
 use Rattle.ufs_script.specs.Script.{IsOutside}
 use Rattle.ufs_quiet.specs.declared.ending.Ending.{Ending}
-use Rattle.ufs_quiet.specs.declared.ending.Ending.TheVariants.{Done, Usage, BadGeometry, NotBuilt, BadScript, TooSmall, NoTree, DeviceFault, OutOfMemory, SourceFault, Damaged}
+use Rattle.ufs_quiet.specs.declared.ending.Ending.TheVariants.{Done, Usage, BadGeometry, NotBuilt, BadScript, TooSmall, NoTree, DeviceFault, OutOfMemory, SourceFault, Damaged, Illegal}
 use Rattle.ufs_quiet.specs.Texts.{IsFront, AreFirstLines, usage_line, bad_geometry_line, not_built_line, break_line, too_small_line, device_line, memory_line, source_line, made_line, recovered_line}
 use Rattle.ufs_quiet.specs.DamageLines.{clean_line, damage_lines}
 use Rattle.ufs_quiet.specs.TreeLines.{tree_lines, refusal_line}
@@ -46,6 +46,7 @@ status_of DeviceFault = 4
 status_of OutOfMemory = 5
 status_of SourceFault = 6
 status_of Damaged = 8
+status_of Illegal = 9
 
 -- the status of a sink's fault, whatever else happened
 abbrev pub sink_status : ℕ
@@ -64,6 +65,7 @@ fixed_line_of DeviceFault = []
 fixed_line_of OutOfMemory = memory_line
 fixed_line_of SourceFault = source_line
 fixed_line_of Damaged = []
+fixed_line_of Illegal = []
 
 -- ---- what a script ends with
 
@@ -217,22 +219,22 @@ pub record TellsNoStart (d : Formatting) (text : List ℕ) : Type 0 where
   pub refused : IsTrue d.visible → (refusal : Refusal) → opens d.sectors d.image ≡ Err refusal → text ≡ refusal_line refusal
 
 -- What is seen of the disk and was told allows the serving of a script, of which these lines are printed, this ending with this
--- text. Each request is answered, and the image is clean;
-abbrev pub EndsServed : List ℕ → Formatting → Script → List (List Entry) → Ending → List ℕ → Type 0
-EndsServed printed d script told Done text = IsSessionOf d script told × EndsSession d told (Ok tt) × (text ≡ printed)
+-- text, where so much is known of a session that is whole. Each request is answered, and the image is clean;
+abbrev pub EndsServed : Type 0 → List ℕ → Formatting → Script → List (List Entry) → Ending → List ℕ → Type 0
+EndsServed Whole printed d script told Done text = Whole × EndsSession d told (Ok tt) × (text ≡ printed)
 -- no session begins with the image;
-EndsServed printed d script told NoTree text = (told ≡ []) × (d.now ≡ d.before) × TellsNoStart d text
+EndsServed Whole printed d script told NoTree text = (told ≡ []) × (d.now ≡ d.before) × TellsNoStart d text
 -- a call of the disk failed as the session began, or each request is answered, and the line of a fault is behind the lines;
-EndsServed printed d script told DeviceFault text = ((told ≡ []) × (d.now ≡ raised d.before) × (text ≡ device_line d.now))
-    ⊎ (IsSessionOf d script told × (fault : ℕ) × TellsEnd d told fault × (text ≡ printed ++ device_line fault))
+EndsServed Whole printed d script told DeviceFault text = ((told ≡ []) × (d.now ≡ raised d.before) × (text ≡ device_line d.now))
+    ⊎ (Whole × (fault : ℕ) × TellsEnd d told fault × (text ≡ printed ++ device_line fault))
 -- memory ran out before the first line, and some requests may have been answered, or behind one.
-EndsServed printed d script told OutOfMemory text = (IsCutSessionOf d script told × (text ≡ memory_line))
-    ⊎ (IsSessionOf d script told × (front : List ℕ) × AreFirstLines front printed × (text ≡ front ++ memory_line))
-EndsServed printed d script told _ text = ⊥
+EndsServed Whole printed d script told OutOfMemory text = (IsCutSessionOf d script told × (text ≡ memory_line))
+    ⊎ (Whole × (front : List ℕ) × AreFirstLines front printed × (text ≡ front ++ memory_line))
+EndsServed Whole printed d script told _ text = ⊥
 
 -- ..of a script whose reply lines are printed, and its trace where that is asked for
 abbrev pub EndsServing : Bool → Formatting → Script → List (List Entry) → Ending → List ℕ → Type 0
-EndsServing trace d script told ending text = EndsServed (session_lines trace (joined told)) d script told ending text
+EndsServing trace d script told ending text = EndsServed (IsSessionOf d script told) (session_lines trace (joined told)) d script told ending text
 
 -- What is seen of the source allows this ending with this text where there is no script.
 abbrev pub EndsUnread : Reading → Ending → List ℕ → Type 0

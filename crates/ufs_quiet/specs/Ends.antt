@@ -7,6 +7,7 @@ use Rattle.ufs_quiet.specs.declared.words.Command.{Command}
 use Rattle.ufs_quiet.specs.declared.words.Command.TheVariants as command
 use Rattle.ufs_bench.specs.Workload.{workload_of}
 use Rattle.ufs_quiet.specs.Seen.{Reading, Formatting}
+use Rattle.ufs_quiet.specs.Audits.{EndsAudit}
 use Rattle.ufs_quiet.specs.Bench.{EndsBench}
 use Rattle.ufs_quiet.specs.Endings.{EndsCheck, EndsMkfs, EndsPlay, EndsRecovery, EndsTree, IsFixed}
 
@@ -18,6 +19,7 @@ EndsCommand (Some command.NotBuilt) r d told ending text = IsFixed NotBuilt endi
 EndsCommand (Some (command.Play trace)) r d told ending text = EndsPlay trace r d told ending text
 EndsCommand (Some command.Tree) r d told ending text = EndsTree d ending text
 EndsCommand (Some command.Check) r d told ending text = EndsCheck d ending text
+EndsCommand (Some command.Audit) r d told ending text = EndsAudit r d ending text
 EndsCommand (Some command.Recover) r d told ending text = EndsRecovery d ending text
 EndsCommand (Some (command.Bench seed)) r d told ending text = EndsBench (workload_of seed) d told ending text
 EndsCommand (Some (command.Mkfs blocks inodes journal)) r d told ending text = EndsMkfs (record { blocks = blocks; inodes = inodes; journal = journal }) d ending text

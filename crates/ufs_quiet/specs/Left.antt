@@ -1,5 +1,5 @@
 -- What a command does to a disk and to a source.
-use Rattle.std.specs.Prelude.{ℕ, ◌≡◌, ◌≢◌, ◌<◌, ◌⊎◌, [], List, Bool, true, false, Option, Some, None, Err, IsTrue}
+use Rattle.std.specs.Prelude.{ℕ, ◌≡◌, ◌≢◌, ◌<◌, ◌⊎◌, [], List, length, Bool, true, false, Option, Some, None, Err, IsTrue}
 use Rattle.ufs_engine.specs.Begins.{BeginsWith}
 use Rattle.ufs_bench.specs.Workload.{bench_geometry}
 use Rattle.ufs_catalog.specs.Reading.{IsReadOnly}
@@ -15,6 +15,7 @@ use Rattle.ufs_ledger.specs.Kept.{OpensExplained}
 use Rattle.ufs_model.specs.History.{joined, tree_after}
 use Rattle.ufs_model.specs.PosixTree.{PosixTree, root_alone}
 use Rattle.ufs_model.specs.declared.data.Entry.{Entry}
+use Rattle.ufs_engine.specs.Numbers.{RaisesNumbers}
 use Rattle.ufs_engine.specs.Plays.{IsStampedThroughout, MayPlay}
 use Rattle.ufs_recover.specs.Stopped.{IsNewDisk, IsStopped}
 use Rattle.ufs_recover.specs.Tables.{IsOutside}
@@ -24,7 +25,7 @@ use Rattle.ufs_session.specs.Throughout.{IsExplainedThroughout}
 use Rattle.ufs_session.specs.Told.{IsCountStill, devices_in}
 use Rattle.ufs_quiet.specs.declared.words.Command.{Command}
 use Rattle.ufs_quiet.specs.declared.words.Command.TheVariants as command
-use Rattle.ufs_quiet.specs.Commands.{is_play, serves}
+use Rattle.ufs_quiet.specs.Commands.{reads_source, serves}
 use Rattle.ufs_quiet.specs.Seen.{Course, Reading}
 
 -- ---- disks
@@ -71,6 +72,9 @@ pub record Plays {D : Type 0} (told : List (List Entry)) (status : ℕ) (c : Cou
   -- Status 0: the disk is proper and clean, nothing is pending, and it stands for the tree behind the history.
   pub clean : MayPlay c.visible c.sectors c.from.state → status ≡ 0 → IsCleanDisk c.sectors c.to.state
   pub last : MayPlay c.visible c.sectors c.from.state → (start : PosixTree) → BeginsWith c.sectors (reads c.from) start → status ≡ 0 → StandsForTree c.sectors (tree_after start (joined told)) (reads c.to)
+  -- Status 0: the epoch, and the next commit number with which the image might go on, are raised by no more than so many requests
+  -- and one more may raise them.
+  pub numbers : MayPlay c.visible c.sectors c.from.state → status ≡ 0 → RaisesNumbers (length (joined told)) (reads c.from) (reads c.to)
   -- Over a visible disk whose image stands for no tree nobody is served, and the status isn't 0.
   pub unserved : IsTrue c.visible → (refusal : Refusal) → opens c.sectors (reads c.from) ≡ Err refusal → told ≡ []
   pub undone : IsTrue c.visible → (refusal : Refusal) → opens c.sectors (reads c.from) ≡ Err refusal → status ≢ 0
@@ -95,11 +99,12 @@ pub record Benches {D : Type 0} (told : List (List Entry)) (status : ℕ) (c : C
   pub clean : IsTrue c.visible → status ≡ 0 → IsCleanDisk c.sectors c.to.state
   pub last : IsTrue c.visible → status ≡ 0 → StandsForTree c.sectors (tree_after root_alone (joined told)) (reads c.to)
 
--- What a command does to the content of a disk: `tree` and `check` only read it, and what isn't listed leaves it.
+-- What a command does to the content of a disk: `tree`, `check` and `audit` only read it, and what isn't listed leaves it.
 abbrev pub ActsOn : {D : Type 0} → Option Command → List (List Entry) → ℕ → Course D → Type 0
 ActsOn (Some (command.Mkfs blocks inodes journal)) told status c = Formats (record { blocks = blocks; inodes = inodes; journal = journal }) status c
 ActsOn (Some command.Tree) told status c = IsTrue c.visible → IsReadOnly c.keeps c.from c.to
 ActsOn (Some command.Check) told status c = IsTrue c.visible → IsReadOnly c.keeps c.from c.to
+ActsOn (Some command.Audit) told status c = IsTrue c.visible → IsReadOnly c.keeps c.from c.to
 ActsOn (Some command.Recover) told status c = IsTrue c.visible → Recovers c.keeps c.sectors status c.from c.to
 ActsOn (Some (command.Play trace)) told status c = Plays told status c
 ActsOn (Some (command.Bench seed)) told status c = Benches told status c
@@ -120,5 +125,5 @@ pub record LeavesDisk {D : Type 0} (words : Option Command) (lists : List (List 
 pub record LeavesSource (words : Option Command) (status : ℕ) (r : Reading) : Type 0 where
   -- Any status but 6 and 7 leaves its count.
   pub told : status ≢ 6 → status ≢ 7 → r.now ≡ r.before
-  -- Only `play` reads it.
-  pub unread : is_play words ≡ false → (r.rest ≡ r.left) × (r.now ≡ r.before)
+  -- Only `play` and `audit` read it.
+  pub unread : reads_source words ≡ false → (r.rest ≡ r.left) × (r.now ≡ r.before)

@@ -8,6 +8,7 @@ pub mod TreeLines
 pub mod DamageLines
 pub mod Endings
 pub mod Bench
+pub mod Audits
 pub mod Ends
 pub mod Told
 pub mod Left

@@ -1,6 +1,8 @@
 -- The lines that a command writes besides replies.
 use Rattle.std.specs.Prelude.{ℕ, List, [], ◌∷◌, ◌++◌, ◌+◌, ◌-◌, ◌≡◌, ◌⊎◌, codes}
 use Rattle.std.specs.Fmt.{decimal}
+use Rattle.ufs_audit.specs.declared.verdict.Wrong.{Wrong}
+use Rattle.ufs_audit.specs.declared.verdict.Wrong.TheVariants as wrong
 use Rattle.ufs_layout.specs.Areas.{first_of_data, refusal_number}
 use Rattle.ufs_layout.specs.declared.geometry.Geometry.{Geometry}
 use Rattle.ufs_layout.specs.declared.geometry.BadGeometry.{BadGeometry}
@@ -59,6 +61,24 @@ made_line g = line (codes "made " ++ decimal g.blocks ++ 32 ∷ decimal g.inodes
 -- how many transactions were committed
 abbrev pub recovered_line : ℕ → List ℕ
 recovered_line count = line (codes "recovered " ++ decimal count)
+
+-- how many entries a legal history has
+abbrev pub legal_line : ℕ → List ℕ
+legal_line entries = line (codes "legal " ++ decimal entries)
+
+abbrev pub wrong_name : Wrong → List ℕ
+wrong_name wrong.Text = codes "Text"
+wrong_name wrong.Order = codes "Order"
+wrong_name wrong.Reply = codes "Reply"
+wrong_name wrong.Excuse = codes "Excuse"
+
+-- the first ticket at which a text isn't that of a legal history, and what is wrong there
+abbrev pub illegal_line : ℕ → Wrong → List ℕ
+illegal_line ticket cause = line (codes "ufs: audit: ticket " ++ decimal ticket ++ codes ": " ++ wrong_name cause)
+
+-- a text that is too long has no line of a script
+abbrev pub long_text_line : List ℕ
+long_text_line = line (codes "ufs: line 0: TextTooLong")
 
 -- the first of these bytes is the front of the second
 abbrev pub IsFront : List ℕ → List ℕ → Type 0

@@ -2,6 +2,10 @@
 -- it comes to for each command.
 use Rattle.std.specs.Prelude.{ℕ, ◌≡◌, ◌≢◌, ◌<◌, ◌≤◌, ◌⊎◌, Bool, List, [], ◌++◌, length, Option, Some, None, ⊤, Ok, Err, IsTrue}
 use Rattle.std.specs.Io.KnownBytes.{Appends}
+use Rattle.ufs_audit.specs.Sources.{HasVerdict}
+use Rattle.ufs_audit.specs.declared.verdict.Verdict.{Verdict}
+use Rattle.ufs_audit.specs.declared.verdict.Verdict.TheVariants as verdict
+use Rattle.ufs_audit.specs.declared.verdict.Wrong.{Wrong}
 use Rattle.ufs_bench.specs.Workload.{bench_geometry, workload_of}
 use Rattle.ufs_base.specs.Faults.{raised}
 use Rattle.ufs_image.specs.Damage.{Damage}
@@ -11,6 +15,7 @@ use Rattle.ufs_image.specs.Volume.{Refusal}
 use Rattle.ufs_layout.specs.Areas.{geometry_refusal, sector_count}
 use Rattle.ufs_layout.specs.declared.geometry.Geometry.{Geometry}
 use Rattle.ufs_model.specs.History.{joined}
+use Rattle.ufs_model.specs.PosixTree.{PosixTree}
 use Rattle.ufs_model.specs.declared.data.Entry.{Entry}
 use Rattle.ufs_model.specs.declared.data.Op.{Op}
 use Rattle.ufs_engine.specs.Plays.{AreFaultsOf, MayPlay}
@@ -22,8 +27,9 @@ use Rattle.ufs_script.specs.declared.fault.ScriptFault.{ScriptFault}
 use Rattle.ufs_script.specs.declared.script.Script.{Script}
 use Rattle.ufs_quiet.specs.declared.words.Command.{Command}
 use Rattle.ufs_quiet.specs.declared.words.Command.TheVariants as command
+use Rattle.ufs_quiet.specs.Audits.{IsAuditStart, TellsBreak, TellsLongText}
 use Rattle.ufs_quiet.specs.Bench.{HasServed, bench_text}
-use Rattle.ufs_quiet.specs.Texts.{too_small_line, made_line, break_line, device_line, recovered_line}
+use Rattle.ufs_quiet.specs.Texts.{too_small_line, made_line, break_line, device_line, illegal_line, legal_line, recovered_line}
 use Rattle.ufs_quiet.specs.TreeLines.{tree_lines, refusal_line}
 use Rattle.ufs_quiet.specs.DamageLines.{clean_line, damage_lines}
 use Rattle.ufs_quiet.specs.Endings.{TellsNoStart}
@@ -124,23 +130,51 @@ pub record TellsRecovery (d : Formatting) (w : Writing) (status : ℕ) : Type 0 
 pub record TellsBench (clients : List (List Op)) (d : Formatting) (told : List (List Entry)) (w : Writing) (status : ℕ) : Type 0 where
   -- Status 0: there is one history, in which one POSIX tree, that begins with the root alone where the disk is visible, gives
   -- every reply or the reply is an excuse that fits, and which holds each request of the workload once in its client's order.
-  -- The sink got the lines that count that history's replies by their kinds and tell how large the files are behind it, and
-  -- nothing else. No reply tells that the store stopped; where none tells a fault, the disk's count of faults is as it was, or
+  -- The sink got the lines that count that history's replies by their kinds and tell how large all files of that tree are
+  -- together behind it, and nothing else. No reply tells that the store stopped; where none tells a fault, the disk's count of faults is as it was, or
   -- stands at its type's end.
-  pub done : status ≡ 0 → HasServed clients d told × EndsSession d told (Ok tt) × Appends w.held w.holds (bench_text told)
+  pub done : status ≡ 0 → (bytes : ℕ) × HasServed clients d told bytes × EndsSession d told (Ok tt) × Appends w.held w.holds (bench_text told bytes)
   -- Status 3, of a visible disk: it is too small, nothing was served, and the sink got the line that says so, and nothing else.
   pub small : IsTrue d.visible → status ≡ 3 → (d.sectors < sector_count bench_geometry) × (told ≡ []) × Appends w.held w.holds too_small_line
   -- Status 4: a call of the disk failed as it was formatted or as the session began, and the sink got the line of the fault; or
   -- each request was answered, and it got the same lines as with status 0, and behind them that of the fault of the closing, or
   -- of the one at which the store stopped.
   pub closing : status ≡ 4 → ((told ≡ []) × (d.now ≡ raised d.before) × Appends w.held w.holds (device_line d.now))
-      ⊎ (HasServed clients d told × (fault : ℕ) × TellsEnd d told fault × Appends w.held w.holds (bench_text told ++ device_line fault))
+      ⊎ ((bytes : ℕ) × HasServed clients d told bytes × (fault : ℕ) × TellsEnd d told fault × Appends w.held w.holds (bench_text told bytes ++ device_line fault))
   -- Each fault of the disk that a reply tells is one to which its count rose in this call, and no two replies tell one.
   pub faults : AreFaultsOf d.before d.now (joined told)
   -- On a visible disk that is large enough the workload is served, unless memory runs out or a count of faults rises.
   pub complete : IsTrue d.visible → sector_count bench_geometry ≤ d.sectors → AreCalmThroughout d w → (status ≡ 0) ⊎ (status ≡ 5)
   -- A disk that is too small is refused, unless memory runs out or the sink's count of faults rises.
   pub refused : d.sectors < sector_count bench_geometry → w.now ≢ raised w.before → (status ≡ 3) ⊎ (status ≡ 5)
+
+-- The verdict on the text behind the source's script, from the tree that the audit begins with.
+abbrev pub IsVerdictOf : Reading → Formatting → Verdict → Type 0
+IsVerdictOf r d v = (start : PosixTree) × IsAuditStart d start × HasVerdict start r.left r.rest v
+
+-- `audit`
+pub record TellsAudit (r : Reading) (d : Formatting) (w : Writing) (status : ℕ) : Type 0 where
+  -- Status 0: the source was read to its end, and it has a script through its line `end` and then the text of one legal history
+  -- of its requests, of so many entries, that begins with the tree of the disk's image. The sink got the line of that number, and
+  -- nothing else.
+  pub legal : status ≡ 0 → (entries : ℕ) × IsVerdictOf r d (verdict.Legal entries) × Appends w.held w.holds (legal_line entries)
+  -- Status 9: it was read to its end, and what follows the script is the text of no such history. The sink got the line of the
+  -- first ticket at which each text ends that begins like it, and of what is wrong there, and nothing else.
+  pub illegal : status ≡ 9 → (ticket : ℕ) × (cause : Wrong) × IsVerdictOf r d (verdict.Illegal ticket cause) × Appends w.held w.holds (illegal_line ticket cause)
+  -- Status 2: the script breaks, or the text behind it is too long, and the sink got the line of the break, or that the text is
+  -- too long, and nothing else.
+  pub broken : status ≡ 2 → (text : List ℕ) × (TellsBreak r text ⊎ TellsLongText r text) × Appends w.held w.holds text
+  -- Status 3, of a visible disk: the image stands for no tree, and the sink got the line of the cause, and nothing else. The
+  -- source wasn't read.
+  pub no_tree : IsTrue d.visible → status ≡ 3 → (refusal : Refusal) × (opens d.sectors d.image ≡ Err refusal) × Appends w.held w.holds (refusal_line refusal)
+  pub unopened : (status ≡ 3) ⊎ (status ≡ 4) → (r.rest ≡ r.left) × (r.now ≡ r.before)
+  -- A visible image that stands for a tree is audited from it, and one that stands for none is refused, whatever the source has,
+  -- unless memory runs out or a count of faults rises.
+  pub complete : IsTrue d.visible → (tree : ImageTree) → opens d.sectors d.image ≡ Ok tree → AreCalm d w → r.now ≢ raised r.before
+      → ((status ≡ 0) ⊎ (status ≡ 9)) ⊎ ((status ≡ 2) ⊎ (status ≡ 5))
+  pub refused : IsTrue d.visible → (refusal : Refusal) → opens d.sectors d.image ≡ Err refusal → AreCalm d w → (status ≡ 3) ⊎ (status ≡ 5)
+  -- A proper image is never refused.
+  pub proper : IsTrue d.visible → IsProperImage d.sectors d.image → status ≢ 3
 
 -- What a command tells. Of other words `Ends` says all: they have one status and one line.
 abbrev pub Tells : Option Command → Reading → Formatting → List (List Entry) → Writing → ℕ → Type 0
@@ -151,4 +185,5 @@ Tells (Some (command.Bench seed)) r d told w status = TellsBench (workload_of se
 Tells (Some (command.Mkfs blocks inodes journal)) r d told w status = TellsMkfs (record { blocks = blocks; inodes = inodes; journal = journal }) d w status
 Tells (Some command.Tree) r d told w status = IsTrue d.visible → TellsTree d w status
 Tells (Some command.Check) r d told w status = IsTrue d.visible → TellsCheck d w status
+Tells (Some command.Audit) r d told w status = TellsAudit r d w status
 Tells (Some command.Recover) r d told w status = IsTrue d.visible → TellsRecovery d w status

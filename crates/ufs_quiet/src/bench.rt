@@ -5,14 +5,14 @@ ghost use Rattle.ufs_engine.specs.Plays.{AreFaultsOf};
 ghost use Rattle.ufs_layout.specs.Areas.{sector_count};
 ghost use Rattle.ufs_model.specs.History.{joined};
 ghost use Rattle.ufs_session.specs.Told.{IsCountStill, devices_in};
-ghost use Rattle.ufs_quiet.specs.Bench.{EndsBench, bench_script, bench_text};
-ghost use Rattle.ufs_quiet.specs.Endings.{EndsBehind, EndsPlayed, EndsPrinting, EndsServed, IsAnswer};
+ghost use Rattle.ufs_quiet.specs.Bench.{EndsBench, EndsMeasured, bench_text};
+ghost use Rattle.ufs_quiet.specs.Endings.{EndsBehind, EndsPlayed, EndsPrinting, IsAnswer};
 ghost use Rattle.ufs_quiet.specs.Left.{Benches, Plays};
 ghost use Rattle.ufs_quiet.specs.Seen.{course, formatting, writing};
 
 use crate::ending::Ending;
-use crate::finish::{finish, out_of_memory, tell};
 use crate::image::{device_line, tell_device, tell_start};
+use crate::last_line::{finish, out_of_memory, tell};
 use crate::outcome::{Outcome, nothing_told};
 use std::alloc::Global;
 use ufs_base::Lack;
@@ -25,22 +25,28 @@ use ufs_recover::{FormatFault, format};
 use ufs_script::{OpLists, Script, WordList};
 
 // Writes the summary, and then ends.
-fn print_summary<K: Sink>(alloc: Global, sink: &mut K, told: &ToldLists) -> u8
-    ensures { IsAnswer (EndsPrinting (bench_text told.now)) (writing K.held K.faults sink.old sink.new) result }
+fn print_summary<K: Sink>(alloc: Global, sink: &mut K, told: &ToldLists, bytes: u128) -> u8
+    ensures { IsAnswer (EndsPrinting (bench_text told.now bytes)) (writing K.held K.faults sink.old sink.new) result }
 {
-    match summary(alloc, told.as_slice()) {
+    match summary(alloc, told.as_slice(), bytes) {
         Ok(text) => tell(sink, Ending::Done, text.as_slice()),
-        Err(lack) => out_of_memory(sink, lack),
+        Err(memory) => out_of_memory(sink, Lack::Memory(memory)),
     }
 }
 
 // Writes it, and behind it the line of a fault of the disk.
-fn print_summary_behind<K: Sink>(alloc: Global, sink: &mut K, told: &ToldLists, fault: u64) -> u8
-    ensures { IsAnswer (EndsBehind (bench_text told.now) fault) (writing K.held K.faults sink.old sink.new) result }
+fn print_summary_behind<K: Sink>(
+    alloc: Global,
+    sink: &mut K,
+    told: &ToldLists,
+    bytes: u128,
+    fault: u64,
+) -> u8
+    ensures { IsAnswer (EndsBehind (bench_text told.now bytes) fault) (writing K.held K.faults sink.old sink.new) result }
 {
-    let mut text = match summary(alloc, told.as_slice()) {
+    let mut text = match summary(alloc, told.as_slice(), bytes) {
         Ok(text) => text,
-        Err(lack) => return out_of_memory(sink, lack),
+        Err(memory) => return out_of_memory(sink, Lack::Memory(memory)),
     };
     match text.extend_from_slice(device_line(fault).as_bytes()) {
         Ok(()) => tell(sink, Ending::DeviceFault, text.as_slice()),
@@ -53,15 +59,16 @@ fn tell_bench<K: Sink>(
     alloc: Global,
     sink: &mut K,
     told: &ToldLists,
+    bytes: u128,
     ended: Result<(), PlayFault>,
 ) -> u8
-    ensures { IsAnswer (EndsPlayed ended (bench_text told.now)) (writing K.held K.faults sink.old sink.new) result }
+    ensures { IsAnswer (EndsPlayed ended (bench_text told.now bytes)) (writing K.held K.faults sink.old sink.new) result }
 {
     match ended {
-        Ok(()) => print_summary(alloc, sink, told),
+        Ok(()) => print_summary(alloc, sink, told, bytes),
         Err(PlayFault::Image(fault)) => tell_start(sink, fault),
-        Err(PlayFault::Device { fault }) => print_summary_behind(alloc, sink, told, fault),
-        Err(PlayFault::Stopped { fault }) => print_summary_behind(alloc, sink, told, fault),
+        Err(PlayFault::Device { fault }) => print_summary_behind(alloc, sink, told, bytes, fault),
+        Err(PlayFault::Stopped { fault }) => print_summary_behind(alloc, sink, told, bytes, fault),
         Err(PlayFault::Lack(lack)) => out_of_memory(sink, lack),
     }
 }
@@ -73,7 +80,7 @@ fn serve_workload<K: Sink, D: Disk>(
     clients: OpLists,
     disk: D,
 ) -> Outcome<D>
-    ensures answer { IsAnswer (EndsServed (bench_text result.told) (formatting D.visible D.size D.moments D.faults disk result.disk) (bench_script clients) result.told)
+    ensures answer { IsAnswer (EndsMeasured clients (formatting D.visible D.size D.moments D.faults disk result.disk) result.told)
         (writing K.held K.faults sink.old sink.new) result.status }
     ensures faults { AreFaultsOf (D.faults disk) (D.faults result.disk) (joined result.told) }
     ensures acts { Plays result.told result.status (course D.visible D.keeps D.size D.moments D.faults disk result.disk) }
@@ -87,7 +94,7 @@ fn serve_workload<K: Sink, D: Disk>(
     };
     let played = play(alloc, script, 0, disk);
     Outcome {
-        status: tell_bench(alloc, sink, &played.told, played.ended),
+        status: tell_bench(alloc, sink, &played.told, played.bytes, played.ended),
         told: played.told,
         disk: played.disk,
     }

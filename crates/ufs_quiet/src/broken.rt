@@ -7,7 +7,7 @@ ghost use Rattle.ufs_quiet.specs.Seen.{writing};
 ghost use Rattle.ufs_quiet.specs.Endings.{IsAnswer, IsBreakLine, TellsFault};
 
 use crate::ending::Ending;
-use crate::finish::{finish, out_of_memory, tell};
+use crate::last_line::{finish, out_of_memory, tell};
 use std::alloc::{AllocError, Global};
 use ufs_base::Lack;
 use ufs_io::Sink;
@@ -39,8 +39,8 @@ fn break_line(alloc: Global, fault: ScriptFault) -> Result<Vec<u8>, AllocError>
     }
 }
 
-// Ends with the line of a break.
-fn tell_break<K: Sink>(alloc: Global, sink: &mut K, fault: ScriptFault) -> u8
+/// Ends with the line of a break.
+pub fn tell_break<K: Sink>(alloc: Global, sink: &mut K, fault: ScriptFault) -> u8
     requires { ¬ IsOutside fault }
     ensures answer { IsAnswer (IsBreakLine fault) (writing K.held K.faults sink.old sink.new) result }
 {

@@ -8,8 +8,8 @@ ghost use Rattle.ufs_quiet.specs.Endings.{EndsCheck, EndsListing, IsAnswer, IsLi
 
 use crate::damage_lines::print_damage;
 use crate::ending::Ending;
-use crate::finish::{SINK_FAULT, tell};
 use crate::image::tell_refusal;
+use crate::last_line::{SINK_FAULT, tell};
 use std::alloc::Global;
 use ufs_damage::DamageList;
 use ufs_disk::Disk;

@@ -28,6 +28,8 @@ pub enum Ending {
     SourceFault,
     /// Something is damaged in the image.
     Damaged,
+    /// The text isn't that of a legal history.
+    Illegal,
 }
 
 fn bad_geometry(bad: BadGeometry) -> &'static [u8]
@@ -61,6 +63,7 @@ impl Ending {
             Ending::OutOfMemory => 5,
             Ending::SourceFault => 6,
             Ending::Damaged => 8,
+            Ending::Illegal => 9,
         }
     }
 
@@ -81,6 +84,7 @@ impl Ending {
             Ending::OutOfMemory => b"ufs: out of memory\n",
             Ending::SourceFault => b"ufs: source fault\n",
             Ending::Damaged => b"",
+            Ending::Illegal => b"",
         }
     }
 }

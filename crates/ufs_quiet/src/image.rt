@@ -7,7 +7,7 @@ ghost use Rattle.ufs_quiet.specs.declared.ending.Ending.TheVariants.{NoTree, Dev
 ghost use Rattle.ufs_quiet.specs.Endings.{IsAnswer, IsLine, ending_of, line_of, start_ending, start_line, status_of, sink_status};
 
 use crate::ending::Ending;
-use crate::finish::{out_of_memory, tell};
+use crate::last_line::{out_of_memory, tell};
 use arrayvec::ArrayString;
 use itoa::Buffer;
 use ufs_io::Sink;

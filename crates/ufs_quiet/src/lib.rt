@@ -1,13 +1,14 @@
 //! What a command line does: from its words to a status, to lines on a sink, and to what a disk holds.
 #![tactic(auto)]
 
+mod audit;
 mod bench;
 mod broken;
 mod check;
 mod damage_lines;
 mod ending;
-mod finish;
 mod image;
+mod last_line;
 mod laws;
 mod mkfs;
 mod outcome;
@@ -23,8 +24,8 @@ mod words;
 mod write;
 
 pub use ending::Ending;
-pub use finish::{out_of_memory, tell};
 pub use image::tell_device;
+pub use last_line::{finish, out_of_memory, tell};
 pub use outcome::{Outcome, nothing_told};
 pub use response::{WordsFault, image_path, respond};
 pub use top::quiet;

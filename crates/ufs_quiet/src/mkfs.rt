@@ -8,8 +8,8 @@ ghost use Rattle.ufs_quiet.specs.Seen.{formatting, writing};
 ghost use Rattle.ufs_quiet.specs.Endings.{EndsMkfs, IsAnswer};
 
 use crate::ending::Ending;
-use crate::finish::{finish, out_of_memory, tell};
 use crate::image::device_line;
+use crate::last_line::{finish, out_of_memory, tell};
 use std::alloc::{AllocError, Global};
 use ufs_base::Lack;
 use ufs_disk::Disk;

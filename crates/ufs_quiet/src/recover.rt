@@ -6,8 +6,8 @@ ghost use Rattle.ufs_quiet.specs.declared.ending.Ending.TheVariants.{Done};
 ghost use Rattle.ufs_quiet.specs.Endings.{EndsRecovery, IsAnswer, IsLine};
 
 use crate::ending::Ending;
-use crate::finish::tell;
 use crate::image::tell_refusal;
+use crate::last_line::tell;
 use arrayvec::ArrayString;
 use itoa::Buffer;
 use std::alloc::Global;

@@ -8,7 +8,7 @@ ghost use Rattle.ufs_quiet.specs.Told.{Tells};
 ghost use Rattle.ufs_quiet.specs.Responses.{Responds, command_for, path_of};
 
 use crate::ending::Ending;
-use crate::finish::{finish, out_of_memory};
+use crate::last_line::{finish, out_of_memory};
 use crate::outcome::{Outcome, nothing_told};
 use crate::top::quiet;
 use std::alloc::Global;

@@ -10,8 +10,8 @@ ghost use Rattle.ufs_quiet.specs.Served.{session_lines};
 
 use crate::broken::tell_fault;
 use crate::ending::Ending;
-use crate::finish::{SINK_FAULT, out_of_memory};
 use crate::image::{tell_device, tell_start};
+use crate::last_line::{SINK_FAULT, out_of_memory};
 use crate::laws::unserved_law;
 use crate::outcome::{Outcome, nothing_told};
 use crate::print::{PrintFault, print};

@@ -2,7 +2,7 @@ ghost use Rattle.std.specs.Prelude.{◌≡◌, ◌⊎◌, [], Some, false};
 ghost use Rattle.ufs_model.specs.History.{joined};
 ghost use Rattle.ufs_engine.specs.Plays.{AreFaultsOf};
 ghost use Rattle.ufs_quiet.specs.Commands.{asked, serves};
-ghost use Rattle.ufs_quiet.specs.Seen.{Reading, reading, writing, formatting, course};
+ghost use Rattle.ufs_quiet.specs.Seen.{reading, writing, formatting, course};
 ghost use Rattle.ufs_quiet.specs.Endings.{IsAnswer, IsFixed, sink_status, status_of};
 ghost use Rattle.ufs_quiet.specs.Ends.{Ends, EndsCommand};
 ghost use Rattle.ufs_quiet.specs.Left.{LeavesDisk, LeavesSource};
@@ -10,10 +10,11 @@ ghost use Rattle.ufs_quiet.specs.Laws.{StandsAsBegun};
 ghost use Rattle.ufs_quiet.specs.declared.ending.Ending.TheVariants.{OutOfMemory};
 ghost use Rattle.ufs_quiet.specs.Told.{Tells};
 
+use crate::audit::audit;
 use crate::bench::bench;
 use crate::check::check;
 use crate::ending::Ending;
-use crate::finish::{finish, out_of_memory};
+use crate::last_line::{finish, out_of_memory};
 use crate::laws::unserved_law;
 use crate::mkfs::mkfs;
 use crate::outcome::{Outcome, nothing_told};
@@ -29,10 +30,17 @@ use ufs_layout::Geometry;
 use ufs_script::a_longer_text_breaks_alike;
 
 // The answer to a command that serves nobody.
-fn act<K: Sink, D: Disk>(alloc: Global, which: Command, sink: &mut K, disk: &mut D) -> u8
+fn act<S: Source, K: Sink, D: Disk>(
+    alloc: Global,
+    which: Command,
+    source: &mut S,
+    sink: &mut K,
+    disk: &mut D,
+) -> u8
     requires { serves (Some which) ≡ false }
-    ensures answer { (r : Reading) → IsAnswer (EndsCommand (Some which) r (formatting D.visible D.size D.moments D.faults disk.old disk.new) []) (writing K.held K.faults sink.old sink.new) result }
+    ensures answer { IsAnswer (EndsCommand (Some which) (reading S.left S.faults source.old source.new) (formatting D.visible D.size D.moments D.faults disk.old disk.new) []) (writing K.held K.faults sink.old sink.new) result }
     ensures disk { LeavesDisk (Some which) [] result (course D.visible D.keeps D.size D.moments D.faults disk.old disk.new) }
+    ensures source { LeavesSource (Some which) result (reading S.left S.faults source.old source.new) }
 {
     match which {
         Command::Mkfs {
@@ -50,6 +58,7 @@ fn act<K: Sink, D: Disk>(alloc: Global, which: Command, sink: &mut K, disk: &mut
         Command::Tree => tree(alloc, sink, disk),
         Command::Check => check(alloc, sink, disk),
         Command::Recover => recover(alloc, sink, disk),
+        Command::Audit => audit(alloc, source, sink, disk),
         Command::NotBuilt => finish(sink, Ending::NotBuilt),
         Command::Play { .. } | Command::Bench { .. } => unreachable!(),
     }
@@ -85,7 +94,7 @@ fn answer<S: Source, K: Sink, D: Disk>(
         return bench(alloc, sink, seed, disk);
     }
     let mut disk = disk;
-    let status = act(alloc, which, sink, &mut disk);
+    let status = act(alloc, which, source, sink, &mut disk);
     Outcome {
         status,
         told: nothing_told(alloc),
@@ -126,14 +135,14 @@ pub fn quiet<S: Source, K: Sink, D: Disk>(
     // What the status says and the sink got, for each command: a history of the script's requests for `play`, in which the
     // tree of the disk's image gives the replies, and its trace where that is asked for, the new image's numbers for
     // `mkfs`, the image's tree for `tree`, its damage for `check`, what was committed for `recover`, how its workload was answered
-    // for `bench`.
+    // for `bench`, whether the text behind its script is that of a legal history for `audit`.
     ensures told { Tells (asked words.now.items) (reading S.left S.faults source.old source.new) (formatting D.visible D.size D.moments D.faults disk result.disk) result.told
         (writing K.held K.faults sink.old sink.new) result.status }
     // The disk: `play` leaves what its history explains, and clean with status 0, `mkfs` formats it, `bench` does one and then the
-    // other, `recover` makes its image clean, `tree` and `check` only read it, each of these safe at any moment; all else leaves it.
+    // other, `recover` makes its image clean, `tree`, `check` and `audit` only read it, each of these safe at any moment; all else leaves it.
     // A fault of the disk is told by status 4 or 7, or in a reply of a session; one that ends with 5 may leave it untold.
     ensures disk { LeavesDisk (asked words.now.items) result.told result.status (course D.visible D.keeps D.size D.moments D.faults disk result.disk) }
-    // The source: only `play` reads it, and its fault is told by status 6 or 7.
+    // The source: only `play` and `audit` read it, and its fault is told by status 6 or 7.
     ensures source { LeavesSource (asked words.now.items) result.status (reading S.left S.faults source.old source.new) }
     // Only `play` and `bench` serve clients.
     ensures served { serves (asked words.now.items) ≡ false → result.told ≡ [] }

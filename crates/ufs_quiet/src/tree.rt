@@ -6,8 +6,8 @@ ghost use Rattle.ufs_quiet.specs.Seen.{formatting, writing};
 ghost use Rattle.ufs_quiet.specs.Endings.{EndsPrinting, EndsTree, IsAnswer};
 
 use crate::ending::Ending;
-use crate::finish::{SINK_FAULT, out_of_memory};
 use crate::image::tell_refusal;
+use crate::last_line::{SINK_FAULT, out_of_memory};
 use crate::print::PrintFault;
 use crate::tree_lines::{MOST_SHOWN, print_heads};
 use std::alloc::Global;

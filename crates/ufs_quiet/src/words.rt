@@ -21,6 +21,8 @@ pub enum Command {
     Tree,
     /// List what is damaged in the image.
     Check,
+    /// Say whether a printed history is one of the script before it, from the tree that the image stands for.
+    Audit,
     /// Make the image clean.
     Recover,
     /// Format a disk, serve the workload of this seed, and print how it was answered.
@@ -50,6 +52,7 @@ fn built(named: ufs_words::Command) -> Option<Command>
         ufs_words::Command::Recover => Some(Command::Recover),
         ufs_words::Command::Check => Some(Command::Check),
         ufs_words::Command::Tree => Some(Command::Tree),
+        ufs_words::Command::Audit => Some(Command::Audit),
         ufs_words::Command::Play { .. } | ufs_words::Command::Bench { .. } => {
             Some(Command::NotBuilt)
         }

@@ -3,7 +3,8 @@
 use crate::calls::{Call, check_new, playing};
 use crate::trees::making_large;
 
-const EXAMPLES: [(&[&str], &str, u8, &str); 8] = [
+/// Words, a script, a status, and what is printed.
+pub const EXAMPLES: [(&[&str], &str, u8, &str); 8] = [
     (
         &["play"],
         "# A script that breaks a rule is served no request: one read gives at most 1,048,576 bytes. This line is counted too.\nclient 0\nopen /f rw creat\nread 3 1048577\nend\n",

@@ -4,6 +4,8 @@
 #[cfg(test)]
 mod asserts;
 #[cfg(test)]
+mod audits;
+#[cfg(test)]
 mod benches;
 #[cfg(test)]
 mod calls;

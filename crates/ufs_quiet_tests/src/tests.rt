@@ -25,6 +25,9 @@ const NO_SUPERBLOCK: &str = "ufs: image: NoSuperblock\n";
 
 const SOURCE_FAULT: &str = "ufs: source fault\n";
 
+// An audit of a script behind which no text stands.
+const NO_TEXT: &str = "ufs: audit: ticket 0: Text\n";
+
 const MADE: &str = "made 256 32 64 242\n";
 
 const MKFS: &[&str] = &["mkfs", "256", "32", "64"];
@@ -36,7 +39,7 @@ const SUPERBLOCK: [u8; 41] = [
 ];
 
 // Words, and the status and the text that they get where nothing is read: the first read fails.
-const UNREAD: [(&[&str], u8, &str); 49] = [
+const UNREAD: [(&[&str], u8, &str); 51] = [
     (&[], 1, USAGE),
     (&["frob"], 1, USAGE),
     (&["mkfs"], 1, USAGE),
@@ -65,12 +68,14 @@ const UNREAD: [(&[&str], u8, &str); 49] = [
     (&["mkfs", "-64", "16", "64"], 1, USAGE),
     (&["mkfs", "00000000064", "16", "64"], 1, USAGE),
     (&["bench"], 1, USAGE),
-    (&["audit"], 1, USAGE),
+    (&["audit", "1"], 1, USAGE),
     (&["play", "--mirror", "g", "--mirror=h"], 1, USAGE),
     (&["tree"], 3, NO_SUPERBLOCK),
     (&["tree", "--trace"], 1, USAGE),
     (&["recover", "--image", "f"], 3, NO_SUPERBLOCK),
     (&["check"], 3, NO_SUPERBLOCK),
+    (&["audit"], 3, NO_SUPERBLOCK),
+    (&["audit", "--trace"], 1, USAGE),
     (&["check", "--lease", "1"], 1, USAGE),
     (&["bench", "0000000007", "--lease", "0"], 2, NOT_BUILT),
     (&["play", "--lease", "1000", "--trace"], 2, NOT_BUILT),
@@ -94,7 +99,7 @@ const UNREAD: [(&[&str], u8, &str); 49] = [
 
 // Words, the numbers of the reads and of the writes that fail, and the status and the text, over a new image. Lines that fill
 // no piece go out by one write.
-const FAULTS: [(&[&str], &[u64], &[u64], u8, &str); 10] = [
+const FAULTS: [(&[&str], &[u64], &[u64], u8, &str); 13] = [
     (&["play"], &[], &[], 0, FIRST_REPLIES),
     (&["play", "--image", "f"], &[], &[], 0, FIRST_REPLIES),
     (&["play"], &[0], &[], 6, SOURCE_FAULT),
@@ -103,6 +108,9 @@ const FAULTS: [(&[&str], &[u64], &[u64], u8, &str); 10] = [
     (&["play"], &[], &[1], 0, FIRST_REPLIES),
     (&["play"], &[0], &[0], 7, ""),
     (&["play", "--trace"], &[], &[0], 7, ""),
+    (&["audit"], &[], &[], 9, NO_TEXT),
+    (&["audit"], &[0], &[], 6, SOURCE_FAULT),
+    (&["audit"], &[0], &[0], 7, ""),
     (MKFS, &[], &[0], 7, ""),
     (&["frob"], &[0], &[0], 7, ""),
 ];
@@ -110,10 +118,11 @@ const FAULTS: [(&[&str], &[u64], &[u64], u8, &str); 10] = [
 const NO_FILE: &str = "ufs_quiet_none.img";
 
 // Words over a script that breaks, their status, and no file is made.
-const UNTOUCHED: [(&[&str], u8); 7] = [
+const UNTOUCHED: [(&[&str], u8); 8] = [
     (&["tree", "--image", NO_FILE], 3),
     (&["check", "--image", NO_FILE], 3),
     (&["recover", "--image", NO_FILE], 3),
+    (&["audit", "--image", NO_FILE], 3),
     (&["frob", "--image", NO_FILE], 1),
     (&["mkfs", "63", "16", "64", "--image", NO_FILE], 1),
     (&["play", "--image", NO_FILE], 2),

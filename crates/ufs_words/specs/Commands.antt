@@ -81,7 +81,8 @@ command_in name rows =
     else (if bytes_eq name (codes "bench") then bench_in rows
     else (if bytes_eq name (codes "recover") then Some command.Recover
     else (if bytes_eq name (codes "check") then Some command.Check
-    else (if bytes_eq name (codes "tree") then Some command.Tree else None))))))
+    else (if bytes_eq name (codes "tree") then Some command.Tree
+    else (if bytes_eq name (codes "audit") then Some command.Audit else None)))))))
 
 -- a subcommand's name and its arguments
 abbrev pub command_at : Option (Text × List Row) → Option Command

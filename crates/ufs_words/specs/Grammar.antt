@@ -48,7 +48,7 @@ run = with_files (with_rule (with_rule (with_rule (subcommand (codes "run")) (po
 abbrev pub bench : App
 bench = with_files (with_rule (with_rule (subcommand (codes "bench")) (positional (codes "seed"))) lease)
 
--- `recover`, `check` and `tree`, which take files alone
+-- `recover`, `check`, `tree` and `audit`, which take files alone
 abbrev pub plain : Text → App
 plain name = with_files (subcommand name)
 
@@ -62,7 +62,7 @@ abbrev pub with_sessions : App → App
 with_sessions a = with_subcommand (with_subcommand (with_subcommand (with_subcommand a mkfs.top) play.top) run.top) bench.top
 
 abbrev pub with_images : App → App
-with_images a = with_subcommand (with_subcommand (with_subcommand a (plain (codes "recover")).top) (plain (codes "check")).top) (plain (codes "tree")).top
+with_images a = with_subcommand (with_subcommand (with_subcommand (with_subcommand a (plain (codes "recover")).top) (plain (codes "check")).top) (plain (codes "tree")).top) (plain (codes "audit")).top
 
 abbrev pub ufs : App
 ufs = with_images (with_sessions bare)

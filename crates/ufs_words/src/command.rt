@@ -41,6 +41,8 @@ pub enum Command {
     Check,
     /// Print the tree that the image stands for.
     Tree,
+    /// Say whether a printed history is one of the script before it, from the tree that the image stands for.
+    Audit,
 }
 
 fn mkfs_in(found: &ArgMatches) -> Option<Command>
@@ -102,6 +104,7 @@ fn command_in(name: &str, found: &ArgMatches) -> Option<Command>
         "recover" => Some(Command::Recover),
         "check" => Some(Command::Check),
         "tree" => Some(Command::Tree),
+        "audit" => Some(Command::Audit),
         _ => None,
     }
 }

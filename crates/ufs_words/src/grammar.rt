@@ -142,7 +142,8 @@ fn with_images<'a>(alloc: Global, command: Command<'a>) -> Result<Command<'a>, A
 {
     let command = beside(command, plain(alloc, "recover")?)?;
     let command = beside(command, plain(alloc, "check")?)?;
-    beside(command, plain(alloc, "tree")?)
+    let command = beside(command, plain(alloc, "tree")?)?;
+    beside(command, plain(alloc, "audit")?)
 }
 
 /// The whole command.

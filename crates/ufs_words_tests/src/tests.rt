@@ -36,7 +36,7 @@ const BENCH: Command = Command::Bench {
 };
 
 // Words with spaces between them, and the command that they are.
-const TAKEN: [(&str, Command); 16] = [
+const TAKEN: [(&str, Command); 17] = [
     ("mkfs 256 32 64", MKFS),
     ("mkfs 0000000256 032 64 --image a", MKFS),
     ("mkfs --image=a 256 --mirror b 32 64", MKFS),
@@ -53,6 +53,7 @@ const TAKEN: [(&str, Command); 16] = [
     ("recover", Command::Recover),
     ("check", Command::Check),
     ("tree --mirror a", Command::Tree),
+    ("audit --image a", Command::Audit),
 ];
 
 // Words that are no command.
@@ -94,7 +95,7 @@ const REFUSED: [&str; 38] = [
     "run 9",
     "bench 4294967296",
     "bench 1 --trace",
-    "audit",
+    "audit 1",
 ];
 
 fn words_of<R: Abort + AllocGlobal>(rt: &R, line: &str) -> Vec<String> {

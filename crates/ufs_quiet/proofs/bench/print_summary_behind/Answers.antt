@@ -13,15 +13,15 @@ use Rattle.ufs_quiet.proofs.bench.print_summary_behind.Goals as goal
 
 pub returns-in-Err : goal.returns-in-Err
 returns-in-Err g c =
-    answer_line (EndsBehind (bench_text c.args.told.now) c.args.fault) OutOfMemory memory_line (writing g.K.Sink.held g.K.Sink.faults c.args.sink.now c.out_of_memory.new.sink) c.out_of_memory.result
-    (unsummed_behind (bench_text c.args.told.now) c.args.fault) c.out_of_memory.ensures.answer
+    answer_line (EndsBehind (bench_text c.args.told.now c.args.bytes) c.args.fault) OutOfMemory memory_line (writing g.K.Sink.held g.K.Sink.faults c.args.sink.now c.out_of_memory.new.sink) c.out_of_memory.result
+    (unsummed_behind (bench_text c.args.told.now c.args.bytes) c.args.fault) c.out_of_memory.ensures.answer
 
 pub returns-in-Ok-extend_from_slice : goal.returns-in-Ok-extend_from_slice
 returns-in-Ok-extend_from_slice g c =
-    let lines = bench_text c.args.told.now in
+    let lines = bench_text c.args.told.now c.args.bytes in
     let behind = device_line c.args.fault in
     let w = writing g.K.Sink.held g.K.Sink.faults c.args.sink.now c.tell.new.sink in
-    let made : c.in-Ok.text.items ≡ lines = c.in-Ok.ensures ∙ ap (λ (l : List (List Entry)). summary_text (joined l)) c.as_slice.ensures in
+    let made : c.in-Ok.text.items ≡ lines = c.in-Ok.ensures ∙ ap (λ (l : List (List Entry)). summary_text (joined l) c.args.bytes) c.as_slice.ensures in
     let line : c.as_bytes.result.now ≡ behind = c.as_bytes.ensures.value ∙ c.deref.ensures.0 ∙ c.device_line.ensures in
     let text : c.extend_from_slice.new.self.items ≡ lines ++ behind = c.in-Ok-extend_from_slice.ensures.items ∙ ap₂ (λ (a b : List ℕ). a ++ b) made line in
     answer_line (EndsBehind lines c.args.fault) DeviceFault (lines ++ behind) w c.tell.result refl
@@ -29,5 +29,5 @@ returns-in-Ok-extend_from_slice g c =
 
 pub returns : goal.returns
 returns g c =
-    answer_line (EndsBehind (bench_text c.args.told.now) c.args.fault) OutOfMemory memory_line (writing g.K.Sink.held g.K.Sink.faults c.args.sink.now c.out_of_memory-in-Err-extend_from_slice.new.sink) c.out_of_memory-in-Err-extend_from_slice.result
-    (unsummed_behind (bench_text c.args.told.now) c.args.fault) c.out_of_memory-in-Err-extend_from_slice.ensures.answer
+    answer_line (EndsBehind (bench_text c.args.told.now c.args.bytes) c.args.fault) OutOfMemory memory_line (writing g.K.Sink.held g.K.Sink.faults c.args.sink.now c.out_of_memory-in-Err-extend_from_slice.new.sink) c.out_of_memory-in-Err-extend_from_slice.result
+    (unsummed_behind (bench_text c.args.told.now c.args.bytes) c.args.fault) c.out_of_memory-in-Err-extend_from_slice.ensures.answer

@@ -2,11 +2,11 @@ use Rattle.std.proofs.Common.{◌≡◌, ◌∙◌, true, false, List, [], Optio
 use Rattle.ufs_model.specs.declared.data.Entry.{Entry}
 use Rattle.ufs_quiet.specs.declared.words.Command.{Command}
 use Rattle.ufs_quiet.specs.declared.words.Command.TheVariants as command
-use Rattle.ufs_quiet.specs.Commands.{is_play}
+use Rattle.ufs_quiet.specs.Commands.{reads_source}
 use Rattle.ufs_quiet.specs.Seen.{reading, writing, formatting, course}
 use Rattle.ufs_quiet.specs.Endings.{IsAnswer}
 use Rattle.ufs_quiet.specs.Ends.{EndsCommand}
-use Rattle.ufs_quiet.proofs.LeftLemmas.{bench_left, none_faults, played_left}
+use Rattle.ufs_quiet.proofs.LeftLemmas.{bench_left, none_faults, played_left, source_read}
 use Rattle.ufs_quiet.proofs.top.answer.Goals as goal
 
 pub returns-in-Play-clause-answer : goal.returns-in-Play-clause-answer
@@ -26,7 +26,7 @@ returns-in-Play-clause-disk g c =
 pub returns-in-Play-clause-source : goal.returns-in-Play-clause-source
 returns-in-Play-clause-source g c =
     let is : c.args.command ≡ Some (command.Play c.in-Play.trace) = c.in-Some.is ∙ ap (λ (x : Command). Some x) c.in-Play.is in
-    record { told = c.read_and_serve.ensures.source_told; unread = λ other. absurd (let played : true ≡ false = sym (ap is_play is) ∙ other in cc) }
+    source_read c.args.command (ap reads_source is) c.read_and_serve.result.status (reading g.S.Source.left g.S.Source.faults c.args.source.now c.read_and_serve.new.source) c.read_and_serve.ensures.source_told
 
 pub returns-in-Bench-clause-answer : goal.returns-in-Bench-clause-answer
 returns-in-Bench-clause-answer g c =
@@ -51,8 +51,8 @@ returns-clause-faults g c = none_faults (g.D.Disk.faults c.args.disk) (g.D.Disk.
 pub returns-clause-answer : goal.returns-clause-answer
 returns-clause-answer g c =
     let is : c.args.command ≡ Some c.in-Some.which = c.in-Some.is in
-    let r = reading g.S.Source.left g.S.Source.faults c.args.source.now c.args.source.now in
+    let r = reading g.S.Source.left g.S.Source.faults c.args.source.now c.act-status.new.source in
     let d = formatting g.D.Disk.visible g.D.Disk.size g.D.Disk.moments g.D.Disk.faults c.args.disk c.act-status.new.disk in
     let w = writing g.K.Sink.held g.K.Sink.faults c.args.sink.now c.act-status.new.sink in
     subst (λ (told : List (List Entry)). IsAnswer (EndsCommand c.args.command r d told) w c.act-status.result) (sym c.nothing_told-2.ensures)
-    (subst (λ (x : Option Command). IsAnswer (EndsCommand x r d []) w c.act-status.result) (sym is) (c.act-status.ensures.answer r))
+    (subst (λ (x : Option Command). IsAnswer (EndsCommand x r d []) w c.act-status.result) (sym is) c.act-status.ensures.answer)

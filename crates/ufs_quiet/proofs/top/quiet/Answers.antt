@@ -60,7 +60,7 @@ returns-in-Err-clause-told g c =
     lacking_told c.a_longer_text_breaks_alike.ensures (reading g.S.Source.left g.S.Source.faults c.args.source.now c.args.source.now)
     (formatting g.D.Disk.visible g.D.Disk.size g.D.Disk.moments g.D.Disk.faults c.args.disk c.leave_words.result.disk) c.leave_words.result.told
     (writing g.K.Sink.held g.K.Sink.faults c.args.sink.now c.leave_words.new.sink) c.leave_words.result.status
-    c.leave_words.ensures.told (ap g.D.Disk.faults c.leave_words.ensures.untouched) c.leave_words.ensures.answer c.leave_words.ensures.status (asked c.args.words.now.items)
+    c.leave_words.ensures.told refl refl (ap g.D.Disk.faults c.leave_words.ensures.untouched) c.leave_words.ensures.answer c.leave_words.ensures.status (asked c.args.words.now.items)
 
 pub returns-in-Err-clause-disk : goal.returns-in-Err-clause-disk
 returns-in-Err-clause-disk g c =

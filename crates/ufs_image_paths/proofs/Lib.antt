@@ -1,0 +1,5 @@
+mod LookupLemmas
+mod NameLemmas
+mod NamespaceLemmas
+mod PlacedLemmas
+mod OpenedLemmas
