@@ -1,10 +1,13 @@
 #!/usr/bin/env python3
-"""Times `ufs bench`, beside the same calls made on a folder by a plain program, and asks whether both are answered alike.
+"""Times `ufs bench`, beside `ufs play` of the same script and beside the same calls made on a folder by a plain program, and
+asks whether `bench` and the plain program are answered alike.
 
 Run it by hand, from any folder: python3 bench/workload.py [FOLDER [PROGRAM]]
 FOLDER (default /dev/shm) is where images and files are made and removed again; PROGRAM is a build of `ufs`, by default this
-repository's. A row for each seed has the processor time of both, user and system: of `ufs` that of its whole process, of the
-plain program that of the calls alone, which it makes in this process. It also tells how long a refused command takes.
+repository's. A row for each seed has the processor time of each, user and system: of `ufs` that of its whole process, where
+`bench` formats its image and `play` reads its script and writes its replies, and of the plain program that of the calls alone,
+which it makes in this process. It also tells how long a refused command takes, by the clock and by processor time, beside
+`/bin/true`.
 """
 import os
 import resource
@@ -48,6 +51,27 @@ def workload(seed):
             yield client, x % 4, x // 4 % 8, x // 32 % 65536, 1 + x // 2**21 % 256
 
 
+def script(path, calls):
+    """Writes the requests of the eight clients as a script."""
+    lines, at = [], None
+    for client, file, kind, place, count in calls:
+        if client != at:
+            at = client
+            lines += ["client %d" % client, "mkdir /c%d" % client]
+            lines += ["open /c%d/f%d rw creat" % (client, file) for file in range(4)]
+        fd = 3 + file
+        if kind < 3:
+            lines.append("pwrite %d %d*%02x %d" % (fd, count, client, place))
+        elif kind < 6:
+            lines.append("pread %d %d %d" % (fd, count, place))
+        elif kind == 6:
+            lines.append("fsync %d" % fd)
+        else:
+            lines.append("trunc %d %d" % (fd, place))
+    with open(path, "w") as f:
+        f.write("\n".join(lines + ["end"]) + "\n")
+
+
 def plain(folder, calls):
     """The summary's lines, of the same calls on a folder."""
     ok, n, data = 8, 0, 0
@@ -83,17 +107,18 @@ def processor(who):
     return spent.ru_utime + spent.ru_stime
 
 
-def ufs(program, words):
+def ufs(program, words, source=os.devnull):
     """What it prints, its status, and the processor time and the time that it takes."""
     before, begin = processor(resource.RUSAGE_CHILDREN), time.monotonic()
-    ended = subprocess.run([program] + words, stdin=subprocess.DEVNULL, stdout=subprocess.PIPE, text=True)
+    with open(source) as given:
+        ended = subprocess.run([program] + words, stdin=given, stdout=subprocess.PIPE, text=True)
     took = time.monotonic() - begin
     return ended.stdout, ended.returncode, processor(resource.RUSAGE_CHILDREN) - before, took
 
 
 def row(program, base, seed):
     calls = list(workload(seed))
-    served, made = float("inf"), float("inf")
+    served, played, made = float("inf"), float("inf"), float("inf")
     for _ in range(RUNS):
         folder = tempfile.mkdtemp(dir=base)
         try:
@@ -102,6 +127,13 @@ def row(program, base, seed):
             if status != 0:
                 sys.exit("%s ended with status %d: %s" % (program, status, text))
             served = min(served, spent)
+            source = os.path.join(folder, "source")
+            script(source, calls)
+            ufs(program, ["mkfs", "4096", "256", "512", "--image", image])
+            told, status, spent, _ = ufs(program, ["play", "--image", image], source)
+            if status != 0 or told.count("\n") != 16000:
+                sys.exit("%s ended with status %d" % (program, status))
+            played = min(played, spent)
             before = processor(resource.RUSAGE_SELF)
             wanted = plain(folder, calls)
             made = min(made, processor(resource.RUSAGE_SELF) - before)
@@ -109,16 +141,25 @@ def row(program, base, seed):
                 sys.exit("seed %d: ufs prints\n%sand the plain program\n%s" % (seed, text, wanted))
         finally:
             shutil.rmtree(folder)
-    print("%4d  %9.1f  %9.1f" % (seed, served * 1000, made * 1000))
+    print("%4d  %8.1f  %8.1f  %8.1f" % (seed, served * 1000, played * 1000, made * 1000))
+
+
+def least(program, words):
+    """The least time by the clock and the least processor time, in milliseconds."""
+    runs = [ufs(program, words) for _ in range(20)]
+    return min(r[3] for r in runs) * 1000, min(r[2] for r in runs) * 1000
 
 
 def main():
     base = sys.argv[1] if len(sys.argv) > 1 else "/dev/shm"
-    program = sys.argv[2] if len(sys.argv) > 2 else os.path.join(TOP, "ufs")
-    ufs(program, [])  # builds it where it isn't there
-    refused = min(ufs(program, ["bench", "4294967296"])[3] for _ in range(RUNS))
-    print("a refused command: %.1f ms" % (refused * 1000))
-    print("seed     ufs ms   plain ms")
+    program = os.path.join(TOP, "ufs")
+    if len(sys.argv) > 2:
+        program = sys.argv[2]
+    else:
+        ufs(program, [])  # builds it where it isn't there
+        program = os.path.join(TOP, "crates", "ufs_top", "out", "ufs_top")
+    print("a refused command: %.1f ms, processor %.1f; /bin/true: %.1f ms, processor %.1f" % (least(program, ["bench", "4294967296", "--image", "none"]) + least("/bin/true", [])))
+    print("seed  bench ms   play ms  plain ms")
     for seed in (1, 2, 3):
         row(program, base, seed)
 

@@ -41,6 +41,7 @@ alone_starved (Some (command.Play trace)) ending text is = is
 alone_starved (Some (command.Bench seed)) ending text is = is
 alone_starved (Some command.Tree) ending text is = is
 alone_starved (Some command.Check) ending text is = is
+alone_starved (Some command.Audit) ending text is = is
 alone_starved (Some command.Recover) ending text is = is
 
 -- a source that isn't read
@@ -65,6 +66,7 @@ module _ {A B : Type 0} (one : Kind A) (other : Kind B) where
   made_joins (Some (command.Bench seed)) is first second m made = absurd (no is)
   made_joins (Some command.Tree) is first second m made = absurd (no is)
   made_joins (Some command.Check) is first second m made = absurd (no is)
+  made_joins (Some command.Audit) is first second m made = absurd (no is)
   made_joins (Some command.Recover) is first second m made = absurd (no is)
 
   pub opened_joins : (words : Option Command) → is_mkfs words ≡ false → (first : A) (second : B) (m : View A B) → IsOpened one other first second m → Joins one other words first second m
@@ -75,6 +77,7 @@ module _ {A B : Type 0} (one : Kind A) (other : Kind B) where
   opened_joins (Some (command.Bench seed)) is first second m opened = opened
   opened_joins (Some command.Tree) is first second m opened = opened
   opened_joins (Some command.Check) is first second m opened = opened
+  opened_joins (Some command.Audit) is first second m opened = opened
   opened_joins (Some command.Recover) is first second m opened = opened
 
 module _ (one other one_faults one_now other_faults other_now : ℕ) (fault : MirrorFault) where
@@ -86,6 +89,7 @@ module _ (one other one_faults one_now other_faults other_now : ℕ) (fault : Mi
   made_fault (Some (command.Bench seed)) is cause = absurd (no is)
   made_fault (Some command.Tree) is cause = absurd (no is)
   made_fault (Some command.Check) is cause = absurd (no is)
+  made_fault (Some command.Audit) is cause = absurd (no is)
   made_fault (Some command.Recover) is cause = absurd (no is)
 
   pub opened_fault : (words : Option Command) → is_mkfs words ≡ false → IsOpenFault one other one_faults one_now other_faults other_now fault → IsJoinFault words one other one_faults one_now other_faults other_now fault
@@ -96,6 +100,7 @@ module _ (one other one_faults one_now other_faults other_now : ℕ) (fault : Mi
   opened_fault (Some (command.Bench seed)) is cause = cause
   opened_fault (Some command.Tree) is cause = cause
   opened_fault (Some command.Check) is cause = cause
+  opened_fault (Some command.Audit) is cause = cause
   opened_fault (Some command.Recover) is cause = cause
 
   -- making a mirror finds no want of a label
@@ -111,6 +116,7 @@ works words (command.Play trace) is other = subst (λ (w : Option Command). IsTr
 works words (command.Bench seed) is other = subst (λ (w : Option Command). IsTrue (works_on_disk w)) (sym is) refl
 works words command.Tree is other = subst (λ (w : Option Command). IsTrue (works_on_disk w)) (sym is) refl
 works words command.Check is other = subst (λ (w : Option Command). IsTrue (works_on_disk w)) (sym is) refl
+works words command.Audit is other = subst (λ (w : Option Command). IsTrue (works_on_disk w)) (sym is) refl
 works words command.Recover is other = subst (λ (w : Option Command). IsTrue (works_on_disk w)) (sym is) refl
 
 pub not_made : (words : Option Command) → IsTrue (is_mkfs words) → is_mkfs words ≡ false → ⊥

@@ -2,3 +2,4 @@ mod ThroughoutLemmas
 mod ViewLemmas
 mod OpeningLemmas
 mod AnswerLemmas
+mod CountLemmas

@@ -13,7 +13,7 @@ use Rattle.ufs_model.specs.PosixTree.{PosixTree}
 use Rattle.ufs_model.specs.declared.data.Entry.{Entry}
 use Rattle.ufs_session.specs.Throughout.{IsExplainedThroughout}
 use Rattle.ufs_stored.specs.OnDisk.{IsExplainedImage}
-use Rattle.ufs_process.specs.Throughout.{OpensAsAnswered, OpensThroughout}
+use Rattle.ufs_process.specs.Throughout.{OpensAsAnswered, OpensFromTo, OpensThroughout}
 
 map_append : {X Y : Type 0} (f : X → Y) (xs ys : List X) → map f (xs ++ ys) ≡ map f xs ++ map f ys
 map_append f [] ys = refl
@@ -73,7 +73,7 @@ opens_throughout keeps before size P old new right run = record {
 
 -- ---- while entries are answered
 
-throughout_passes : (keeps : Bool) (sectors : ℕ) (start : PosixTree) (before told : List Entry) (old new : Moments)
+pub throughout_passes : (keeps : Bool) (sectors : ℕ) (start : PosixTree) (before told : List Entry) (old new : Moments)
     → IsExplainedThroughout keeps sectors start before told old new → IsTrue keeps → (inside : List State) × (all new ≡ all old ++ inside)
 throughout_passes keeps sectors start before [] old new run kept = ((run.between kept).inside, (run.between kept).whole)
 throughout_passes keeps sectors start before (entry ∷ told) old new run kept =
@@ -84,51 +84,45 @@ throughout_passes keeps sectors start before (entry ∷ told) old new run kept =
 length_all : (m : Moments) → length (all m) ≡ length m.earlier + 1
 length_all m = length-append m.earlier (m.state ∷ [])
 
+-- up to a moment behind which others come
+pub opens_from_to : (keeps : Bool) (size : ℕ) (P : Image → Type 0) (old mid : Moments) (new : Pairs) → AllByRecursion (OpensRight size) (all_pairs new) → IsTrue keeps
+    → LeavesOnly keeps P old mid → (rest : List State) → all (moments_of size new) ≡ all mid ++ rest
+    → OpensFromTo size P (length old.earlier) (length mid.earlier) (all_pairs new)
+opens_from_to keeps size P old mid new right kept run rest whole = record {
+  rises = let one = length_all old in let other = length_all mid in omega (arith, grows, one, other);
+  within = let one = length_all mid in omega (arith, fits, one);
+  each = each_opens size P (drop from (take (to + 1) (all_pairs new)))
+      (all_drop (OpensRight size) from (take (to + 1) (all_pairs new)) (all_take (OpensRight size) (to + 1) (all_pairs new) right))
+      (subst (AllByRecursion (Leaves P)) states (leaves_since keeps P old mid run kept));
+}
+  where
+    from : ℕ
+    from = length old.earlier
+
+    to : ℕ
+    to = length mid.earlier
+
+    -- the states up to it are the first of all
+    front : all mid ≡ take (to + 1) (map (state_of size) (all_pairs new))
+    front = sym (take-append_seam (all mid) rest) ∙ ap (take (length (all mid))) (sym whole ∙ states_are size new) ∙ ap (λ n. take n (map (state_of size) (all_pairs new))) (length_all mid)
+
+    states : drop from (all mid) ≡ map (state_of size) (drop from (take (to + 1) (all_pairs new)))
+    states = ap (drop from) (front ∙ take-map (state_of size) (to + 1) (all_pairs new)) ∙ drop-map (state_of size) from (take (to + 1) (all_pairs new))
+
+    grows : length (all mid) ≡ length (all old) + length (run.between kept).inside
+    grows = ap length (run.between kept).whole ∙ length-append (all old) (run.between kept).inside
+
+    fits : length (all_pairs new) ≡ length (all mid) + length rest
+    fits = sym (length-map (all_pairs new) (state_of size)) ∙ ap length (sym (states_are size new) ∙ whole) ∙ length-append (all mid) rest
+
 pub opens_as_answered : (keeps : Bool) (sectors size : ℕ) (start : PosixTree) (before told : List Entry) (old : Moments) (new : Pairs) → AllByRecursion (OpensRight size) (all_pairs new) → IsTrue keeps
     → IsExplainedThroughout keeps sectors start before told old (moments_of size new)
     → OpensAsAnswered size (IsExplainedImage sectors start) before told (length old.earlier) (all_pairs new)
 opens_as_answered keeps sectors size start before [] old new right kept run =
     opens_from size (IsExplainedImage sectors start before) (length old.earlier) new right (leaves_since keeps (IsExplainedImage sectors start before) old (moments_of size new) run kept)
-opens_as_answered keeps sectors size start before (entry ∷ told) old new right kept run = (
-  to,
-  rises,
-  within,
-  each_opens size P (drop from (take (to + 1) (all_pairs new)))
-      (all_drop (OpensRight size) from (take (to + 1) (all_pairs new)) (all_take (OpensRight size) (to + 1) (all_pairs new) right))
-      (subst (AllByRecursion (Leaves P)) states (leaves_since keeps P old answered run.1 kept)),
-  opens_as_answered keeps sectors size start (before ++ entry ∷ []) told answered new right kept run.2,
-)
-  where
-    answered : Moments
-    answered = run.0
-
-    P : Image → Type 0
-    P = IsExplainedImage sectors start before
-
-    from : ℕ
-    from = length old.earlier
-
-    to : ℕ
-    to = length answered.earlier
-
-    rest : (inside : List State) × (all (moments_of size new) ≡ all answered ++ inside)
-    rest = throughout_passes keeps sectors start (before ++ entry ∷ []) told answered (moments_of size new) run.2 kept
-
-    -- the states up to the answer are the first of all
-    front : all answered ≡ take (to + 1) (map (state_of size) (all_pairs new))
-    front = sym (take-append_seam (all answered) rest.0) ∙ ap (take (length (all answered))) (sym rest.1 ∙ states_are size new) ∙ ap (λ n. take n (map (state_of size) (all_pairs new))) (length_all answered)
-
-    states : drop from (all answered) ≡ map (state_of size) (drop from (take (to + 1) (all_pairs new)))
-    states = ap (drop from) (front ∙ take-map (state_of size) (to + 1) (all_pairs new)) ∙ drop-map (state_of size) from (take (to + 1) (all_pairs new))
-
-    grows : length (all answered) ≡ length (all old) + length (run.1.between kept).inside
-    grows = ap length (run.1.between kept).whole ∙ length-append (all old) (run.1.between kept).inside
-
-    fits : length (all_pairs new) ≡ length (all answered) + length rest.0
-    fits = sym (length-map (all_pairs new) (state_of size)) ∙ ap length (sym (states_are size new) ∙ rest.1) ∙ length-append (all answered) rest.0
-
-    rises : length old.earlier ≤ length answered.earlier
-    rises = let one = length_all old in let other = length_all answered in omega (arith, grows, one, other)
-
-    within : length answered.earlier < length (all_pairs new)
-    within = let one = length_all answered in omega (arith, fits, one)
+opens_as_answered keeps sectors size start before (entry ∷ told) old new right kept run =
+    let rest = throughout_passes keeps sectors start (before ++ entry ∷ []) told run.0 (moments_of size new) run.2 kept in (
+      length run.0.earlier,
+      opens_from_to keeps size (IsExplainedImage sectors start before) old run.0 new right kept run.1 rest.0 rest.1,
+      opens_as_answered keeps sectors size start (before ++ entry ∷ []) told run.0 new right kept run.2,
+    )

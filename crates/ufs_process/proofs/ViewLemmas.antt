@@ -31,6 +31,7 @@ module _ {D E : Type 0} (see : D → E) where
     stamped = p.stamped;
     clean = p.clean;
     last = p.last;
+    numbers = p.numbers;
     unserved = p.unserved;
     undone = p.undone;
     broken = λ two. ap see (p.broken two);
@@ -57,6 +58,7 @@ module _ {D E : Type 0} (see : D → E) where
   acts_seen (Some (command.Bench seed)) told status c acts = benches_seen told status c acts
   acts_seen (Some command.Tree) told status c acts = acts
   acts_seen (Some command.Check) told status c acts = acts
+  acts_seen (Some command.Audit) told status c acts = acts
   acts_seen (Some command.Recover) told status c acts = acts
 
   pub left_seen : (words : Option Command) (told : List (List Entry)) (status : ℕ) (c : Course D) → LeavesDisk words told status c → LeavesDisk words told status (seen_course c)

@@ -1,5 +1,5 @@
 -- What making and opening a mirror promise.
-use Rattle.std.specs.Prelude.{ℕ, ◌≡◌, ◌+◌, ◌-◌, Bool, true, false, Option, Some, None, IsTrue, List}
+use Rattle.std.specs.Prelude.{ℕ, ◌≡◌, ◌≤◌, ◌+◌, ◌-◌, Bool, true, false, Option, Some, None, IsTrue, List}
 use Rattle.ufs_disk.specs.Disk.{IsSettled}
 use Rattle.ufs_disk.specs.Moments.{reads}
 use Rattle.ufs_mirror.specs.Joined.{IsCalm, next_generation}
@@ -38,6 +38,7 @@ pub record IsWritten {A B : Type 0} (one : Kind A) (other : Kind B) (m : View A 
 -- Both legs were made one: it has what the first one had, but for its last sector. No call of either failed.
 pub record IsMade {A B : Type 0} (one : Kind A) (other : Kind B) (first : A) (second : B) (m : View A B) : Type 0 where
   pub size : (m.sectors + 1 ≡ one.size first) × (m.sectors + 1 ≡ other.size second)
+  pub least : 2 ≤ one.size first
   pub faults : m.faults ≡ 0
   pub both : m.picks ≡ Either
   pub passed : (one.faults m.legs.first ≡ one.faults first) × (other.faults m.legs.second ≡ other.faults second)
@@ -48,6 +49,7 @@ pub record IsMade {A B : Type 0} (one : Kind A) (other : Kind B) (first : A) (se
 -- Two legs were opened as one: it has what opening them as they read gives.
 pub record IsOpened {A B : Type 0} (one : Kind A) (other : Kind B) (first : A) (second : B) (m : View A B) : Type 0 where
   pub size : (m.sectors + 1 ≡ one.size first) × (m.sectors + 1 ≡ other.size second)
+  pub least : 2 ≤ one.size first
   pub faults : m.faults ≡ 0
   -- a leg is let go only where it failed
   pub live : AreLive m.picks (one.faults first) (one.faults m.legs.first) (other.faults second) (other.faults m.legs.second)

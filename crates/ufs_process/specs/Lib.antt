@@ -1,4 +1,5 @@
 pub mod Views
+pub mod Counts
 pub mod Refusals
 pub mod Joining
 pub mod Throughout

@@ -1,6 +1,7 @@
 -- What a command over two legs answers, and what it does to them.
 use Rattle.std.specs.Prelude.{ℕ, ◌≡◌, ◌⊎◌, ◌&&◌, IsTrue, List, [], Option, Some, None}
 use Rattle.ufs_mirror.specs.Opens.{OpenRight}
+use Rattle.ufs_mirror.specs.Pairs.{Follows}
 use Rattle.ufs_mirror.specs.declared.fault.MirrorFault.{MirrorFault}
 use Rattle.ufs_quiet.specs.Endings.{IsAnswer, IsFixed, IsLine}
 use Rattle.ufs_quiet.specs.Ends.{Ends}
@@ -11,6 +12,7 @@ use Rattle.ufs_quiet.specs.declared.ending.Ending.{Ending}
 use Rattle.ufs_quiet.specs.declared.ending.Ending.TheVariants.{NotBuilt, OutOfMemory, Usage}
 use Rattle.ufs_quiet.specs.declared.words.Command.{Command}
 use Rattle.ufs_quiet.specs.declared.words.Command.TheVariants as command
+use Rattle.ufs_process.specs.Counts.{HasFailed}
 use Rattle.ufs_process.specs.Joining.{Joins, Unjoined, works_on_disk}
 use Rattle.ufs_process.specs.Refusals.{mirror_ending, mirror_line}
 use Rattle.ufs_process.specs.Throughout.{OpensOn}
@@ -54,6 +56,10 @@ pub record ServesMirror {A B : Type 0} (one : Kind A) (other : Kind B) (words : 
   pub answer : IsAnswer (Ends words r (formatting_of one other before after) h.told) w h.status
   pub tells : Tells words r (formatting_of one other before after) h.told w h.status
   pub disk : LeavesDisk words h.told h.status (course_of one other before after)
+  -- A call of it fails only where a call of each leg has failed.
+  pub failed : (after.faults ≡ 0 → ⊥) → HasFailed (one.faults h.first) (one.faults h.first_now) × HasFailed (other.faults h.second) (other.faults h.second_now)
+  -- From the one to the other each leg was only in states that stand in moments of the pair.
+  pub follows : ∥ (IsTrue one.visible → IsTrue other.visible → Follows (one.keeps && other.keeps) (pairs_in one other before) (pairs_in one other after)) ∥₁
   -- At each moment, whatever pair of images the legs may have left: where it opens, it opens to an image of the mirror,
   pub right : ∥ (IsTrue one.visible → IsTrue other.visible → OpenRight (one.keeps && other.keeps) after.sectors (pairs_in one other after)) ∥₁
   -- so to one that the command allows a crash to leave there.

@@ -1,6 +1,7 @@
 //! What a process does: a command over an image's file, or over two as one.
 #![tactic(auto)]
 
+mod counted;
 mod outcome;
 mod process;
 mod refusal;

@@ -1,19 +1,12 @@
 // Telling why nothing is done.
 ghost use Rattle.std.specs.Prelude.{◌≡◌, ◌⊎◌};
-ghost use Rattle.ufs_quiet.specs.Endings.{IsAnswer, IsFixed, IsLine, sink_status, status_of};
+ghost use Rattle.ufs_quiet.specs.Endings.{IsAnswer, IsLine, sink_status, status_of};
 ghost use Rattle.ufs_quiet.specs.Seen.{writing};
 ghost use Rattle.ufs_process.specs.Refusals.{mirror_ending, mirror_line};
 
 use ufs_io::Sink;
 use ufs_mirror::MirrorFault;
 use ufs_quiet::{Ending, tell, tell_device};
-
-/// Ends with the line that is always the same.
-pub fn finish<K: Sink>(sink: &mut K, ending: Ending) -> u8
-    ensures { IsAnswer (IsFixed ending) (writing K.held K.faults sink.old sink.new) result }
-{
-    tell(sink, ending, ending.fixed_line())
-}
 
 /// Ends with why two legs make no mirror. Takes no memory.
 pub fn tell_mirror_fault<K: Sink>(sink: &mut K, fault: MirrorFault) -> u8

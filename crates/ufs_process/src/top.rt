@@ -1,22 +1,26 @@
 ghost use Rattle.std.specs.Prelude.{◌≡◌, ◌⊎◌, [], Some, IsTrue, false};
+ghost use Rattle.ufs_mirror.specs.Pairs.{watched};
 ghost use Rattle.ufs_quiet.specs.Commands.{asked, serves};
 ghost use Rattle.ufs_quiet.specs.Left.{LeavesSource};
 ghost use Rattle.ufs_quiet.specs.Seen.{reading, writing};
+ghost use Rattle.ufs_process.specs.Counts.{HaveCounted};
 ghost use Rattle.ufs_process.specs.Joining.{Joins, is_mkfs, works_on_disk};
 ghost use Rattle.ufs_process.specs.Mirrored.{AnswersOver, LeavesLegs, RefusesLegs, ServesMirror};
 ghost use Rattle.ufs_process.specs.Views.{handed, kind, view};
 
+use crate::counted::{Counted, Counts, Origin};
 use crate::outcome::MirrorOutcome;
-use crate::refusal::{finish, tell_mirror_fault};
+use crate::refusal::tell_mirror_fault;
 use std::alloc::Global;
+use std::marker::Brand;
 use ufs_base::Lack;
 use ufs_disk::Disk;
 use ufs_io::{Sink, Source};
 use ufs_mirror::{Legpair, Mirror};
-use ufs_quiet::{Command, Ending, nothing_told, out_of_memory, quiet, read_command};
+use ufs_quiet::{Command, Ending, finish, nothing_told, out_of_memory, quiet, read_command};
 
 // A command over a mirror.
-fn serve<S: Source, K: Sink, A: Disk, B: Disk>(
+fn serve<S: Source, K: Sink, A: Disk, B: Disk, N: Origin>(
     alloc: Global,
     words: &Vec<String>,
     source: &mut S,
@@ -24,17 +28,20 @@ fn serve<S: Source, K: Sink, A: Disk, B: Disk>(
     mirror: Mirror<A, B>,
 ) -> MirrorOutcome<A, B>
     requires works { IsTrue (works_on_disk (asked words.now.items)) }
-    ensures served { (first : A) (second : B)
+    requires counted { HaveCounted N.first N.second mirror.legs.picks mirror.stopped mirror.faults (A.faults mirror.legs.both.first) (B.faults mirror.legs.both.second) }
+    requires begins { N.pairs ≡ (watched (λ l. A.moments l.first) (λ l. B.moments l.second) mirror.legs.log.items mirror.legs.both mirror.legs.picks) }
+    ensures served { (first : A) (second : B) → N.first ≡ A.faults first → N.second ≡ B.faults second
         → Joins (kind A.visible A.keeps A.size A.moments A.faults) (kind B.visible B.keeps B.size B.moments B.faults) (asked words.now.items) first second (view mirror.legs.both mirror.legs.log.items mirror.legs.picks mirror.faults mirror.sectors)
         → ServesMirror (kind A.visible A.keeps A.size A.moments A.faults) (kind B.visible B.keeps B.size B.moments B.faults) (asked words.now.items)
         (reading S.left S.faults source.old source.new) (writing K.held K.faults sink.old sink.new) (handed first second result.first result.second result.told result.status) }
     ensures source { LeavesSource (asked words.now.items) result.status (reading S.left S.faults source.old source.new) }
     ensures told { serves (asked words.now.items) ≡ false → result.told ≡ [] }
 {
-    let outcome = quiet(alloc, words, source, sink, mirror);
+    let counted = Counted::<A, B, N>::new(mirror);
+    let outcome = quiet(alloc, words, source, sink, counted);
     // For the prover alone.
-    let _live = outcome.disk.live();
-    let Legpair { first, second } = outcome.disk.apart();
+    let _live = outcome.disk.mirror.live();
+    let Legpair { first, second } = outcome.disk.mirror.apart();
     MirrorOutcome {
         status: outcome.status,
         told: outcome.told,
@@ -44,7 +51,7 @@ fn serve<S: Source, K: Sink, A: Disk, B: Disk>(
 }
 
 // `mkfs` over two legs.
-fn make<S: Source, K: Sink, A: Disk, B: Disk>(
+fn make<S: Source, K: Sink, A: Disk, B: Disk, N: Counts>(
     alloc: Global,
     words: &Vec<String>,
     source: &mut S,
@@ -53,6 +60,8 @@ fn make<S: Source, K: Sink, A: Disk, B: Disk>(
     second: B,
 ) -> MirrorOutcome<A, B>
     requires works { IsTrue (works_on_disk (asked words.now.items)) }
+    requires first_counted { N.first ≡ A.faults first }
+    requires second_counted { N.second ≡ B.faults second }
     requires makes { IsTrue (is_mkfs (asked words.now.items)) }
     ensures answer { RefusesLegs (kind A.visible A.keeps A.size A.moments A.faults) (kind B.visible B.keeps B.size B.moments B.faults) (asked words.now.items)
         (reading S.left S.faults source.old source.new) (writing K.held K.faults sink.old sink.new) (handed first second result.first result.second result.told result.status)
@@ -62,7 +71,7 @@ fn make<S: Source, K: Sink, A: Disk, B: Disk>(
     ensures told { serves (asked words.now.items) ≡ false → result.told ≡ [] }
 {
     match Mirror::make(first, second) {
-        Ok(mirror) => serve(alloc, words, source, sink, mirror),
+        Ok(mirror) => serve::<S, K, A, B, Brand>(alloc, words, source, sink, mirror),
         Err(unpaired) => {
             let status = tell_mirror_fault(sink, unpaired.fault);
             MirrorOutcome {
@@ -76,7 +85,7 @@ fn make<S: Source, K: Sink, A: Disk, B: Disk>(
 }
 
 // Any other command over two legs.
-fn open<S: Source, K: Sink, A: Disk, B: Disk>(
+fn open<S: Source, K: Sink, A: Disk, B: Disk, N: Counts>(
     alloc: Global,
     words: &Vec<String>,
     source: &mut S,
@@ -85,6 +94,8 @@ fn open<S: Source, K: Sink, A: Disk, B: Disk>(
     second: B,
 ) -> MirrorOutcome<A, B>
     requires works { IsTrue (works_on_disk (asked words.now.items)) }
+    requires first_counted { N.first ≡ A.faults first }
+    requires second_counted { N.second ≡ B.faults second }
     requires opens { is_mkfs (asked words.now.items) ≡ false }
     ensures answer { RefusesLegs (kind A.visible A.keeps A.size A.moments A.faults) (kind B.visible B.keeps B.size B.moments B.faults) (asked words.now.items)
         (reading S.left S.faults source.old source.new) (writing K.held K.faults sink.old sink.new) (handed first second result.first result.second result.told result.status)
@@ -94,7 +105,7 @@ fn open<S: Source, K: Sink, A: Disk, B: Disk>(
     ensures told { serves (asked words.now.items) ≡ false → result.told ≡ [] }
 {
     match Mirror::open(first, second) {
-        Ok(mirror) => serve(alloc, words, source, sink, mirror),
+        Ok(mirror) => serve::<S, K, A, B, Brand>(alloc, words, source, sink, mirror),
         Err(unpaired) => {
             let status = tell_mirror_fault(sink, unpaired.fault);
             MirrorOutcome {
@@ -122,15 +133,17 @@ pub fn mirrored<S: Source, K: Sink, A: Disk, B: Disk>(
     // the legs may have left: where it opens, it opens to an image that the command allows a crash to leave there.
     ensures answer { AnswersOver (kind A.visible A.keeps A.size A.moments A.faults) (kind B.visible B.keeps B.size B.moments B.faults) (asked words.now.items)
         (reading S.left S.faults source.old source.new) (writing K.held K.faults sink.old sink.new) (handed first second result.first result.second result.told result.status) }
-    // The source: only `play` reads it, and its fault is told by status 6 or 7.
+    // The source: only `play` and `audit` read it, and its fault is told by status 6 or 7.
     ensures source { LeavesSource (asked words.now.items) result.status (reading S.left S.faults source.old source.new) }
     // Only `play` and `bench` serve clients.
     ensures served { serves (asked words.now.items) ≡ false → result.told ≡ [] }
 {
     let status = match read_command(alloc, words.as_slice()) {
         Ok(Some(Command::NotBuilt)) => finish(sink, Ending::NotBuilt),
-        Ok(Some(Command::Mkfs { .. })) => return make(alloc, words, source, sink, first, second),
-        Ok(Some(_)) => return open(alloc, words, source, sink, first, second),
+        Ok(Some(Command::Mkfs { .. })) => return make::<S, K, A, B, Brand>(
+            alloc, words, source, sink, first, second,
+        ),
+        Ok(Some(_)) => return open::<S, K, A, B, Brand>(alloc, words, source, sink, first, second),
         Ok(None) => finish(sink, Ending::Usage),
         Err(memory) => out_of_memory(sink, Lack::Memory(memory)),
     };

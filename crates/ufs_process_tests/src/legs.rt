@@ -18,7 +18,8 @@ pub struct Answer<A: Disk, B: Disk> {
     pub second: B,
 }
 
-fn words<R: Abort + AllocGlobal>(rt: &R, line: &str) -> Vec<String> {
+/// The words of a command line.
+pub fn words<R: Abort + AllocGlobal>(rt: &R, line: &str) -> Vec<String> {
     let mut list = Vec::new(rt.alloc());
     for word in line.split(' ') {
         let word = String::from_str(rt.alloc(), word).expect(rt, "memory");

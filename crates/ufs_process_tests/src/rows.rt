@@ -175,6 +175,35 @@ fn legs_that_make_no_mirror_are_told(rt: HostRuntime) {
     }
 }
 
+// Each row: a command over two legs of which one call fails, of the first one or of the second, and the status. The one that is
+// picked fails at its label, in the copy, and at its next label; the other at its label.
+const FAULTS: [(&str, &[u64], &[u64]); 8] = [
+    ("play", &[0], &[]),
+    ("tree", &[1], &[]),
+    ("check", &[40], &[]),
+    ("recover", &[67], &[]),
+    ("play", &[], &[0]),
+    ("tree", &[], &[1]),
+    ("mkfs 64 32 64", &[], &[0]),
+    ("mkfs 64 32 64", &[], &[64]),
+];
+
+#[test]
+fn a_fault_of_either_leg_is_told(rt: HostRuntime) {
+    let images = made(&rt, 513, "mkfs 64 32 64", "made 64 32 64 50\n");
+    for (line, one, other) in FAULTS {
+        let first = leg(&rt, images.first.as_slice(), one);
+        let second = leg(&rt, images.second.as_slice(), other);
+        let answer = command(&rt, line, "frob", first, second);
+        are_bytes(
+            &rt,
+            answer.text.as_slice(),
+            b"ufs: device fault 1\n".as_slice(),
+        );
+        same(&rt, answer.status, 4);
+    }
+}
+
 // The last byte of a label is another one: it is none.
 #[test]
 fn a_label_with_a_wrong_byte_is_none(rt: HostRuntime) {

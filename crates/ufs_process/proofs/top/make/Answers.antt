@@ -2,16 +2,24 @@ use Rattle.std.proofs.Common.{inl, inr, refl}
 use Rattle.ufs_quiet.specs.Commands.{asked}
 use Rattle.ufs_process.specs.Views.{kind, view}
 use Rattle.ufs_process.proofs.AnswerLemmas.{made_fault, made_joins, no_label_made, not_made, source_unread}
+use Rattle.ufs_process.proofs.CountLemmas.{made_counted}
 use Rattle.ufs_process.proofs.top.make.Goals as goal
+
+pub serve-requires-clause-counted : goal.serve-requires-clause-counted
+serve-requires-clause-counted g c =
+    let m = c.in-Ok.mirror in
+    made_counted g.N.Counts.first g.N.Counts.second (g.A.Disk.faults m.legs.both.first) (g.B.Disk.faults m.legs.both.second) (g.A.Disk.faults c.args.first) (g.B.Disk.faults c.args.second) m.legs.picks m.stopped m.faults
+    c.requires.first_counted c.requires.second_counted c.in-Ok.ensures.faults c.in-Ok.ensures.begun c.in-Ok.ensures.both c.in-Ok.ensures.passed.0 c.in-Ok.ensures.passed.1
 
 pub returns-in-Ok-clause-answer : goal.returns-in-Ok-clause-answer
 returns-in-Ok-clause-answer g c =
     let one = kind g.A.Disk.visible g.A.Disk.keeps g.A.Disk.size g.A.Disk.moments g.A.Disk.faults in
     let other = kind g.B.Disk.visible g.B.Disk.keeps g.B.Disk.size g.B.Disk.moments g.B.Disk.faults in
     let m = c.in-Ok.mirror in
-    inr (c.serve.ensures.served c.args.first c.args.second
+    inr (c.serve.ensures.served c.args.first c.args.second c.requires.first_counted c.requires.second_counted
     (made_joins one other (asked c.args.words.now.items) c.requires.makes c.args.first c.args.second (view m.legs.both m.legs.log.items m.legs.picks m.faults m.sectors) (record {
       size = c.in-Ok.ensures.size;
+      least = c.in-Ok.ensures.least;
       faults = c.in-Ok.ensures.faults;
       both = c.in-Ok.ensures.both;
       passed = c.in-Ok.ensures.passed;

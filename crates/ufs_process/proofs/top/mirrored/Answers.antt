@@ -20,9 +20,9 @@ returns-clause-answer g c =
       unread = (refl, refl);
       answer = elim c.match-read_command.branch [
         | in-Ok-Some-NotBuilt w ↦ alone_ends (IsFixed NotBuilt) words (alone_not_built words (sym (sym w.in-Ok-Some-NotBuilt.field-0-is ∙ w.in-Ok-Some-NotBuilt.ensures ∙ sliced) ∙ ap (λ (x : Command). Some x) w.in-Ok-Some-NotBuilt.field-0-0-is))
-            (ap (writing g.K.Sink.held g.K.Sink.faults c.args.sink.now) w.sink-is) w.status-is w.finish-status.ensures
+            (ap (writing g.K.Sink.held g.K.Sink.faults c.args.sink.now) w.sink-is) w.status-is w.finish-status.ensures.answer
         | in-Ok-None w ↦ alone_ends (IsFixed Usage) words (alone_none words (sym (sym w.in-Ok-None.field-0-is ∙ w.in-Ok-None.ensures ∙ sliced)))
-            (ap (writing g.K.Sink.held g.K.Sink.faults c.args.sink.now) w.sink-is) w.status-is w.finish-status-in-Ok-None.ensures
+            (ap (writing g.K.Sink.held g.K.Sink.faults c.args.sink.now) w.sink-is) w.status-is w.finish-status-in-Ok-None.ensures.answer
         | in-Err w ↦ alone_ends (IsFixed OutOfMemory) words (alone_starved words) (ap (writing g.K.Sink.held g.K.Sink.faults c.args.sink.now) w.sink-is) w.status-is w.out_of_memory-status.ensures.answer
       ];
     })

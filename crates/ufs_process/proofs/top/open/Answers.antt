@@ -2,16 +2,24 @@ use Rattle.std.proofs.Common.{inl, inr, refl}
 use Rattle.ufs_quiet.specs.Commands.{asked}
 use Rattle.ufs_process.specs.Views.{kind, view}
 use Rattle.ufs_process.proofs.AnswerLemmas.{opened_fault, opened_joins, source_unread}
+use Rattle.ufs_process.proofs.CountLemmas.{opened_counted}
 use Rattle.ufs_process.proofs.top.open.Goals as goal
+
+pub serve-requires-clause-counted : goal.serve-requires-clause-counted
+serve-requires-clause-counted g c =
+    let m = c.in-Ok.mirror in
+    opened_counted g.N.Counts.first g.N.Counts.second (g.A.Disk.faults m.legs.both.first) (g.B.Disk.faults m.legs.both.second) (g.A.Disk.faults c.args.first) (g.B.Disk.faults c.args.second) m.legs.picks m.stopped m.faults
+    c.requires.first_counted c.requires.second_counted c.in-Ok.ensures.faults c.in-Ok.ensures.begun c.in-Ok.ensures.live
 
 pub returns-in-Ok-clause-answer : goal.returns-in-Ok-clause-answer
 returns-in-Ok-clause-answer g c =
     let one = kind g.A.Disk.visible g.A.Disk.keeps g.A.Disk.size g.A.Disk.moments g.A.Disk.faults in
     let other = kind g.B.Disk.visible g.B.Disk.keeps g.B.Disk.size g.B.Disk.moments g.B.Disk.faults in
     let m = c.in-Ok.mirror in
-    inr (c.serve.ensures.served c.args.first c.args.second
+    inr (c.serve.ensures.served c.args.first c.args.second c.requires.first_counted c.requires.second_counted
     (opened_joins one other (asked c.args.words.now.items) c.requires.opens c.args.first c.args.second (view m.legs.both m.legs.log.items m.legs.picks m.faults m.sectors) (record {
       size = c.in-Ok.ensures.size;
+      least = c.in-Ok.ensures.least;
       faults = c.in-Ok.ensures.faults;
       live = c.in-Ok.ensures.live;
       content = c.in-Ok.ensures.content;
