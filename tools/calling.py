@@ -22,7 +22,7 @@ def listed():
     """The crates of crates.txt but those of tests, in its order."""
     lines = (TOP / "crates.txt").read_text().splitlines()
     crates = [line.split(":")[0] for line in lines if line and not line.startswith("#")]
-    return [crate for crate in crates if not crate.endswith(("_tests", "_broken"))]
+    return [crate for crate in crates if not crate.endswith(("_tests", "_broken", "_mirrored"))]
 
 
 def exported(root):

@@ -16,7 +16,8 @@ HEAD = """\
 use crate::calls::{Call, check_new, playing};
 use crate::trees::making_large;
 
-const EXAMPLES: [(&[&str], &str, u8, &str); {count}] = [
+/// Words, a script, a status, and what is printed.
+pub const EXAMPLES: [(&[&str], &str, u8, &str); {count}] = [
 """
 TAIL = """\
 ];

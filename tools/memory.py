@@ -3,6 +3,8 @@
 that it was made from, and nobody can write that; but `Excuse::Memory`, and what is no want of memory and ends a call like it,
 are cases without a field, and `AllocError` and `AllocFailed` are the library's. Text that makes one of them as a value stands
 in the places below, and nowhere else in crates/*/src, tests apart. Patterns of `match`, `let` and `matches!` may stand anywhere.
+Notes of the names that are let go can't be committed any more, and whoever asks for a commit then is answered want of memory: so
+the calls that let them go stand in the places below, too.
 
     python3 tools/memory.py --check        ends with status 1 if a value is made elsewhere, or the self-test fails
     python3 tools/memory.py --self-test    shows that the check can fail
@@ -21,12 +23,13 @@ MAY = {
     # the one place of the excuse
     "ufs_model/src/lacking.rt": {"Excuse::Memory": 2},
     # the one ending for all of them
-    "ufs_quiet/src/finish.rt": {"Ending::OutOfMemory": 1},
+    "ufs_quiet/src/last_line.rt": {"Ending::OutOfMemory": 1},
     # a number at its end
-    "ufs_bench/src/replay.rt": {"Lack::AtEnd": 1, "Lack::Unsound": 1},
     "ufs_catalog/src/dirs.rt": {"Lack::AtEnd": 1},
-    "ufs_ilog/src/name_notes.rt": {"Lack::AtEnd": 1},
+    "ufs_held/src/excuses.rt": {"Lack::AtEnd": 1},
+    "ufs_ilog/src/name_notes.rt": {"Lack::AtEnd": 1, ".lose": 1},
     "ufs_ilog/src/names_log.rt": {"Lack::AtEnd": 1},
+    "ufs_image_paths/src/opened.rt": {"Lack::AtEnd": 1},
     "ufs_links/src/links.rt": {"Lack::AtEnd": 1},
     "ufs_owner/src/table.rt": {"Lack::AtEnd": 1},
     "ufs_recovery/src/plan.rt": {"Lack::AtEnd": 1},
@@ -38,10 +41,16 @@ MAY = {
     "ufs_tree/src/answer.rt": {"Lack::AtEnd": 1},
     "ufs_tree/src/counts.rt": {"Lack::AtEnd": 1},
     "ufs_volume/src/reading.rt": {"Lack::AtEnd": 1},
+    # notes that aren't begun, those that are lost for what was lacking, and those that are lent to a commit
+    "ufs_name_tree/src/name_tree.rt": {"NameNotes::off": 3},
+    "ufs_name_tree/src/notes.rt": {".lose": 1},
+    "ufs_names/src/noting.rt": {".take_notes": 1},
+    "ufs_server/src/room.rt": {".take_notes": 1},
+    "ufs_server/src/syncing.rt": {".take_notes": 1},
+    "ufs_turns/src/commits.rt": {".take_notes": 1},
     # what a disk has that doesn't give back what it was given, and what no caller asks for
     "ufs_engine/src/closing.rt": {"Lack::Told": 1, "Lack::Unsound": 1},
     "ufs_server/src/file_requests.rt": {"Lack::Unsound": 1},
-    "ufs_tree/src/texts.rt": {"Lack::Unsound": 1},
     # the reader of words tells a refused allocation by the kind of its error alone
     "ufs_words/src/command.rt": {"AllocError": 1},
     # an error of the system carries nothing
@@ -57,6 +66,14 @@ NAMES = {
     ("Lack", "::", "Told"),
     ("Ending", "::", "OutOfMemory"),
 }
+# Calls after which nothing is noted.
+LOSING = [
+    ("NameNotes", "::", "off"),
+    (".", "take_notes"),
+    ("::", "take_notes"),
+    (".", "lose"),
+    ("::", "lose"),
+]
 CASES = {name[2]: "".join(name) for name in NAMES if len(name) == 3}
 
 TOKEN = re.compile(
@@ -205,6 +222,9 @@ def values_in(text):
     if "*" in imported:
         made["a name for each case"] += 1
     for at, token in enumerate(tokens):
+        for words in LOSING:
+            if tuple(tokens[at : at + len(words)]) == words:
+                made["".join(words)] += 1
         if token in ("AllocError", "AllocFailed"):
             if not is_type(tokens, around, at) and not (
                 token == "AllocFailed" and is_pattern(tokens, around, at, at + 1)
@@ -271,6 +291,10 @@ ROWS = [
     ("fn f() -> Lack { if full() { return Lack::Unsound; } Lack::Told }", {"Lack::Unsound": 1, "Lack::Told": 1}),
     ("fn f(e: Ending) -> u8 { match e { Ending::OutOfMemory => 5, _ => 0 } }", {}),
     ("fn f() -> u8 { finish(sink, Ending::OutOfMemory) }", {"Ending::OutOfMemory": 1}),
+    ("fn f(tree: &mut NameTree) { let _lost = tree.take_notes(); }", {".take_notes": 1}),
+    ("fn f(tree: &mut NameTree) { tree.notes = NameNotes::off(); }", {"NameNotes::off": 1}),
+    ("fn f(notes: &mut NameNotes, lack: Lack) { NameNotes::lose(notes, lack); }", {"::lose": 1}),
+    ("fn take_notes(&mut self) -> NameNotes { begin(self) } fn lose() {}", {}),
 ]
 
 
