@@ -22,6 +22,7 @@ use Rattle.ufs_engine.specs.declared.playing.PlayFault.{PlayFault}
 use Rattle.ufs_engine.specs.declared.playing.PlayFault.TheVariants as ending
 use Rattle.ufs_server.specs.Sizes.{total_size}
 use Rattle.ufs_session.specs.Played.{IsPlayedFrom}
+use Rattle.ufs_session.proofs.ToldLemmas.{none_caused}
 use Rattle.ufs_session.specs.Told.{AreFaultsTold, AreToldStop, HasRisen, IsCountStill, IsReadFault, IsStopFault}
 use Rattle.ufs_start.specs.declared.fault.StartFault.{StartFault}
 use Rattle.ufs_store.specs.Refusals.{IsTold}
@@ -133,9 +134,11 @@ module _ (old new : StoreState) (going : old.stop ≡ None) (history : List Entr
   faults_of = record {
     each = λ fault has. elim (told.each fault has) [ inl read ↦ read_risen fault read | inr stop ↦ stop_risen fault stop.stop ];
     once = told.once;
+    caused = told.caused;
     stop = new.stop;
     stops = told.stops;
     of_session = stop_risen;
+    apart = λ fault at. told.apart fault going at;
   }
 
   stops_none : new.stop ≡ None → AreToldStop None history
@@ -186,7 +189,11 @@ module _ (old new : StoreState) (going : old.stop ≡ None) (history : List Entr
     }
 
   stop_of : (fault : ℕ) → closed ≡ Err (cause.Stopped fault) → IsStopOf old.faults now history fault
-  stop_of fault is = let stop = (stopped fault).0 is in record { stops = subst (λ (o : Option ℕ). AreToldStop o history) stop told.stops; risen = stop_risen fault stop }
+  stop_of fault is = let stop = (stopped fault).0 is in record {
+    stops = subst (λ (o : Option ℕ). AreToldStop o history) stop told.stops;
+    risen = stop_risen fault stop;
+    apart = told.apart fault going stop;
+  }
 
   pub end_fault : (ended : Result (Unit {0}) PlayFault) → OnOk ended (IsOk closed) → ((fault : ℕ) → ended ≡ Err (ending.Device fault) → closed ≡ Err (cause.Device fault))
       → ((fault : ℕ) → ended ≡ Err (ending.Stopped fault) → closed ≡ Err (cause.Stopped fault)) → IsEndFault old.faults now history ended
@@ -198,4 +205,12 @@ module _ (old new : StoreState) (going : old.stop ≡ None) (history : List Entr
 
 -- where nobody is told anything
 pub no_faults : (before now : ℕ) → AreFaultsOf before now []
-no_faults before now = record { each = λ fault has. absurd has; once = none_twice; stop = None; stops = tt; of_session = λ fault is. absurd cc }
+no_faults before now = record {
+  each = λ fault has. absurd has;
+  once = none_twice;
+  caused = none_caused;
+  stop = None;
+  stops = tt;
+  of_session = λ fault is. absurd cc;
+  apart = λ fault is. absurd cc;
+}

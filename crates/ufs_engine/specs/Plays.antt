@@ -17,7 +17,7 @@ use Rattle.ufs_recovery.specs.Recovered.{IsProperDisk}
 use Rattle.ufs_server.specs.Sizes.{total_size}
 use Rattle.ufs_session.specs.Played.{IsPlayedFrom}
 use Rattle.ufs_session.specs.Throughout.{AreMomentsStamped}
-use Rattle.ufs_session.specs.Told.{AreToldStop, HasRisen, IsCountStill, devices_in}
+use Rattle.ufs_session.specs.Told.{AreFaultsCaused, AreToldStop, HasRisen, IsCountStill, devices_in, reads_in}
 use Rattle.ufs_sound.specs.Owned.{Has}
 use Rattle.ufs_stored.specs.OnDisk.{IsExplainedBetween}
 
@@ -36,14 +36,17 @@ served_end (Err (Lack _)) = Err (session.Memory wanting)
 
 -- ---- faults
 
--- Each fault of the disk that a reply tells is one of the session's, and no two replies tell one; whoever is told where the store
--- stopped is told one fault, of the session too. Reads that fail stop nothing, so there may be several.
+-- Each fault of the disk that a reply tells is one of the session's, and no two replies tell one: their numbers rise. Whoever is told
+-- that the store stopped is told one fault, of the session too, and no read's. Reads that fail stop nothing, so there may be several.
 pub record AreFaultsOf (before now : ℕ) (history : List Entry) : Type 0 where
   pub each : (fault : ℕ) → Has fault (devices_in history) → HasRisen before now fault
   pub once : IsDistinct nat_eq (devices_in history)
+  -- each is told for its cause, and so is the stop
+  pub caused : AreFaultsCaused history
   pub stop : Option ℕ
   pub stops : AreToldStop stop history
   pub of_session : (fault : ℕ) → stop ≡ Some fault → HasRisen before now fault
+  pub apart : (fault : ℕ) → stop ≡ Some fault → Has fault (reads_in history) → ⊥
 
 -- The store never stopped: no reply tells so, and where none tells a fault no call of the disk failed.
 pub record IsUnstopped (before now : ℕ) (history : List Entry) : Type 0 where
@@ -63,6 +66,8 @@ pub record IsClosingFault (before now : ℕ) (history : List Entry) (fault : ℕ
 pub record IsStopOf (before now : ℕ) (history : List Entry) (fault : ℕ) : Type 0 where
   pub stops : AreToldStop (Some fault) history
   pub risen : HasRisen before now fault
+  -- it is no read's
+  pub apart : Has fault (reads_in history) → ⊥
 
 -- What the end tells: that the store never stopped, that a call failed in the closing, or the fault at which the store stopped.
 abbrev pub IsEndFault : (before now : ℕ) → List Entry → Result (Unit {0}) PlayFault → Type 0

@@ -7,7 +7,7 @@ use Rattle.ufs_model.specs.declared.data.Reply.{Reply}
 use Rattle.ufs_model.specs.declared.data.Reply.TheVariants as reply
 use Rattle.ufs_store.specs.Refusals.{IsTold, stop_after}
 use Rattle.ufs_store.specs.State.{StoreState}
-use Rattle.ufs_server.specs.Answered.{IsUntold, TellsFaults, device_in}
+use Rattle.ufs_server.specs.Answered.{IsUntold, TellsFaults, device_in, stopped_in}
 
 pub no_device : (r : Reply) → tells_fault r ≡ false → device_in r ≡ None
 no_device reply.Done calm = refl
@@ -25,6 +25,23 @@ no_device (reply.Excused (excuse.Stopped fault)) calm = refl
 no_device (reply.Excused (excuse.Blocks need had)) calm = refl
 no_device (reply.Excused excuse.Inodes) calm = refl
 no_device (reply.Excused (excuse.Extents need)) calm = refl
+
+pub no_stopped : (r : Reply) → tells_fault r ≡ false → stopped_in r ≡ None
+no_stopped reply.Done calm = refl
+no_stopped (reply.Fd fd) calm = refl
+no_stopped (reply.Count n) calm = refl
+no_stopped (reply.At n) calm = refl
+no_stopped (reply.Got bytes) calm = refl
+no_stopped (reply.IsFile size) calm = refl
+no_stopped (reply.IsDir entries) calm = refl
+no_stopped (reply.Names names) calm = refl
+no_stopped (reply.Refused x) calm = refl
+no_stopped (reply.Excused excuse.Memory) calm = refl
+no_stopped (reply.Excused (excuse.Device fault)) calm = refl
+no_stopped (reply.Excused (excuse.Stopped fault)) calm = absurd cc
+no_stopped (reply.Excused (excuse.Blocks need had)) calm = refl
+no_stopped (reply.Excused excuse.Inodes) calm = refl
+no_stopped (reply.Excused (excuse.Extents need)) calm = refl
 
 -- a call that passed stops nothing
 pub stop_stays : (stop : Option ℕ) → stop_after stop None ≡ stop

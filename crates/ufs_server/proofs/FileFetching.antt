@@ -1,5 +1,5 @@
 -- Blocks of a file of a server are read from the disk: it is taken out, read further, and put back.
-use Rattle.std.proofs.Common.{◌≡◌, ◌≢◌, ℕ, ◌⊎◌, inl, inr, Bool, true, Option, Some, None, is_some, List, length, slice_get, ap, sym, refl, ◌∙◌, subst}
+use Rattle.std.proofs.Common.{◌≡◌, ◌≢◌, ℕ, ◌⊎◌, inl, inr, Bool, true, false, arith, Option, Some, None, is_some, List, length, slice_get, ap, sym, refl, ◌∙◌, subst}
 use Rattle.std.specs.Prelude.{IsTrue, unwrap_or}
 use Rattle.std.specs.Cmp.{nat_cmp_total}
 use Rattle.std.specs.FinMap as map
@@ -7,7 +7,7 @@ use Rattle.std.specs.FinMap.{nat_cmp-IsAntisymmetric}
 use Rattle.ufs_bitmap.specs.Blocks.{BlockSet}
 use Rattle.ufs_bitmap.specs.Space.{Space}
 use Rattle.ufs_file.specs.Content.{IsContentOf}
-use Rattle.ufs_file.specs.Hand.{FileState, HasNeeded, IsOf}
+use Rattle.ufs_file.specs.Hand.{FileState, HasNeeded, IsOf, needed_end}
 use Rattle.ufs_file.proofs.FilledLemmas.{same_refusal}
 use Rattle.ufs_files.specs.Files.{AreNumbered}
 use Rattle.ufs_files.proofs.MapLemmas.{one_or_apart}
@@ -22,6 +22,7 @@ use Rattle.ufs_model.specs.declared.data.Desc.{Desc}
 use Rattle.ufs_model.specs.declared.data.Excuse.{Excuse}
 use Rattle.ufs_model.specs.declared.data.Excuse.TheVariants as excuse
 use Rattle.ufs_model.specs.declared.data.Op.{Op}
+use Rattle.ufs_model.specs.declared.data.Op.TheVariants as op
 use Rattle.ufs_model.proofs.Facts.Lookups as lookups
 use Rattle.ufs_model.proofs.Facts.Lookups.{from_some, same_some}
 use Rattle.ufs_durable.specs.State.{CommitState, DurableState, IsNoted, state_of}
@@ -33,7 +34,7 @@ use Rattle.ufs_stored.specs.Parts.{Parts, committed_as, durable_in, with_file}
 use Rattle.ufs_stored.specs.Sound.{IsSoundServer}
 use Rattle.ufs_stored.specs.Stored.{ArePartsOf}
 use Rattle.ufs_stored.proofs.Puts.{durable_else, either, here, other_file}
-use Rattle.ufs_server.specs.Fetched.{HasReadFurther, IsReadFurther, IsReady, LacksBlocks, is_of_read}
+use Rattle.ufs_server.specs.Fetched.{HasReadFurther, IsReadFurther, IsReady, LacksBlocks, is_of_read, needs_bytes}
 use Rattle.ufs_server.specs.Served.{StaysOnDisk}
 use Rattle.ufs_server.proofs.FileServing.{IsOut, at, same_pool}
 
@@ -56,6 +57,39 @@ read_fits t client request (excuse.Stopped fault) e allowed = absurd cc
 read_fits t client request (excuse.Blocks need had) e allowed = absurd cc
 read_fits t client request excuse.Inodes e allowed = absurd cc
 read_fits t client request (excuse.Extents need) e allowed = absurd cc
+
+-- ---- which requests need blocks
+
+end_none : (size : ℕ) (d : Desc) (request : Op) → needs_bytes request ≡ false → needed_end size d request ≡ 0
+end_none size d (op.Read fd n) e = absurd cc
+end_none size d (op.Pread fd n at) e = absurd cc
+end_none size d (op.Write fd bytes) e = absurd cc
+end_none size d (op.Pwrite fd bytes at) e = absurd cc
+end_none size d (op.Trunc fd size') e = absurd cc
+end_none size d (op.Seek fd from by) e = refl
+end_none size d (op.Fsync fd) e = refl
+end_none size d op.Sync e = refl
+end_none size d (op.OpenFile path read write creat excl trunc append) e = refl
+end_none size d (op.Close fd) e = refl
+end_none size d (op.Mkdir path) e = refl
+end_none size d (op.Rmdir path) e = refl
+end_none size d (op.Unlink path) e = refl
+end_none size d (op.Rename from to) e = refl
+end_none size d (op.Stat path) e = refl
+end_none size d (op.List path) e = refl
+
+-- One that gives or changes no bytes needs none.
+pub needs_none : (p : Parts) (ask : Ask) → needs_bytes ask.op ≡ false → IsReady p ask
+needs_none p ask e = record {
+  needed = λ d file s kind desc named here allowed place needed. let none = end_none (length s.content.bytes) d ask.op e in absurd (omega (arith, none, needed.below));
+}
+
+pub needs_those : (p : Parts) (ask : Ask) → (IsReady p ask → ⊥) → needs_bytes ask.op ≡ true
+needs_those p ask wanting = by (needs_bytes ask.op) refl
+  where
+    by : (b : Bool) → needs_bytes ask.op ≡ b → needs_bytes ask.op ≡ true
+    by true is = is
+    by false is = absurd (wanting (needs_none p ask is))
 
 -- ---- nothing is read
 

@@ -1,10 +1,10 @@
 -- The one file that a request touches.
-use Rattle.std.proofs.Common.{◌≡◌, ◌∙◌, ℕ, inl, inr, List, [], ◌∷◌, Bool, true, false, ◌||◌, Option, Some, None, is_some, ap, refl, subst, sym}
+use Rattle.std.proofs.Common.{◌≡◌, ◌≢◌, ◌∙◌, ◌⊎◌, ℕ, inl, inr, List, [], ◌∷◌, Bool, true, false, ◌||◌, Option, Some, None, is_some, ap, refl, subst, sym}
 use Rattle.std.specs.Prelude.{if◌then◌else◌, unwrap_or}
 use Rattle.std.specs.FinMap as map
 use Rattle.ufs_client.specs.Own.{is_own, is_own_seek}
 use Rattle.ufs_file.specs.Hand.{IsOf}
-use Rattle.ufs_model.specs.Asks.{IsAsk, desc_of_fd, fd_named}
+use Rattle.ufs_model.specs.Asks.{IsAsk, desc_of_fd, fd_named, file_in}
 use Rattle.ufs_model.specs.Descriptors.{closed, opened}
 use Rattle.ufs_model.specs.FileCalls.{is_on_file}
 use Rattle.ufs_model.specs.PosixTree.{PosixTree}
@@ -18,7 +18,9 @@ use Rattle.ufs_model.specs.declared.data.Op.TheVariants as op
 use Rattle.ufs_model.specs.declared.data.PartName.{PartName}
 use Rattle.ufs_model.specs.declared.data.PartName.TheVariants as part
 use Rattle.ufs_model.specs.declared.data.Whence.TheVariants as whence
-use Rattle.ufs_names.specs.Calls.{IsTouched}
+use Rattle.ufs_names.specs.Calls.{IsOfNames, IsTouched}
+use Rattle.ufs_prefix.specs.Changes.{asks_commit}
+use Rattle.ufs_server.proofs.Syncs.{which}
 
 module _ (t : PosixTree) (client : ℕ) where
   -- the parts that a request touches, where this is its client's refusal
@@ -117,3 +119,32 @@ module _ (t : PosixTree) (ask : Ask) (asked : IsAsk t ask) (file : ℕ) (kind : 
 
   pub on_file_alone : IsOf ask.desc file → (f : ℕ) → IsTouched t ask f → file ≡ f
   on_file_alone is f touched = file_alone t ask.client file f (subst (λ (ps : List PartName). IsPartOf ps (part.File f)) (parts_of is) touched)
+
+-- ---- an `fsync` of a directory
+
+module _ (t : PosixTree) (client : ℕ) where
+  names_alone : (b : Bool) (f : ℕ) → IsPartOf (part.Client client ∷ (if b then [] else part.Names ∷ [])) (part.File f) → ⊥
+  names_alone true f (inl is) = cc
+  names_alone true f (inr none) = none
+  names_alone false f (inl is) = cc
+  names_alone false f (inr (inl is)) = cc
+  names_alone false f (inr (inr none)) = none
+
+  opened_none : (fd : ℕ) (o : Option Desc) → map.get t.fds (client, fd) ≡ o → file_in o ≡ None → (opened t client fd).file ≡ None
+  opened_none fd None there none = ap (λ (o : Option Desc). (unwrap_or o closed).file) there
+  opened_none fd (Some d) there none = ap (λ (o : Option Desc). (unwrap_or o closed).file) there ∙ none
+
+  dir_touches_none : (fd f : ℕ) → file_in (map.get t.fds (client, fd)) ≡ None → IsPartOf (touched_parts t client (op.Fsync fd)) (part.File f) → ⊥
+  dir_touches_none fd f none is =
+      names_alone (is_some (own_refusal t client (op.Fsync fd))) f
+      (subst (λ (o : Option ℕ). IsPartOf (part.Client client ∷ (if is_some (own_refusal t client (op.Fsync fd)) then [] else open_part o)) (part.File f)) (opened_none fd (map.get t.fds (client, fd)) refl none) is)
+
+-- It touches no file.
+pub sync_touches_none : (t : PosixTree) (ask : Ask) → IsAsk t ask → IsOfNames ask → asks_commit ask.op ≡ true → ask.op ≢ op.Sync → (f : ℕ) → IsTouched t ask f → ⊥
+sync_touches_none t ask asked names kind other f touched = by (which ask.op kind)
+  where
+    by : ((fd : ℕ) × (ask.op ≡ op.Fsync fd)) ⊎ (ask.op ≡ op.Sync) → ⊥
+    by (inl (fd, is)) =
+        let none = ap (λ (r : Op). file_in (desc_of_fd t.fds ask.client (fd_named r))) (sym is) ∙ ap file_in (sym asked.desc) ∙ names (ap is_on_file is) in
+        dir_touches_none t ask.client fd f none (subst (λ (r : Op). IsPartOf (touched_parts t ask.client r) (part.File f)) is touched)
+    by (inr is) = other is

@@ -22,6 +22,9 @@ reply_stopped (Err (excuse.Blocks need had)) fault e = absurd cc
 reply_stopped (Err excuse.Inodes) fault e = absurd cc
 reply_stopped (Err (excuse.Extents need)) fault e = absurd cc
 
+pub reply_halted : {T : Type 0} (r : Result T Excuse) (fault : ℕ) → r ≡ Err (excuse.Stopped fault) → stopped_in (reply_to r) ≡ Some fault
+reply_halted r fault is = ap (λ k. stopped_in (reply_to k)) is
+
 -- an entry that tells how a sync went
 pub synced_entry : {T : Type 0} (r : Result T Excuse) (entry : Entry) (A B C : Type 0) → entry.reply ≡ reply_to r → OnOk r A → OnErr r B → (A → C) → (is_excused entry.reply ≡ true → B → C) → C
 synced_entry (Ok x) entry A B C replied ok err done excused = done ok

@@ -8,6 +8,8 @@ use Rattle.ufs_model.specs.declared.data.Ask.{Ask}
 use Rattle.ufs_model.specs.declared.data.Desc.{Desc}
 use Rattle.ufs_model.specs.declared.data.Excuse.{Excuse}
 use Rattle.ufs_model.specs.declared.data.Excuse.TheVariants as excuse
+use Rattle.ufs_model.specs.declared.data.Op.{Op}
+use Rattle.ufs_model.specs.declared.data.Op.TheVariants as op
 use Rattle.ufs_model.specs.declared.data.Reply.{Reply}
 use Rattle.ufs_model.specs.declared.data.Reply.TheVariants as reply
 use Rattle.ufs_store.specs.Refusals.{IsTold, stop_after}
@@ -50,6 +52,19 @@ stopped_of _ = None
 abbrev pub stopped_in : Reply → Option ℕ
 stopped_in (reply.Excused x) = stopped_of x
 stopped_in _ = None
+
+-- POSIX refuses the request
+abbrev pub is_refused : Reply → Bool
+is_refused (reply.Refused errno) = true
+is_refused _ = false
+
+-- The request may have a turn of the store, in which a call of the disk may fail.
+abbrev pub may_turn : Op → Bool
+may_turn (op.Stat path) = false
+may_turn (op.List path) = false
+may_turn (op.Seek fd from by) = false
+may_turn (op.Close fd) = false
+may_turn _ = true
 
 -- ---- faults that no reply tells
 

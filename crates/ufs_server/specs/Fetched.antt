@@ -9,8 +9,19 @@ use Rattle.ufs_model.specs.declared.data.Ask.{Ask}
 use Rattle.ufs_model.specs.declared.data.Desc.{Desc}
 use Rattle.ufs_model.specs.declared.data.Excuse.{Excuse}
 use Rattle.ufs_model.specs.declared.data.Excuse.TheVariants as excuse
+use Rattle.ufs_model.specs.declared.data.Op.{Op}
+use Rattle.ufs_model.specs.declared.data.Op.TheVariants as op
 use Rattle.ufs_on_disk.specs.Syncs.{TellsTheSame}
 use Rattle.ufs_stored.specs.Parts.{Parts}
+
+-- The request gives or changes bytes of a file: no other needs a block of one.
+abbrev pub needs_bytes : Op → Bool
+needs_bytes (op.Read fd n) = true
+needs_bytes (op.Pread fd n at) = true
+needs_bytes (op.Write fd bytes) = true
+needs_bytes (op.Pwrite fd bytes at) = true
+needs_bytes (op.Trunc fd size) = true
+needs_bytes _ = false
 
 -- The blocks that the request needs are in memory. One that is refused needs none.
 pub record IsReady (p : Parts) (ask : Ask) : Type 0 where

@@ -1,5 +1,5 @@
 // The blocks that requests need in memory, and those of them that are read from the disk.
-ghost use Rattle.std.specs.Prelude.{ℕ, ◌≡◌, ◌+◌, ◌-◌, ◌<◌, ◌^◌, ◌⊎◌, List, None, Some, Ok, Err, IfErr, IfNone, IfSome, IsTrue, OnOk, true, false};
+ghost use Rattle.std.specs.Prelude.{ℕ, ◌≡◌, ◌+◌, ◌-◌, ◌<◌, ◌^◌, ◌⊎◌, List, None, Some, Ok, Err, IfErr, IfNone, IfSome, IsTrue, OnOk, OnErr, true, false};
 ghost use Rattle.ufs_base.specs.Faults.{RoseTo};
 ghost use Rattle.ufs_model.specs.Asks.{IsAsk};
 ghost use Rattle.ufs_model.specs.Excuses.{ExcuseFits};
@@ -15,7 +15,7 @@ ghost use Rattle.ufs_stored.specs.OnDisk.{IsExplainedBetween, IsOnDisk};
 ghost use Rattle.ufs_stored.specs.Sound.{IsSoundServer};
 ghost use Rattle.ufs_stored.specs.Stored.{ArePartsOf};
 ghost use Rattle.ufs_server.specs.Answered.{device_of, device_told};
-ghost use Rattle.ufs_server.specs.Fetched.{HasReadFurther, IsReady, LacksBlocks, is_of_read};
+ghost use Rattle.ufs_server.specs.Fetched.{HasReadFurther, IsReady, LacksBlocks, is_of_read, needs_bytes};
 ghost use Rattle.ufs_server.specs.Served.{StaysOnDisk};
 
 use crate::disk_server::DiskServer;
@@ -51,6 +51,7 @@ impl DiskServer {
         ensures sectors { (D.store door.new).sectors ≡ (D.store door.old).sectors }
         ensures fits { (x : Excuse) → result ≡ Err x → (t : PosixTree) → ArePartsOf self.old t → IsAsk t ask.now → ExcuseFits t ask.now.client ask.now.op x }
         ensures excused { IfErr result (λ x. is_of_read x ≡ true) }
+        ensures asked { OnErr result (needs_bytes ask.now.op ≡ true) }
         ensures told { (fault : ℕ) → result ≡ Err (excuse.Device fault) → (fault ≡ (D.store door.old).faults + 1) × ((D.store door.new).faults ≡ fault) × (fault < 2 ^ 64 - 1) }
         ensures untold { device_told result ≡ None → ((D.store door.new).faults ≡ (D.store door.old).faults) ⊎ RoseTo (D.store door.old).faults (D.store door.new).faults (2 ^ 64 - 1) }
         ensures passed { OnOk result ((D.store door.new).faults ≡ (D.store door.old).faults) }

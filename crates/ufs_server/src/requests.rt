@@ -17,7 +17,7 @@ ghost use Rattle.ufs_stored.specs.OnDisk.{IsExplainedBetween, IsOnDisk};
 ghost use Rattle.ufs_stored.specs.Sound.{IsSoundServer};
 ghost use Rattle.ufs_stored.specs.Stamping.{ExplainsAllowed};
 ghost use Rattle.ufs_stored.specs.Stored.{ArePartsOf};
-ghost use Rattle.ufs_server.specs.Answered.{IsAnswered, TellsFaults, device_in, stopped_in};
+ghost use Rattle.ufs_server.specs.Answered.{IsAnswered, TellsFaults, device_in, is_refused, stopped_in};
 ghost use Rattle.ufs_server.specs.Away.{AwayStays, ForgetsNothing};
 ghost use Rattle.ufs_server.specs.Touching.{IsFileTouched};
 ghost use Rattle.ufs_store.specs.Numbers.{HasRaised};
@@ -34,7 +34,8 @@ impl DiskServer {
     /// wanting, or the disk fails, the reply is the excuse for it, and the tree is as it was. File numbers stay below
     /// 2^31. The caller gives the ticket, and says who serves. Names may be committed before a request of names, to
     /// make room for its notes, and everything where a request lacks blocks and some are dropped. Where the disk fails
-    /// in that the request is served all the same: the store has stopped, and later replies tell it. A block that isn't
+    /// in that the request is served all the same: the store has stopped, and each later reply to a request that asks for a
+    /// commit tells so, unless it refuses it. A reply tells a fault or the stop to no other request. A block that isn't
     /// in memory afterwards wasn't before, and has the same bytes in the tree. The caller tells which file a request of
     /// the names touches, as `touched` does.
     pub fn apply<D: Door>(
@@ -69,6 +70,9 @@ impl DiskServer {
         ensures stopped { (fault : ℕ) → stopped_in result.entry.reply ≡ Some fault → (D.store door.old).stop ≡ Some fault }
         ensures told { TellsFaults (D.store door.old) (D.store door.new) result.entry.reply }
         ensures still { (fault : ℕ) → (D.store door.old).stop ≡ Some fault → device_in result.entry.reply ≡ None }
+        ensures asked { (fault : ℕ) → stopped_in result.entry.reply ≡ Some fault → asks_commit ask.op ≡ true }
+        ensures halted { asks_commit ask.op ≡ true → (fault : ℕ) → (D.store door.old).stop ≡ Some fault → is_refused result.entry.reply ≡ false → stopped_in result.entry.reply ≡ Some fault }
+        ensures turns { (fault : ℕ) → device_in result.entry.reply ≡ Some fault → asks_commit ask.op ≡ true }
         ensures raised { HasRaised (most_raised (geometry_of_store (D.store door.old))) (most_raised (geometry_of_store (D.store door.old))) (D.store door.old) (D.store door.new) }
     {
         if is_sync(&ask.op) {

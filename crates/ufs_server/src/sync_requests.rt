@@ -1,5 +1,5 @@
 // Requests that ask for a commit.
-ghost use Rattle.std.specs.Prelude.{ℕ, ◌≡◌, ◌++◌, ◌∷◌, [], List, Some, None, IsTrue, true};
+ghost use Rattle.std.specs.Prelude.{ℕ, ◌≡◌, ◌++◌, ◌∷◌, [], List, Some, None, IsTrue, true, false};
 ghost use Rattle.ufs_model.specs.Asks.{IsAsk};
 ghost use Rattle.ufs_model.specs.History.{IsLegal, tree_after};
 ghost use Rattle.ufs_model.specs.PosixTree.{PosixTree};
@@ -14,7 +14,7 @@ ghost use Rattle.ufs_stored.specs.OnDisk.{IsExplainedBetween, IsOnDisk};
 ghost use Rattle.ufs_stored.specs.Sound.{IsSoundServer};
 ghost use Rattle.ufs_stored.specs.Stamping.{ExplainsAllowed};
 ghost use Rattle.ufs_stored.specs.Stored.{ArePartsOf};
-ghost use Rattle.ufs_server.specs.Answered.{IsSyncReply, TellsItsOwn, device_in, reply_to, stopped_in};
+ghost use Rattle.ufs_server.specs.Answered.{IsSyncReply, TellsItsOwn, device_in, is_refused, reply_to, stopped_in};
 ghost use Rattle.ufs_server.specs.Away.{ForgetsNothing};
 ghost use Rattle.ufs_server.specs.Served.{IsServedOn, KeepsPromise};
 ghost use Rattle.ufs_server.specs.Numbers.{most_raised};
@@ -44,6 +44,7 @@ impl DiskServer {
         ensures stopped { (fault : ℕ) → stopped_in result.entry.reply ≡ Some fault → (D.store door.old).stop ≡ Some fault }
         ensures told { TellsItsOwn (D.store door.old) (D.store door.new) result.entry.reply }
         ensures still { (fault : ℕ) → (D.store door.old).stop ≡ Some fault → device_in result.entry.reply ≡ None }
+        ensures halted { (fault : ℕ) → (D.store door.old).stop ≡ Some fault → is_refused result.entry.reply ≡ false → stopped_in result.entry.reply ≡ Some fault }
         ensures raised { HasRaised (most_raised (geometry_of_store (D.store door.old))) (most_raised (geometry_of_store (D.store door.old))) (D.store door.old) (D.store door.new) }
     {
         let geometry = door.geometry();
@@ -77,6 +78,7 @@ impl DiskServer {
         ensures stopped { (fault : ℕ) → stopped_in result ≡ Some fault → (D.store door.old).stop ≡ Some fault }
         ensures told { TellsItsOwn (D.store door.old) (D.store door.new) result }
         ensures still { (fault : ℕ) → (D.store door.old).stop ≡ Some fault → device_in result ≡ None }
+        ensures halted { (fault : ℕ) → (D.store door.old).stop ≡ Some fault → stopped_in result ≡ Some fault }
         ensures raised { HasRaised (most_raised (geometry_of_store (D.store door.old))) (most_raised (geometry_of_store (D.store door.old))) (D.store door.old) (D.store door.new) }
     {
         let geometry = door.geometry();

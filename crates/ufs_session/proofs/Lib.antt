@@ -1,4 +1,6 @@
 pub mod ToldLemmas
+mod CausedLemmas
+mod ToldRows
 pub mod ServingLemmas
 pub mod ClientsLemmas
 pub mod ThroughoutLemmas

@@ -25,7 +25,7 @@ use Rattle.ufs_names.proofs.FileRequestLemmas.{keeps_names}
 use Rattle.ufs_names.specs.NamesPart.{IsNamesPart}
 use Rattle.ufs_prefix.specs.Changes.{asks_commit}
 use Rattle.ufs_prefix.specs.Steps.{is_ok}
-use Rattle.ufs_server.specs.Answered.{IsAnswered, stopped_in}
+use Rattle.ufs_server.specs.Answered.{IsAnswered, is_refused, stopped_in}
 use Rattle.ufs_store.specs.State.{StoreState}
 use Rattle.ufs_stored.specs.OnDisk.{IsOnDisk}
 use Rattle.ufs_stored.specs.Parts.{Parts}
@@ -89,6 +89,14 @@ module _ (p : Parts) (t : PosixTree) (ask : Ask) (answer : Reply) (desc : Option
       by : ((e : Errno) × (posix t ask.client ask.op ≡ (t, reply.Refused e))) ⊎ ((is_own_seek ask.op ≡ true) × (own_refusal t ask.client ask.op ≡ None)) → (is_ok answer ≡ false) ⊎ (asks_commit ask.op ≡ false)
       by (inl refused) = inl (ap is_ok is.replied ∙ ap (λ (x : PosixTree × Reply). is_ok x.1) refused.1)
       by (inr seek) = inr (seek_unsynced ask.op seek.0)
+
+  -- it doesn't answer one that asks for a commit but by a refusal
+  pub own_refused : asks_commit ask.op ≡ true → is_refused answer ≡ true
+  own_refused kind = by refused_or_seek
+    where
+      by : ((e : Errno) × (posix t ask.client ask.op ≡ (t, reply.Refused e))) ⊎ ((is_own_seek ask.op ≡ true) × (own_refusal t ask.client ask.op ≡ None)) → is_refused answer ≡ true
+      by (inl refused) = ap is_refused is.replied ∙ ap (λ (x : PosixTree × Reply). is_refused x.1) refused.1
+      by (inr seek) = (let no : true ≡ false = sym kind ∙ seek_unsynced ask.op seek.0 in absurd cc)
 
 pub parts_on_disk : (s : StoreState) (start : PosixTree) (history : List Entry) (p : Parts) → IsOnDisk s start history p → ArePartsOf p (tree_after start history)
 parts_on_disk s start history p (inl going) = going.stored.parts

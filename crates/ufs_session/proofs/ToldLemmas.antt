@@ -1,6 +1,6 @@
 -- A history tells each fault of the disk once.
-use Rattle.std.proofs.Common.{◌≡◌, ◌≢◌, ◌-◌, ◌+◌, ◌*◌, ◌^◌, ◌≤◌, ◌<◌, ℕ, ◌⊎◌, inl, inr, length, List, [], ◌∷◌, ◌++◌, Option, Some, None, false, nat_eq, ap, sym, refl, subst, ◌∙◌, ne_eqb, arith}
-use Rattle.std.specs.Prelude.{min}
+use Rattle.std.proofs.Common.{◌≡◌, ◌≢◌, ◌-◌, ◌+◌, ◌*◌, ◌^◌, ◌≤◌, ◌<◌, ℕ, ◌⊎◌, inl, inr, length, List, [], ◌∷◌, ◌++◌, Option, Some, None, Bool, true, false, nat_eq, ap, sym, refl, subst, ◌∙◌, ne_eqb, arith}
+use Rattle.std.specs.Prelude.{min, if◌then◌else◌}
 use Rattle.std.specs.List.{AllByRecursion, IsDistinct, cons_option}
 use Rattle.std.proofs.Math.Nat.{add-mul}
 use Rattle.std.proofs.lemmas.List.{length-append}
@@ -13,7 +13,8 @@ use Rattle.ufs_model.specs.declared.data.Entry.{Entry}
 use Rattle.ufs_model.specs.declared.data.Excuse.TheVariants as excuse
 use Rattle.ufs_model.specs.declared.data.Reply.{Reply}
 use Rattle.ufs_model.specs.declared.data.Reply.TheVariants as reply
-use Rattle.ufs_server.specs.Answered.{TellsFaults, device_in, stopped_in}
+use Rattle.ufs_prefix.specs.Changes.{asks_commit}
+use Rattle.ufs_server.specs.Answered.{TellsFaults, device_in, is_refused, may_turn, stopped_in}
 use Rattle.ufs_server.proofs.Beside.{stop_stays}
 use Rattle.ufs_sound.proofs.Owning.{has_append}
 use Rattle.ufs_sound.specs.Owned.{Has}
@@ -23,7 +24,7 @@ use Rattle.ufs_store.specs.State.{StoreState, geometry_of_store}
 use Rattle.ufs_store.proofs.Raised.{raises_none, raises_then}
 use Rattle.ufs_layout.specs.declared.geometry.Geometry.{Geometry}
 use Rattle.ufs_server.specs.Numbers.{most_raised}
-use Rattle.ufs_session.specs.Told.{AreFaultsTold, HasRead, HasRisen, IsCountStill, IsRaisedBy, IsReadFault, IsStopFault, TellsRequest, devices_in}
+use Rattle.ufs_session.specs.Told.{AreFaultsCaused, AreFaultsTold, AreHalted, AreRising, HasRead, HasRisen, IsCaused, IsCountStill, IsRaisedBy, IsReadFault, IsStopFault, StaysHalted, TellsRequest, TellsStop, devices_in, read_in, reads_in}
 
 some_is : {a b : ℕ} → Some a ≡ Some b → a ≡ b
 some_is e = cc
@@ -104,6 +105,23 @@ distinct_on [] ys front back apart = back
 distinct_on (x ∷ xs) ys front back apart = (
   all_append (λ (m : ℕ). nat_eq x m ≡ false) xs ys front.0 (apart_from x ys (λ m has. apart x m (inl refl) has)),
   distinct_on xs ys front.1 back (λ m n has other. apart m n (inr has) other),
+)
+
+-- ---- rising numbers
+
+one_rising : (o : Option ℕ) → AreRising (cons_option o [])
+one_rising None = tt
+one_rising (Some n) = (tt, tt)
+
+below_all : (n : ℕ) (xs : List ℕ) → ((m : ℕ) → Has m xs → n < m) → AllByRecursion (λ (m : ℕ). n < m) xs
+below_all n [] below = tt
+below_all n (x ∷ xs) below = (below x (inl refl), below_all n xs (λ m has. below m (inr has)))
+
+rising_on : (xs ys : List ℕ) → AreRising xs → AreRising ys → ((m n : ℕ) → Has m xs → Has n ys → m < n) → AreRising (xs ++ ys)
+rising_on [] ys front back below = back
+rising_on (x ∷ xs) ys front back below = (
+  all_append (λ (m : ℕ). x < m) xs ys front.0 (below_all x ys (λ m has. below x m (inl refl) has)),
+  rising_on xs ys front.1 back (λ m n has other. below m n (inr has) other),
 )
 
 -- two lists of nothing
@@ -274,12 +292,48 @@ raised_on n m old mid new front back =
       raised = subst (λ (k : ℕ). HasRaised k k old new) sum (raises_then (n * most) (n * most) (m * most) (m * most) old mid new front.raised behind);
     }
 
+-- ---- what a request is told, and what all behind it
+
+-- that a read failed is told to a request that asks for no commit
+read_told : (e : Entry) (b : Bool) (fault : ℕ) → (if b then None else device_in e.reply) ≡ Some fault → (b ≡ false) × (device_in e.reply ≡ Some fault)
+read_told e true fault is = absurd cc
+read_told e false fault is = (refl, is)
+
+read_of : (e : Entry) (fault : ℕ) → read_in e ≡ Some fault → (asks_commit e.op ≡ false) × (device_in e.reply ≡ Some fault)
+read_of e fault is = read_told e (asks_commit e.op) fault is
+
+-- a fault of a read is one of the disk's
+has_more : (fault : ℕ) (o p : Option ℕ) (xs ys : List ℕ) → (o ≡ Some fault → p ≡ Some fault) → (Has fault xs → Has fault ys) → Has fault (cons_option o xs) → Has fault (cons_option p ys)
+has_more fault None None xs ys first rest has = rest has
+has_more fault None (Some n) xs ys first rest has = inr (rest has)
+has_more fault (Some m) p xs ys first rest (inl is) = subst (λ (q : Option ℕ). Has fault (cons_option q ys)) (sym (first (ap Some (sym is)))) (inl refl)
+has_more fault (Some m) None xs ys first rest (inr has) = rest has
+has_more fault (Some m) (Some n) xs ys first rest (inr has) = inr (rest has)
+
+reads_are : (fault : ℕ) (history : List Entry) → Has fault (reads_in history) → Has fault (devices_in history)
+reads_are fault [] has = has
+reads_are fault (e ∷ history) has = has_more fault (read_in e) (device_in e.reply) (reads_in history) (devices_in history) (λ is. (read_of e fault is).1) (reads_are fault history) has
+
+-- all behind a reply that tells the stop are told it, also where more come behind them
+stays_on : (front back : List Entry) → StaysHalted front → AllByRecursion (λ (e : Entry). (fault : ℕ) → TellsStop e fault → AreHalted fault back) front → StaysHalted back → StaysHalted (front ++ back)
+stays_on [] back stays behind later = later
+stays_on (e ∷ front) back stays behind later = (
+  (λ fault tells. all_append (λ (x : Entry). asks_commit x.op ≡ true → is_refused x.reply ≡ false → stopped_in x.reply ≡ Some fault) front back (stays.0 fault tells) (behind.0 fault tells)),
+  stays_on front back stays.1 behind.1 later,
+)
+
+pub none_caused : AreFaultsCaused []
+none_caused = record { asked = tt; halted = tt; rising = tt; turns = tt }
+
 -- ---- its entry
 
 pub none_told : (s : StoreState) → AreFaultsTold s s []
 none_told s = record {
   each = λ fault has. absurd has;
   once = no_number;
+  caused = none_caused;
+  halted = λ fault is. tt;
+  apart = λ fault going stop has. has;
   kept = λ fault is. is;
   stopped = λ fault going is. let no : None ≡ Some fault = sym going ∙ is in cc;
   stops = tt;
@@ -288,13 +342,18 @@ none_told s = record {
   numbers = none_raised s;
 }
 
-pub one_told : (old new : StoreState) (entry : Entry) → TellsRequest old new entry.reply → IsRaisedBy 1 old new → AreFaultsTold old new (entry ∷ [])
-one_told old new entry told raised = record {
+pub one_told : (old new : StoreState) (entry : Entry) → TellsRequest old new entry.reply → IsCaused old new entry.op entry.reply → IsRaisedBy 1 old new → AreFaultsTold old new (entry ∷ [])
+one_told old new entry told caused raised = record {
   each = λ fault has. by fault (m.device fault (has_one fault (device_in entry.reply) has));
   once = one_number (device_in entry.reply);
+  caused = record { asked = (caused.asked, tt); halted = ((λ fault tells. tt), tt); rising = one_rising (device_in entry.reply); turns = (caused.turns, tt) };
+  halted = λ fault stop. ((λ kind plain. caused.halted kind fault stop plain), tt);
   kept = m.kept;
   stopped = m.stopped;
-  stops = ((λ fault is. m.kept fault (m.earlier fault is)), tt);
+  stops = (told_stop, tt);
+  apart = λ fault going stop has.
+      let read = read_of entry fault (has_one fault (read_in entry) has) in
+      let no : None ≡ Some fault = sym going ∙ sym (caused.reads fault read.0 read.1) ∙ stop in cc;
   count = m.count;
   quiet = λ none going. m.quiet (no_devices (entry ∷ []) none).0 going;
   numbers = raised;
@@ -302,6 +361,10 @@ one_told old new entry told raised = record {
   where
     m : Meets old new entry.reply
     m = meets old new entry.reply told
+
+    told_stop : (fault : ℕ) → TellsStop entry fault → new.stop ≡ Some fault
+    told_stop fault (inl earlier) = m.kept fault (m.earlier fault earlier)
+    told_stop fault (inr own) = caused.stops fault own.0 own.1
 
     by : (fault : ℕ) → (IsReadFault old new fault × (new.stop ≡ old.stop)) ⊎ IsStopFault old new fault → IsReadFault old new fault ⊎ IsStopFault old new fault
     by fault (inl read) = inl read.0
@@ -333,16 +396,63 @@ module _ (old mid new : StoreState) (front back : List Entry) (first : AreFaults
       by (inl has) = front_on fault (first.each fault has)
       by (inr has) = back_on fault (second.each fault has)
 
-  -- the back's numbers are above the front's, or the store stops at the end of the count
-  apart : (m n : ℕ) → IsReadFault old mid m ⊎ IsStopFault old mid m → IsReadFault mid new n ⊎ IsStopFault mid new n → m ≢ n
-  apart m n (inl one) (inl other) = λ same. omega (arith, one.counted, other.risen, same)
-  apart m n (inr one) (inl other) = λ same. omega (arith, one.risen.counted, other.risen, same)
-  apart m n (inr one) (inr other) = λ same. let no : None ≡ Some m = sym other.going ∙ one.stop in cc
-  apart m n (inl one) (inr other) = by other.risen.risen
+  -- the back's numbers are above the front's
+  above : (m n : ℕ) → IsReadFault old mid m ⊎ IsStopFault old mid m → IsReadFault mid new n ⊎ IsStopFault mid new n → m < n
+  above m n (inl one) (inl other) = omega (arith, one.counted, other.risen)
+  above m n (inr one) (inl other) = omega (arith, one.risen.counted, other.risen)
+  above m n (inr one) (inr other) = (let no : None ≡ Some m = sym other.going ∙ one.stop in cc)
+  above m n (inl one) (inr other) = by other.risen.risen
     where
-      by : (mid.faults < n) ⊎ (n ≡ 2 ^ 64 - 1) → m ≢ n
-      by (inl less) = λ same. omega (arith, one.counted, less, same)
-      by (inr end) = λ same. omega (arith, one.below, end, same)
+      by : (mid.faults < n) ⊎ (n ≡ 2 ^ 64 - 1) → m < n
+      by (inl less) = omega (arith, one.counted, less)
+      by (inr end) = omega (arith, one.below, end)
+
+  apart : (m n : ℕ) → IsReadFault old mid m ⊎ IsStopFault old mid m → IsReadFault mid new n ⊎ IsStopFault mid new n → m ≢ n
+  apart m n one other = λ same. let less = above m n one other in omega (arith, less, same)
+
+  -- ---- the excuses have their cause
+
+  caused_on : AreFaultsCaused (front ++ back)
+  caused_on = record {
+    asked = all_append (λ (e : Entry). (fault : ℕ) → stopped_in e.reply ≡ Some fault → asks_commit e.op ≡ true) front back first.caused.asked second.caused.asked;
+    halted = stays_on front back first.caused.halted
+        (all_map (λ (e : Entry). (fault : ℕ) → TellsStop e fault → mid.stop ≡ Some fault) (λ (e : Entry). (fault : ℕ) → TellsStop e fault → AreHalted fault back)
+        (λ e told fault tells. second.halted fault (told fault tells)) front first.stops)
+        second.caused.halted;
+    rising = subst AreRising (sym devices) (rising_on (devices_in front) (devices_in back) first.caused.rising second.caused.rising (λ m n one other. above m n (first.each m one) (second.each n other)));
+    turns = all_append (λ (e : Entry). (fault : ℕ) → device_in e.reply ≡ Some fault → may_turn e.op ≡ true) front back first.caused.turns second.caused.turns;
+  }
+
+  -- a read's fault isn't the one at which the store stops behind it, or stopped before it
+  front_apart : (fault : ℕ) → old.stop ≡ None → new.stop ≡ Some fault → Has fault (reads_in front) → ⊥
+  front_apart fault going stop has = by mid.stop refl (first.each fault (reads_are fault front has))
+    where
+      behind : IsReadFault old mid fault → (mid.faults < fault) ⊎ (fault ≡ 2 ^ 64 - 1) → ⊥
+      behind read (inl less) = omega (arith, read.counted, less)
+      behind read (inr end) = omega (arith, read.below, end)
+
+      by : (o : Option ℕ) → mid.stop ≡ o → IsReadFault old mid fault ⊎ IsStopFault old mid fault → ⊥
+      by (Some n) some is = first.apart fault going (some ∙ sym (second.kept n some) ∙ stop) has
+      by None none (inr stopped) = (let no : None ≡ Some fault = sym none ∙ stopped.stop in cc)
+      by None none (inl read) = behind read (second.stopped fault none stop).risen
+
+  back_apart : (fault : ℕ) → old.stop ≡ None → new.stop ≡ Some fault → Has fault (reads_in back) → ⊥
+  back_apart fault going stop has = by mid.stop refl (second.each fault (reads_are fault back has))
+    where
+      by : (o : Option ℕ) → mid.stop ≡ o → IsReadFault mid new fault ⊎ IsStopFault mid new fault → ⊥
+      by None none is = second.apart fault none stop has
+      by (Some n) some (inr stopped) = (let no : None ≡ Some n = sym stopped.going ∙ some in cc)
+      by (Some n) some (inl read) =
+          let same : mid.stop ≡ Some fault = some ∙ sym (second.kept n some) ∙ stop in
+          let risen = first.stopped fault going same in
+          omega (arith, risen.counted, read.risen)
+
+  apart_on : (fault : ℕ) → old.stop ≡ None → new.stop ≡ Some fault → Has fault (reads_in (front ++ back)) → ⊥
+  apart_on fault going stop has = by (has_append fault (reads_in front) (reads_in back) (subst (Has fault) (filter_map-append read_in front back) has))
+    where
+      by : Has fault (reads_in front) ⊎ Has fault (reads_in back) → ⊥
+      by (inl has) = front_apart fault going stop has
+      by (inr has) = back_apart fault going stop has
 
   stopped_on : (fault : ℕ) → old.stop ≡ None → new.stop ≡ Some fault → (o : Option ℕ) → mid.stop ≡ o → HasRisen old.faults new.faults fault
   stopped_on fault going stop None none = risen_from old.faults mid.faults new.faults fault first.count (second.stopped fault none stop)
@@ -360,10 +470,13 @@ module _ (old mid new : StoreState) (front back : List Entry) (first : AreFaults
   told_on = record {
     each = λ fault has. each_on fault (subst (Has fault) devices has);
     once = subst (IsDistinct nat_eq) (sym devices) (distinct_on (devices_in front) (devices_in back) first.once second.once (λ m n one other. apart m n (first.each m one) (second.each n other)));
+    caused = caused_on;
+    halted = λ fault stop. all_append (λ (e : Entry). asks_commit e.op ≡ true → is_refused e.reply ≡ false → stopped_in e.reply ≡ Some fault) front back (first.halted fault stop) (second.halted fault (first.kept fault stop));
+    apart = apart_on;
     kept = λ fault is. second.kept fault (first.kept fault is);
     stopped = λ fault going stop. stopped_on fault going stop mid.stop refl;
-    stops = all_append (λ (e : Entry). (fault : ℕ) → stopped_in e.reply ≡ Some fault → new.stop ≡ Some fault) front back
-        (all_map (λ (e : Entry). (fault : ℕ) → stopped_in e.reply ≡ Some fault → mid.stop ≡ Some fault) (λ (e : Entry). (fault : ℕ) → stopped_in e.reply ≡ Some fault → new.stop ≡ Some fault)
+    stops = all_append (λ (e : Entry). (fault : ℕ) → TellsStop e fault → new.stop ≡ Some fault) front back
+        (all_map (λ (e : Entry). (fault : ℕ) → TellsStop e fault → mid.stop ≡ Some fault) (λ (e : Entry). (fault : ℕ) → TellsStop e fault → new.stop ≡ Some fault)
         (λ e told fault is. second.kept fault (told fault is)) front first.stops)
         second.stops;
     count = omega (arith, first.count, second.count);

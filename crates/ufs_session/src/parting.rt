@@ -1,11 +1,12 @@
 // The hands of a session come together for a request, and go apart again behind it.
-ghost use Rattle.std.specs.Prelude.{ℕ, ◌+◌, ◌≡◌, ◌<◌, ◌≤◌, List, None};
+ghost use Rattle.std.specs.Prelude.{ℕ, ◌+◌, ◌≡◌, ◌<◌, ◌≤◌, List, None, IsOk, true};
 ghost use Rattle.std.specs.FinMap as fin;
 ghost use Rattle.ufs_apart.specs.Apart.{IsBeside, joined};
 ghost use Rattle.ufs_client.specs.Own.{is_own};
 ghost use Rattle.ufs_model.specs.Asks.{IsAsk};
 ghost use Rattle.ufs_model.specs.PosixTree.{PosixTree};
 ghost use Rattle.ufs_model.specs.declared.data.Entry.{Entry};
+ghost use Rattle.ufs_prefix.specs.Changes.{asks_commit};
 ghost use Rattle.ufs_session.specs.Gathered.{AreParted, HasFilesAt, HasGathered, IsFileTold, IsGathered, IsTogether, file_told};
 ghost use Rattle.ufs_stored.specs.Stored.{ArePartsOf};
 
@@ -49,6 +50,7 @@ pub(crate) fn files_of(server: &DiskServer, asked: &Ask, own: bool) -> Gathered
     requires own { (t : PosixTree) → IsAsk t asked.now → own ≡ is_own t asked.now.client asked.now.op }
     ensures gathered { (t : PosixTree) → ArePartsOf server.now t → IsAsk t asked.now → HasGathered t asked.now.client asked.now.op result }
     ensures told { IsFileTold server.now asked.now (file_told result) }
+    ensures known { asks_commit asked.now.op ≡ true → IsOk (file_told result) }
 {
     if own {
         return Gathered::Nothing;

@@ -1,5 +1,5 @@
 // One request is served, and its entry drawn.
-ghost use Rattle.std.specs.Prelude.{◌^◌, ◌≡◌, ◌<◌, ◌++◌, ◌∷◌, [], List, IsTrue, false, length, true};
+ghost use Rattle.std.specs.Prelude.{◌^◌, ◌≡◌, ◌<◌, ◌++◌, ◌∷◌, [], List, IsOk, IsTrue, false, length, true};
 ghost use Rattle.ufs_client.specs.Own.{is_own, server_of};
 ghost use Rattle.ufs_file.specs.Hand.{IsEntryOf};
 ghost use Rattle.ufs_model.specs.Asks.{IsAsk};
@@ -9,6 +9,7 @@ ghost use Rattle.ufs_model.specs.PosixTree.{PosixTree};
 ghost use Rattle.ufs_model.specs.declared.data.Actor.TheVariants as actor;
 ghost use Rattle.ufs_model.specs.declared.data.Entry.{Entry};
 ghost use Rattle.ufs_model.specs.declared.data.Reply.TheVariants as reply;
+ghost use Rattle.ufs_prefix.specs.Changes.{asks_commit};
 ghost use Rattle.ufs_session.specs.Asking.{AsksOf, HasAnsweredOn, IsOwnTold};
 ghost use Rattle.ufs_session.specs.Drawing.{SeesDisk, had_as};
 ghost use Rattle.ufs_session.specs.Gathered.{IsFileTold};
@@ -16,7 +17,7 @@ ghost use Rattle.ufs_session.specs.Picked.{Pick};
 ghost use Rattle.ufs_session.specs.Resting.{IsResting};
 ghost use Rattle.ufs_session.specs.Serving.{IsServedReading};
 ghost use Rattle.ufs_session.specs.Throughout.{IsExplainedThroughout};
-ghost use Rattle.ufs_session.specs.Told.{AreFaultsTold, TellsRequest};
+ghost use Rattle.ufs_session.specs.Told.{AreFaultsTold, IsCaused, TellsRequest};
 ghost use Rattle.ufs_stamped.specs.Stamped.{IsStamping, before_of};
 ghost use Rattle.ufs_server.specs.Numbers.{most_raised};
 ghost use Rattle.ufs_store.specs.Numbers.{HasRaised};
@@ -131,6 +132,7 @@ fn serve_asked<N: Naming, D: Door, S: Stamping>(
     requires asked { (t : PosixTree) × ArePartsOf server.old t × IsAsk t asked }
     requires own { IsOwnTold asked own }
     requires touched { IsFileTold server.old asked touched }
+    requires known { asks_commit asked.op ≡ true → IsOk touched }
     requires sees { SeesDisk N.start D.visible (D.store door) S.history server.old }
     requires sound { IsSoundServer (geometry_of_store (D.store door)) (D.store door).unassigned.free server.old }
     ensures stamping { IsStamping N.start S.history S.asked S.files S.first D.visible D.keeps S.before (D.store result.1) result.0 }
@@ -147,6 +149,7 @@ fn serve_asked<N: Naming, D: Door, S: Stamping>(
     ensures geometry { geometry_of_store (D.store result.1) ≡ geometry_of_store (D.store door) }
     ensures sectors { (D.store result.1).sectors ≡ (D.store door).sectors }
     ensures told { TellsRequest (D.store door) (D.store result.1) result.2.entry.reply }
+    ensures caused { IsCaused (D.store door) (D.store result.1) asked.op result.2.entry.reply }
     ensures raised { HasRaised (most_raised (geometry_of_store (D.store door))) (most_raised (geometry_of_store (D.store door))) (D.store door) (D.store result.1) }
 {
     let geometry = door.geometry();
@@ -190,6 +193,7 @@ fn serve_stamped<N: Naming, D: Door, S: Stamping>(
     requires asked { (t : PosixTree) × ArePartsOf server.old t × IsAsk t asked }
     requires served { (t : PosixTree) → IsAsk t asked → is_own t asked.client asked.op ≡ false }
     requires touched { IsFileTold server.old asked touched }
+    requires known { asks_commit asked.op ≡ true → IsOk touched }
     requires sees { SeesDisk N.start D.visible (D.store door) S.history server.old }
     requires sound { IsSoundServer (geometry_of_store (D.store door)) (D.store door).unassigned.free server.old }
     ensures stamping { IsStamping N.start S.history S.asked S.files S.first D.visible D.keeps S.before (D.store result.1) result.0 }
@@ -206,6 +210,7 @@ fn serve_stamped<N: Naming, D: Door, S: Stamping>(
     ensures geometry { geometry_of_store (D.store result.1) ≡ geometry_of_store (D.store door) }
     ensures sectors { (D.store result.1).sectors ≡ (D.store door).sectors }
     ensures told { TellsRequest (D.store door) (D.store result.1) result.2.entry.reply }
+    ensures caused { IsCaused (D.store door) (D.store result.1) asked.op result.2.entry.reply }
     ensures raised { HasRaised (most_raised (geometry_of_store (D.store door))) (most_raised (geometry_of_store (D.store door))) (D.store door) (D.store result.1) }
 {
     // For the prover alone.
@@ -231,6 +236,7 @@ fn serve_one<D: Door>(
     requires asked { (t : PosixTree) × ArePartsOf server.old t × IsAsk t ask }
     requires served { (t : PosixTree) → IsAsk t ask → is_own t ask.client ask.op ≡ false }
     requires touched { IsFileTold server.old ask touched }
+    requires known { asks_commit ask.op ≡ true → IsOk touched }
     requires sound { IsSoundServer (geometry_of_store (D.store door.old)) (D.store door.old).unassigned.free server.old }
     requires stamped { D.stamps → ExplainsAllowed D.allows (D.store door.old) server.old }
     ensures entry { IsEntryOf ask result.entry.by ticket result.entry }
@@ -246,6 +252,7 @@ fn serve_one<D: Door>(
     ensures geometry { geometry_of_store (D.store door.new) ≡ geometry_of_store (D.store door.old) }
     ensures sectors { (D.store door.new).sectors ≡ (D.store door.old).sectors }
     ensures told { TellsRequest (D.store door.old) (D.store door.new) result.entry.reply }
+    ensures caused { IsCaused (D.store door.old) (D.store door.new) ask.op result.entry.reply }
     ensures raised { HasRaised (most_raised (geometry_of_store (D.store door.old))) (most_raised (geometry_of_store (D.store door.old))) (D.store door.old) (D.store door.new) }
 {
     let geometry = door.geometry();

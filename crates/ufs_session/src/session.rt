@@ -60,7 +60,9 @@ pub struct Served<D: Door> {
 ///
 /// A read of the disk that fails stops nothing, and the reply tells it unless the disk's count of faults is at its end. At
 /// another call that fails the store stops: so a session meets one such call at most, and whoever is told that the store
-/// stopped is told that one. No two replies tell one fault.
+/// stopped is told that one. From the first such reply on each request that asks for a commit is refused or told so, and no
+/// other is. No two replies tell one fault: their numbers rise, and only a request is told one that may have a turn of the
+/// store, never `stat`, `list`, `seek` or `close`.
 pub fn serve<D: Door>(
     alloc: Global,
     opened: Opened,

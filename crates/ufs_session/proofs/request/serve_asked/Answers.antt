@@ -10,7 +10,8 @@ use Rattle.ufs_server.specs.Numbers.{most_raised}
 use Rattle.ufs_store.proofs.Raised.{raises_none}
 use Rattle.ufs_session.specs.Asking.{IsOwnTold}
 use Rattle.ufs_store.specs.State.{geometry_of_store}
-use Rattle.ufs_session.proofs.OwnLemmas.{bytes_behind, nothing, own_answered, parts_behind, parts_on_disk, same_bytes}
+use Rattle.ufs_session.proofs.CausedLemmas.{own_caused}
+use Rattle.ufs_session.proofs.OwnLemmas.{bytes_behind, nothing, own_answered, own_refused, parts_behind, parts_on_disk, same_bytes}
 use Rattle.ufs_session.proofs.ReadingLemmas.{nothing_forgotten}
 use Rattle.ufs_session.proofs.ThroughoutLemmas.{throughout_one}
 use Rattle.ufs_session.proofs.ToldLemmas.{plain_going, served_told}
@@ -78,6 +79,14 @@ returns-in-Some-clause-told g c =
     let plain = (told g (goal.at.returns-in-Some-clause-told g c).In-Some).plain in
     let calm = plain_calm r plain in
     served_told s s r (calm_told s s r calm refl refl) (λ fault is. let clash : None ≡ Some fault = sym (plain_going r plain) ∙ is in cc) (λ fault is. no_device r calm)
+
+pub returns-in-Some-clause-caused : goal.returns-in-Some-clause-caused
+returns-in-Some-clause-caused g c =
+    let r = c.in-Some.answer.reply in
+    let answer = told g (goal.at.returns-in-Some-clause-caused g c).In-Some in
+    let a = c.requires.asked in
+    own_caused (g.D.Door.store c.args.door) c.args.asked.op r (no_device r (plain_calm r answer.plain)) (plain_going r answer.plain)
+    (own_refused c.args.server.now a.0 c.args.asked r c.in-Some.answer.desc a.2 (sym (answer.own a.0 a.2)) (answer.posix a.0 a.2))
 
 pub returns-in-Some-clause-raised : goal.returns-in-Some-clause-raised
 returns-in-Some-clause-raised g c =

@@ -1,5 +1,5 @@
 use Rattle.std.proofs.Common.{◌≡◌, ◌∷◌, ◌++◌, [], ℕ, List, Option, None, Some, Result, Err, inl, true, false, ap, sym, refl, subst, ◌∙◌, arith}
-use Rattle.std.specs.Prelude.{IfOk, IsTrue}
+use Rattle.std.specs.Prelude.{IfOk, IsOk, IsTrue}
 use Rattle.ufs_alike.proofs.StepLemmas.{asks}
 use Rattle.ufs_alike.proofs.TreeLemmas.{either_way}
 use Rattle.ufs_base.specs.declared.memory.Memory.{Memory}
@@ -24,6 +24,7 @@ use Rattle.ufs_layout.specs.declared.geometry.Geometry.{Geometry}
 use Rattle.ufs_server.specs.Numbers.{most_raised}
 use Rattle.ufs_store.specs.Numbers.{HasRaised}
 use Rattle.ufs_store.proofs.Raised.{raises_behind, raises_more, raises_none}
+use Rattle.ufs_session.proofs.CausedLemmas.{memory_caused, read_caused, served_caused}
 use Rattle.ufs_session.proofs.FurtherLemmas.{tree_read}
 use Rattle.ufs_session.proofs.OwnLemmas.{parts_on_disk}
 use Rattle.ufs_session.proofs.ReadingLemmas.{nothing_forgotten, parts_before, read_failed, read_served, same_excuse}
@@ -201,3 +202,20 @@ returns-in-Err-clause-raised g c =
     let s = g.D.Door.store c.args.door.now in
     let most = most_raised (geometry_of_store s) in
     raises_none most most s s refl refl
+
+-- ---- an excuse has its cause
+
+pub returns-in-Ok-fetch-clause-caused : goal.returns-in-Ok-fetch-clause-caused
+returns-in-Ok-fetch-clause-caused g c =
+    let a = c.apply.ensures in
+    served_caused (g.D.Door.store c.args.door.now) (g.D.Door.store c.fetch.new.door) (g.D.Door.store c.apply.new.door) c.args.ask.op c.apply.result.entry.reply c.fetch.ensures.stop a.told a.still a.asked a.halted a.turns
+
+pub returns-in-Err-fetch-clause-caused : goal.returns-in-Err-fetch-clause-caused
+returns-in-Err-fetch-clause-caused g c =
+    read_caused (g.D.Door.store c.args.door.now) (g.D.Door.store c.fetch.new.door) c.args.ask.op c.unread-in-Err-fetch.result.entry.reply c.in-Err-fetch.excuse c.fetch.ensures.stop c.in-Err-fetch.ensures.excused
+    c.in-Err-fetch.ensures.asked c.unread-in-Err-fetch.ensures.reply
+
+pub returns-in-Err-clause-caused : goal.returns-in-Err-clause-caused
+returns-in-Err-clause-caused g c =
+    memory_caused (g.D.Door.store c.args.door.now) c.args.ask.op c.unread.result.entry.reply
+    (λ kind. let no : false ≡ true = subst (λ (r : Result (Option ℕ) Memory). IsOk r) c.in-Err.is (c.requires.known kind) in absurd cc) (c.unread.ensures.reply ∙ ap reply.Excused c.from.ensures)

@@ -1,5 +1,6 @@
-use Rattle.std.proofs.Common.{◌≡◌, ◌++◌, ◌∷◌, [], ℕ, List, sym, ◌∙◌, subst, ◌<◌, Some, arith}
+use Rattle.std.proofs.Common.{◌≡◌, ◌++◌, ◌∷◌, [], ℕ, List, sym, ◌∙◌, subst, ◌<◌, Option, Some, Result, IsOk, arith}
 use Rattle.ufs_apart.specs.Apart.{joined}
+use Rattle.ufs_base.specs.declared.memory.Memory.{Memory}
 use Rattle.ufs_model.specs.History.{IsLegal, tree_after}
 use Rattle.ufs_model.specs.PosixTree.{PosixTree}
 use Rattle.ufs_model.specs.declared.data.Op.{Op}
@@ -22,6 +23,7 @@ use Rattle.ufs_session.specs.Reading.{HasReadOn}
 use Rattle.ufs_session.specs.Resting.{IsResting, KnowsDisk}
 use Rattle.ufs_session.specs.Told.{AreFaultsTold}
 use Rattle.ufs_session.proofs.AskingLemmas.{asking_at, away_behind, has_answered, served_behind}
+use Rattle.ufs_session.proofs.CausedLemmas.{caused_as}
 use Rattle.ufs_session.proofs.GatheredLemmas.{has_files}
 use Rattle.ufs_session.proofs.HadLemmas.{had_alike, had_own, reply_had, served_had, told_seen}
 use Rattle.ufs_session.proofs.ReadOnLemmas.{began_before, may_seen, one_on, picked_now, read_now}
@@ -81,6 +83,9 @@ serve_asked-hand-requires-clause-own g c = let own = c.answer_own-own.ensures in
 pub serve_asked-hand-requires-clause-touched : goal.serve_asked-hand-requires-clause-touched
 serve_asked-hand-requires-clause-touched g c = subst (IsFileTold c.args.server.now c.args.asked) (sym c.touched-touched.ensures) c.files_of-gathered.ensures.told
 
+pub serve_asked-hand-requires-clause-known : goal.serve_asked-hand-requires-clause-known
+serve_asked-hand-requires-clause-known g c kind = subst (λ (r : Result (Option ℕ) Memory). IsOk r) (sym c.touched-touched.ensures) (c.files_of-gathered.ensures.known kind)
+
 pub serve_asked-hand-requires-clause-sees : goal.serve_asked-hand-requires-clause-sees
 serve_asked-hand-requires-clause-sees g c = sees_had g (goal.at.serve_asked-hand-requires-clause-sees g c).After-gather
 
@@ -122,7 +127,7 @@ module _ (g : Over) (c : After-keep g) where
   new = c.serve_asked-hand.new.server
 
   all_more : AreFaultsTold c.requires.faults.0 next (history ++ entry ∷ [])
-  all_more = told_on c.requires.faults.0 now next history (entry ∷ []) c.requires.faults.1 (one_told now next entry c.serve_asked-hand.ensures.told (one_raised now next c.serve_asked-hand.ensures.geometry c.serve_asked-hand.ensures.raised))
+  all_more = told_on c.requires.faults.0 now next history (entry ∷ []) c.requires.faults.1 (one_told now next entry c.serve_asked-hand.ensures.told (caused_as now next c.args.asked.op entry.op entry.reply c.serve_asked-hand.ensures.entry.asked c.serve_asked-hand.ensures.caused) (one_raised now next c.serve_asked-hand.ensures.geometry c.serve_asked-hand.ensures.raised))
 
   -- however far the session had read before
   module _ (begun : Parts) (picks : List Pick) (asks : AsksOf k begun picks c.args.server.now history c.args.fds.now c.args.asked) where
@@ -295,7 +300,8 @@ pub returns-clause-faults : goal.returns-clause-faults
 returns-clause-faults g c =
     let now = g.D.Door.store c.args.running.door in
     let next = g.D.Door.store c.serve_asked-hand.result.1 in
-    subst (λ (e : Entry). AreFaultsTold now next (e ∷ [])) (sym c.draw-entry.ensures.same) (one_told now next c.serve_asked-hand.result.2.entry c.serve_asked-hand.ensures.told (one_raised now next c.serve_asked-hand.ensures.geometry c.serve_asked-hand.ensures.raised))
+    let entry = c.serve_asked-hand.result.2.entry in
+    subst (λ (e : Entry). AreFaultsTold now next (e ∷ [])) (sym c.draw-entry.ensures.same) (one_told now next entry c.serve_asked-hand.ensures.told (caused_as now next c.args.asked.op entry.op entry.reply c.serve_asked-hand.ensures.entry.asked c.serve_asked-hand.ensures.caused) (one_raised now next c.serve_asked-hand.ensures.geometry c.serve_asked-hand.ensures.raised))
 
 pub returns-clause-resting : goal.returns-clause-resting
 returns-clause-resting g c =

@@ -1,6 +1,7 @@
 use Rattle.std.proofs.Common.{◌∷◌, ◌++◌, [], sym, subst}
 use Rattle.ufs_ledger.specs.Kept.{OpensExplained}
 use Rattle.ufs_session.specs.Throughout.{IsExplainedThroughout}
+use Rattle.ufs_session.specs.Told.{IsCaused}
 use Rattle.ufs_stamped.specs.Stamped.{StoreBefore}
 use Rattle.ufs_store.specs.State.{StoreState}
 use Rattle.ufs_stored.specs.OnDisk.{IsOnDisk}
@@ -30,3 +31,7 @@ returns-clause-moments g c visible start history asked legal is =
     let e = c.serve_one-applied.result.entry in
     subst (λ (p : StoreState × StoreState). IsExplainedThroughout g.D.Door.keeps p.0.sectors start history (e ∷ []) p.0.moments p.1.moments) (λ i. (c.begin-stamped.ensures i, sym c.end-door.ensures.store i))
     (c.serve_one-applied.ensures.moments visible start history asked legal (subst (λ (x : StoreState). IsOnDisk x start history c.args.server.now) (sym c.begin-stamped.ensures) is))
+
+pub returns-clause-caused : goal.returns-clause-caused
+returns-clause-caused g c =
+    subst (λ (p : StoreState × StoreState). IsCaused p.0 p.1 c.args.asked.op c.serve_one-applied.result.entry.reply) (λ i. (c.begin-stamped.ensures i, sym c.end-door.ensures.store i)) c.serve_one-applied.ensures.caused

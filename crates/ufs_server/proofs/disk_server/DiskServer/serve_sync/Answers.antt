@@ -1,4 +1,4 @@
-use Rattle.std.proofs.Common.{◌≡◌, None, ap, refl, sym, subst, ◌∙◌}
+use Rattle.std.proofs.Common.{◌≡◌, None, true, false, ap, refl, sym, subst, ◌∙◌}
 use Rattle.ufs_model.specs.Asks.{IsAsk}
 use Rattle.ufs_model.specs.History.{tree_after}
 use Rattle.ufs_model.specs.Posix.{posix}
@@ -11,7 +11,7 @@ use Rattle.ufs_stored.specs.Laws.{leaves_tree}
 use Rattle.ufs_store.specs.State.{geometry_of_store}
 use Rattle.ufs_store.proofs.Raised.{raises_none}
 use Rattle.ufs_server.specs.Numbers.{most_raised}
-use Rattle.ufs_server.specs.Answered.{IsSyncReply}
+use Rattle.ufs_server.specs.Answered.{IsSyncReply, is_refused, stopped_in}
 use Rattle.ufs_server.proofs.Away.{away_still}
 use Rattle.ufs_server.proofs.Replied.{done_reply, excuse_kind}
 use Rattle.ufs_server.proofs.Syncs.{answered_so, fits_store, leaves, posix_done, posix_refused}
@@ -89,3 +89,11 @@ returns-in-Some-clause-raised g c =
     let s = g.D.Door.store c.args.door.now in
     let most = most_raised (geometry_of_store s) in
     raises_none most most s s refl refl
+
+-- ---- where the store has stopped
+
+pub returns-in-Some-clause-halted : goal.returns-in-Some-clause-halted
+returns-in-Some-clause-halted g c fault is plain = let no : true ≡ false = ap is_refused (sym c.answered.ensures.reply) ∙ plain in absurd cc
+
+pub returns-clause-halted : goal.returns-clause-halted
+returns-clause-halted g c fault is plain = ap stopped_in c.answered-2.ensures.reply ∙ c.sync_asked-reply.ensures.halted fault is

@@ -8,7 +8,7 @@ use Rattle.ufs_store.specs.State.{geometry_of_store}
 use Rattle.ufs_store.proofs.Raised.{raises_more}
 use Rattle.ufs_server.specs.Numbers.{most_committed, most_raised}
 use Rattle.ufs_server.specs.Answered.{IsSyncReply, device_in, device_told, stopped_in}
-use Rattle.ufs_server.proofs.Replied.{reply_device, reply_stopped, synced_entry}
+use Rattle.ufs_server.proofs.Replied.{reply_device, reply_halted, reply_stopped, synced_entry}
 use Rattle.ufs_server.proofs.Syncs.{live_file, opened_is, reply_kind, which}
 use Rattle.ufs_server.proofs.disk_server.DiskServer.sync_asked.Goals as goal
 
@@ -37,6 +37,7 @@ returns-in_default g c =
       stopped = λ fault is. c.sync_all.ensures.stopped fault (reply_stopped r fault (sym (ap stopped_in told_reply) ∙ is));
       told = record { told = subst (IsTold s0.faults s1.faults) (sym device) c.sync_all.ensures.cause; stop = c.sync_all.ensures.stop ∙ ap (stop_after s0.stop) (sym device) };
       still = λ fault is. device ∙ ap device_told (c.sync_all.ensures.refused fault is);
+      halted = λ fault is. ap stopped_in told_reply ∙ reply_halted r fault (c.sync_all.ensures.refused fault is);
       raised =
           let most = most_committed (geometry_of_store s0) in
           raises_more most most (most_raised (geometry_of_store s0)) (most_raised (geometry_of_store s0)) s0 s1 (omega arith) (omega arith) (c.sync_all.ensures.raised c.requires.asked.0 c.requires.asked.1);
@@ -87,6 +88,12 @@ returns-in-Some-file-clause-still g c fault is = ap device_in c.sync_reply-in-So
 
 pub returns-in-None-clause-still : goal.returns-in-None-clause-still
 returns-in-None-clause-still g c fault is = ap device_in c.sync_reply-in-None.ensures ∙ reply_device c.sync_names.result ∙ ap device_told (c.sync_names.ensures.refused fault is)
+
+pub returns-in-Some-file-clause-halted : goal.returns-in-Some-file-clause-halted
+returns-in-Some-file-clause-halted g c fault is = ap stopped_in c.sync_reply-in-Some-file.ensures ∙ reply_halted c.sync_file.result fault (c.sync_file.ensures.refused fault is)
+
+pub returns-in-None-clause-halted : goal.returns-in-None-clause-halted
+returns-in-None-clause-halted g c fault is = ap stopped_in c.sync_reply-in-None.ensures ∙ reply_halted c.sync_names.result fault (c.sync_names.ensures.refused fault is)
 
 pub returns-in-Some-file-clause-raised : goal.returns-in-Some-file-clause-raised
 returns-in-Some-file-clause-raised g c =
