@@ -2,7 +2,8 @@
 use Rattle.std.specs.Prelude.{ℕ, List, codes}
 use Rattle.ufs_mirror.specs.declared.fault.MirrorFault.{MirrorFault}
 use Rattle.ufs_mirror.specs.declared.fault.MirrorFault.TheVariants.{NoLabel, Unequal, TooSmall, Device}
-use Rattle.ufs_quiet.specs.Texts.{device_line, line}
+use Rattle.ufs_print.specs.Lines.{line}
+use Rattle.ufs_quiet.specs.Texts.{device_line}
 use Rattle.ufs_quiet.specs.declared.ending.Ending.{Ending}
 use Rattle.ufs_quiet.specs.declared.ending.Ending.TheVariants.{DeviceFault, NoTree}
 

@@ -11,7 +11,7 @@ use Rattle.ufs_quiet.specs.declared.ending.Ending.{Ending}
 use Rattle.ufs_quiet.specs.declared.ending.Ending.TheVariants.{OutOfMemory}
 use Rattle.ufs_quiet.specs.Seen.{Reading, Writing}
 use Rattle.ufs_quiet.specs.Endings.{IsAnswer, IsLine, IsFixed, IsBreakLine, TellsFault, EndsUnread}
-use Rattle.ufs_quiet.proofs.WriteLemmas.{appends_both, front_behind}
+use Rattle.ufs_print.proofs.WriteLemmas.{appends_both, front_behind}
 
 -- what is allowed there is allowed here
 pub answer_map : (E F : Ending → List ℕ → Type 0) (w : Writing) (status : ℕ) → ((ending : Ending) (text : List ℕ) → E ending text → F ending text)

@@ -30,7 +30,7 @@ use Rattle.ufs_quiet.specs.Endings.{IsAnswer, TellsNoTree, ending_of, line_of, s
 use Rattle.ufs_quiet.specs.Seen.{Formatting, Reading, Writing}
 use Rattle.ufs_quiet.specs.Texts.{device_line, illegal_line, legal_line}
 use Rattle.ufs_quiet.specs.Told.{TellsAudit}
-use Rattle.ufs_quiet.specs.TreeLines.{refusal_line}
+use Rattle.ufs_print.specs.TreeLines.{refusal_line}
 use Rattle.ufs_quiet.proofs.ProperLemmas.{proper_opens}
 
 -- ---- the parts of an answer

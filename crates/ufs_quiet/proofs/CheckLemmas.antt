@@ -13,8 +13,8 @@ use Rattle.ufs_catalog.specs.declared.fault.RecoverFault.TheVariants as recover
 use Rattle.ufs_quiet.specs.declared.ending.Ending.{Ending}
 use Rattle.ufs_quiet.specs.declared.ending.Ending.TheVariants.{Done, Usage, BadGeometry, NotBuilt, BadScript, TooSmall, NoTree, DeviceFault, OutOfMemory, SourceFault, Damaged, Illegal}
 use Rattle.ufs_quiet.specs.Texts.{device_line}
-use Rattle.ufs_quiet.specs.TreeLines.{refusal_line}
-use Rattle.ufs_quiet.specs.DamageLines.{clean_line, damage_lines}
+use Rattle.ufs_print.specs.TreeLines.{refusal_line}
+use Rattle.ufs_print.specs.DamageLines.{clean_line, damage_lines}
 use Rattle.ufs_quiet.specs.Seen.{Writing, Formatting}
 use Rattle.ufs_quiet.specs.Told.{TellsCheck}
 use Rattle.ufs_quiet.proofs.ProperLemmas.{proper_listed}

@@ -1,7 +1,4 @@
-pub mod WriteLemmas
-mod PieceLemmas
-pub mod ListLines
-pub mod PrintLemmas
+mod TranscriptLemmas
 pub mod AnswerLemmas
 pub mod StatusLemmas
 pub mod ServingLemmas
@@ -9,11 +6,9 @@ pub mod LeavingLemmas
 pub mod PlayLemmas
 pub mod MkfsLemmas
 pub mod ResponseLemmas
-pub mod TextLemmas
 pub mod ProperLemmas
 pub mod AuditLemmas
 pub mod TreeLemmas
-pub mod DamageLemmas
 pub mod CheckLemmas
 pub mod RecoveryLemmas
 pub mod ToldLemmas

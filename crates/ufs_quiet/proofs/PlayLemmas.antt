@@ -21,7 +21,8 @@ use Rattle.ufs_start.specs.declared.fault.StartFault.{StartFault}
 use Rattle.ufs_start.specs.declared.fault.StartFault.TheVariants as start
 use Rattle.ufs_quiet.specs.declared.ending.Ending.{Ending}
 use Rattle.ufs_quiet.specs.declared.ending.Ending.TheVariants.{Done, Usage, BadGeometry, NotBuilt, BadScript, TooSmall, NoTree, DeviceFault, OutOfMemory, SourceFault, Damaged, Illegal}
-use Rattle.ufs_quiet.specs.Served.{EndsSession, IsSessionOf, TellsEnd, session_lines, session_text, trace_part}
+use Rattle.ufs_print.specs.Printed.{session_lines, trace_part}
+use Rattle.ufs_quiet.specs.Served.{EndsSession, IsSessionOf, TellsEnd, session_text}
 use Rattle.ufs_quiet.specs.Seen.{Formatting, Reading, Writing}
 use Rattle.ufs_quiet.specs.Texts.{break_line, device_line}
 use Rattle.ufs_quiet.specs.Endings.{EndsPlay, EndsServing, EndsUnread, IsAnswer, TellsNoStart, sink_status, start_ending, status_of}

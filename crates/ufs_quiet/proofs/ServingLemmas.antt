@@ -25,9 +25,9 @@ use Rattle.ufs_quiet.specs.declared.ending.Ending.TheVariants.{Done, Usage, BadG
 use Rattle.ufs_quiet.specs.Seen.{Formatting}
 use Rattle.ufs_quiet.specs.Served.{IsCutSessionOf, IsSessionOf, TellsEnd}
 use Rattle.ufs_quiet.specs.Texts.{device_line}
-use Rattle.ufs_quiet.specs.TreeLines.{refusal_line}
+use Rattle.ufs_print.specs.TreeLines.{refusal_line}
 use Rattle.ufs_quiet.specs.Endings.{EndsBehind, EndsPlayed, EndsPrinting, EndsServed, TellsNoStart, ending_of, line_of, start_ending, start_line}
-use Rattle.ufs_quiet.proofs.PrintLemmas.{output_is}
+use Rattle.ufs_quiet.proofs.TranscriptLemmas.{output_is}
 
 -- what is known of a session that was played, and of the disk's counts
 pub record HasPlayed (d : Formatting) (script : Script) (told : List (List Entry)) (result : Result (Unit {0}) PlayFault) : Type 0 where

@@ -12,7 +12,7 @@ use Rattle.ufs_opening.specs.Told.{TellsWhy}
 use Rattle.ufs_quiet.specs.declared.ending.Ending.{Ending}
 use Rattle.ufs_quiet.specs.declared.ending.Ending.TheVariants.{Done, Usage, BadGeometry, NotBuilt, BadScript, TooSmall, NoTree, DeviceFault, OutOfMemory, SourceFault, Damaged, Illegal}
 use Rattle.ufs_quiet.specs.Texts.{device_line}
-use Rattle.ufs_quiet.specs.TreeLines.{tree_lines}
+use Rattle.ufs_print.specs.TreeLines.{tree_lines}
 use Rattle.ufs_quiet.specs.Seen.{Writing, Formatting}
 use Rattle.ufs_quiet.specs.Endings.{EndsPrinting, EndsTree, StandsFor, TellsNoTree, IsAnswer, status_of, sink_status, ending_of, line_of}
 use Rattle.ufs_quiet.specs.Told.{TellsTree}

@@ -28,11 +28,13 @@ use Rattle.ufs_script.specs.declared.fault.ScriptFault.TheVariants as fault
 use Rattle.ufs_script.specs.Script.{IsOutside}
 use Rattle.ufs_quiet.specs.declared.ending.Ending.{Ending}
 use Rattle.ufs_quiet.specs.declared.ending.Ending.TheVariants.{Done, Usage, BadGeometry, NotBuilt, BadScript, TooSmall, NoTree, DeviceFault, OutOfMemory, SourceFault, Damaged, Illegal}
-use Rattle.ufs_quiet.specs.Texts.{IsFront, AreFirstLines, usage_line, bad_geometry_line, not_built_line, break_line, too_small_line, device_line, memory_line, source_line, made_line, recovered_line}
-use Rattle.ufs_quiet.specs.DamageLines.{clean_line, damage_lines}
-use Rattle.ufs_quiet.specs.TreeLines.{tree_lines, refusal_line}
+use Rattle.ufs_print.specs.Lines.{IsFront, AreFirstLines}
+use Rattle.ufs_quiet.specs.Texts.{usage_line, bad_geometry_line, not_built_line, break_line, too_small_line, device_line, memory_line, source_line, made_line, recovered_line}
+use Rattle.ufs_print.specs.DamageLines.{clean_line, damage_lines}
+use Rattle.ufs_print.specs.TreeLines.{tree_lines, refusal_line}
 use Rattle.ufs_quiet.specs.Seen.{Reading, Writing, Formatting}
-use Rattle.ufs_quiet.specs.Served.{EndsSession, IsCutSessionOf, IsSessionOf, TellsEnd, session_lines}
+use Rattle.ufs_print.specs.Printed.{session_lines}
+use Rattle.ufs_quiet.specs.Served.{EndsSession, IsCutSessionOf, IsSessionOf, TellsEnd}
 
 abbrev pub status_of : Ending → ℕ
 status_of Done = 0

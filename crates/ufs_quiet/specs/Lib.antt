@@ -1,11 +1,7 @@
 pub mod Texts
-pub mod Pieces
 pub mod Commands
 pub mod Served
-pub mod Printed
 pub mod Seen
-pub mod TreeLines
-pub mod DamageLines
 pub mod Endings
 pub mod Bench
 pub mod Audits

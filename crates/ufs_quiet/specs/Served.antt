@@ -1,5 +1,5 @@
 -- What it means that a script was served over a disk, and what is written then.
-use Rattle.std.specs.Prelude.{ℕ, ◌≡◌, ◌⊎◌, ◌++◌, Bool, true, false, List, [], length, flat_map, Result, Err}
+use Rattle.std.specs.Prelude.{ℕ, ◌≡◌, ◌⊎◌, ◌++◌, Bool, List, length, Result, Err}
 use Rattle.ufs_client.specs.Own.{AreServedFrom}
 use Rattle.ufs_engine.specs.Begins.{BeginsWith, HasNothingOpen}
 use Rattle.ufs_model.specs.PosixTree.{PosixTree}
@@ -8,8 +8,9 @@ use Rattle.ufs_model.specs.declared.data.Entry.{Entry}
 use Rattle.ufs_engine.specs.Plays.{IsEndFault, MayPlay}
 use Rattle.ufs_engine.specs.declared.playing.PlayFault.{PlayFault}
 use Rattle.ufs_engine.specs.declared.playing.PlayFault.TheVariants as ended
-use Rattle.ufs_script.specs.Output.{lines_of, output_of, trace_text}
+use Rattle.ufs_script.specs.Output.{lines_of, output_of}
 use Rattle.ufs_script.specs.declared.script.Script.{Script}
+use Rattle.ufs_print.specs.Printed.{trace_part}
 use Rattle.ufs_quiet.specs.Seen.{Formatting}
 
 -- ---- histories
@@ -33,22 +34,9 @@ pub record IsHistoryOf (start : PosixTree) (script : Script) (history : List Ent
 abbrev pub replies_text : Script → List Entry → List ℕ
 replies_text script history = output_of (length script.clients) history
 
--- the trace of a history: a line for each entry, in the history's order; nobody sends a request on
-abbrev pub trace_lines : List Entry → List ℕ
-trace_lines history = flat_map (λ (entry : Entry). trace_text entry []) history
-
--- the trace, where one is asked for
-abbrev pub trace_part : Bool → List Entry → List ℕ
-trace_part true history = trace_lines history
-trace_part false history = []
-
 -- what a session prints: the reply lines, and behind them the trace of the same history, where one is asked for
 abbrev pub session_text : Bool → Script → List Entry → List ℕ
 session_text trace script history = replies_text script history ++ trace_part trace history
-
--- the same of transcripts, one after the other
-abbrev pub session_lines : Bool → List Entry → List ℕ
-session_lines trace history = lines_of history ++ trace_part trace history
 
 -- ---- over a disk
 

@@ -1,5 +1,5 @@
 -- The lines that a command writes besides replies.
-use Rattle.std.specs.Prelude.{ℕ, List, [], ◌∷◌, ◌++◌, ◌+◌, ◌-◌, ◌≡◌, ◌⊎◌, codes}
+use Rattle.std.specs.Prelude.{ℕ, List, [], ◌∷◌, ◌++◌, ◌+◌, ◌-◌, codes}
 use Rattle.std.specs.Fmt.{decimal}
 use Rattle.ufs_audit.specs.declared.verdict.Wrong.{Wrong}
 use Rattle.ufs_audit.specs.declared.verdict.Wrong.TheVariants as wrong
@@ -8,9 +8,7 @@ use Rattle.ufs_layout.specs.declared.geometry.Geometry.{Geometry}
 use Rattle.ufs_layout.specs.declared.geometry.BadGeometry.{BadGeometry}
 use Rattle.ufs_script.specs.declared.fault.ScriptFault.{ScriptFault}
 use Rattle.ufs_script.specs.declared.fault.ScriptFault.TheVariants as fault
-
-abbrev pub line : List ℕ → List ℕ
-line text = text ++ 10 ∷ []
+use Rattle.ufs_print.specs.Lines.{line}
 
 abbrev pub usage_line : List ℕ
 usage_line = line (codes "usage: ufs COMMAND [WORDS]")
@@ -79,12 +77,3 @@ illegal_line ticket cause = line (codes "ufs: audit: ticket " ++ decimal ticket 
 -- a text that is too long has no line of a script
 abbrev pub long_text_line : List ℕ
 long_text_line = line (codes "ufs: line 0: TextTooLong")
-
--- the first of these bytes is the front of the second
-abbrev pub IsFront : List ℕ → List ℕ → Type 0
-IsFront front whole = (rest : List ℕ) × (front ++ rest ≡ whole)
-
--- the first of these bytes is the first whole lines of the second
-pub record AreFirstLines (front whole : List ℕ) : Type 0 where
-  pub front_is : IsFront front whole
-  pub ended : (front ≡ []) ⊎ ((before : List ℕ) × (front ≡ line before))

@@ -30,8 +30,8 @@ use Rattle.ufs_quiet.specs.declared.words.Command.TheVariants as command
 use Rattle.ufs_quiet.specs.Audits.{IsAuditStart, TellsBreak, TellsLongText}
 use Rattle.ufs_quiet.specs.Bench.{HasServed, bench_text}
 use Rattle.ufs_quiet.specs.Texts.{too_small_line, made_line, break_line, device_line, illegal_line, legal_line, recovered_line}
-use Rattle.ufs_quiet.specs.TreeLines.{tree_lines, refusal_line}
-use Rattle.ufs_quiet.specs.DamageLines.{clean_line, damage_lines}
+use Rattle.ufs_print.specs.TreeLines.{tree_lines, refusal_line}
+use Rattle.ufs_print.specs.DamageLines.{clean_line, damage_lines}
 use Rattle.ufs_quiet.specs.Endings.{TellsNoStart}
 use Rattle.ufs_quiet.specs.Served.{EndsSession, IsSessionOf, TellsEnd, session_text}
 use Rattle.ufs_quiet.specs.Seen.{Reading, Writing, Formatting}
@@ -52,8 +52,8 @@ pub record TellsPlay (trace : Bool) (r : Reading) (d : Formatting) (told : List 
   -- that begins as the tree of the disk's image, gives every reply or the reply is an excuse that fits, and which holds
   -- each request of the script once in its client's order. The sink got the lines of that history's replies, behind them,
   -- where a trace is asked for, those of that history's entries by their tickets, 0, 1, 2 and so on, and nothing else. Replies
-  -- may tell faults of the disk, and none tells that the store stopped; where none tells a fault, the disk's
-  -- count of faults is as it was, or stands at its type's end.
+  -- may tell faults of reads, and none tells that the store stopped, nor a fault to a request that asks for a commit; where none
+  -- tells a fault, the disk's count of faults is as it was, or stands at its type's end.
   pub done : status ≡ 0 → (script : Script) × ReadsScript r.left r.rest script × IsSessionOf d script told × EndsSession d told (Ok tt) × Appends w.held w.holds (session_text trace script (joined told))
   -- Status 3: no session begins with the image, and the sink got the line of the cause, and nothing else.
   pub no_start : status ≡ 3 → (told ≡ []) × ((text : List ℕ) × TellsNoStart d text × Appends w.held w.holds text)
@@ -64,9 +64,10 @@ pub record TellsPlay (trace : Bool) (r : Reading) (d : Formatting) (told : List 
   -- at which the store stopped. The fault of the closing is the disk's last, and no reply tells it.
   pub closing : status ≡ 4 → ((told ≡ []) × (d.now ≡ raised d.before) × Appends w.held w.holds (device_line d.now))
       ⊎ ((script : Script) × ReadsScript r.left r.rest script × IsSessionOf d script told × (fault : ℕ) × TellsEnd d told fault × Appends w.held w.holds (session_text trace script (joined told) ++ device_line fault))
-  -- Each fault of the disk that a reply tells is one to which its count rose in this call, and no two replies tell one. There
-  -- may be several, as a read that fails stops nothing. The replies that tell where the store stopped all tell one fault, of this
-  -- call too.
+  -- Each fault of the disk that a reply tells is one to which its count rose in this call, and no two replies tell one: along the
+  -- history their numbers rise. There may be several, as a read that fails stops nothing. A request is told one only where it may
+  -- have a turn of the store. The replies that tell where the store stopped all tell one fault, of this call too, and no read's.
+  -- They answer requests that ask for a commit, and from the first one on each such request that isn't refused is told it.
   pub faults : AreFaultsOf d.before d.now (joined told)
   -- Over a visible source, a script has status 0 or 5, or 3 and then no session begins with the image, unless a count of faults
   -- rises, or the disk's stands at its type's end.
@@ -141,7 +142,8 @@ pub record TellsBench (clients : List (List Op)) (d : Formatting) (told : List (
   -- of the one at which the store stopped.
   pub closing : status ≡ 4 → ((told ≡ []) × (d.now ≡ raised d.before) × Appends w.held w.holds (device_line d.now))
       ⊎ ((bytes : ℕ) × HasServed clients d told bytes × (fault : ℕ) × TellsEnd d told fault × Appends w.held w.holds (bench_text told bytes ++ device_line fault))
-  -- Each fault of the disk that a reply tells is one to which its count rose in this call, and no two replies tell one.
+  -- Each fault of the disk that a reply tells is one to which its count rose in this call, and no two replies tell one: each is
+  -- told for its cause, as of `play`.
   pub faults : AreFaultsOf d.before d.now (joined told)
   -- On a visible disk that is large enough the workload is served, unless memory runs out or a count of faults rises.
   pub complete : IsTrue d.visible → sector_count bench_geometry ≤ d.sectors → AreCalmThroughout d w → (status ≡ 0) ⊎ (status ≡ 5)

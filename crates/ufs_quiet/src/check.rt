@@ -2,11 +2,10 @@
 ghost use Rattle.std.specs.Prelude.{◌≡◌, ◌≢◌, [], IsTrue};
 ghost use Rattle.ufs_catalog.specs.Reading.{IsReadOnly};
 ghost use Rattle.ufs_quiet.specs.Seen.{formatting, writing};
-ghost use Rattle.ufs_quiet.specs.DamageLines.{clean_line};
+ghost use Rattle.ufs_print.specs.DamageLines.{clean_line};
 ghost use Rattle.ufs_quiet.specs.declared.ending.Ending.TheVariants.{Done};
 ghost use Rattle.ufs_quiet.specs.Endings.{EndsCheck, EndsListing, IsAnswer, IsLine};
 
-use crate::damage_lines::print_damage;
 use crate::ending::Ending;
 use crate::image::tell_refusal;
 use crate::last_line::{SINK_FAULT, tell};
@@ -14,6 +13,7 @@ use std::alloc::Global;
 use ufs_damage::DamageList;
 use ufs_disk::Disk;
 use ufs_io::Sink;
+use ufs_print::print_damage;
 
 fn tell_clean<K: Sink>(sink: &mut K) -> u8
     ensures { IsAnswer (IsLine Done clean_line) (writing K.held K.faults sink.old sink.new) result }

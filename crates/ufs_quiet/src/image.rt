@@ -1,7 +1,7 @@
 // Telling why an image isn't read.
 ghost use Rattle.std.specs.Prelude.{◌≡◌, ◌≤◌, ◌⊎◌, length};
 ghost use Rattle.ufs_quiet.specs.Texts.{device_line};
-ghost use Rattle.ufs_quiet.specs.TreeLines.{numbered_line};
+ghost use Rattle.ufs_print.specs.TreeLines.{numbered_line};
 ghost use Rattle.ufs_quiet.specs.Seen.{writing};
 ghost use Rattle.ufs_quiet.specs.declared.ending.Ending.TheVariants.{NoTree, DeviceFault};
 ghost use Rattle.ufs_quiet.specs.Endings.{IsAnswer, IsLine, ending_of, line_of, start_ending, start_line, status_of, sink_status};

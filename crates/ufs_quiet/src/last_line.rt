@@ -5,9 +5,9 @@ ghost use Rattle.ufs_quiet.specs.Endings.{IsAnswer, IsFixed, IsLine, status_of, 
 ghost use Rattle.ufs_quiet.specs.declared.ending.Ending.TheVariants.{OutOfMemory};
 
 use crate::ending::Ending;
-use crate::write::write_all;
 use ufs_base::Lack;
 use ufs_io::Sink;
+use ufs_print::write_all;
 
 /// The status of a fault of the sink, whatever else happened.
 pub const SINK_FAULT: u8 = 7;

@@ -6,7 +6,7 @@ ghost use Rattle.ufs_session.specs.Told.{IsCountStill, devices_in};
 ghost use Rattle.ufs_quiet.specs.Seen.{course, formatting, reading, writing};
 ghost use Rattle.ufs_quiet.specs.Endings.{EndsBehind, EndsPlay, EndsPlayed, EndsPrinting, EndsServing, IsAnswer, TellsFault};
 ghost use Rattle.ufs_quiet.specs.Left.{Plays};
-ghost use Rattle.ufs_quiet.specs.Served.{session_lines};
+ghost use Rattle.ufs_print.specs.Printed.{session_lines};
 
 use crate::broken::tell_fault;
 use crate::ending::Ending;
@@ -14,13 +14,13 @@ use crate::image::{tell_device, tell_start};
 use crate::last_line::{SINK_FAULT, out_of_memory};
 use crate::laws::unserved_law;
 use crate::outcome::{Outcome, nothing_told};
-use crate::print::{PrintFault, print};
 use std::alloc::Global;
 use ufs_base::Lack;
 use ufs_client::ToldLists;
 use ufs_disk::Disk;
 use ufs_engine::{PlayFault, play};
 use ufs_io::{Sink, Source};
+use ufs_print::{PrintFault, print};
 use ufs_script::{Script, ScriptFault, read_script};
 
 // Writes the lines of the clients' transcripts, and then ends.

@@ -1,20 +1,19 @@
 // Printing the tree that an image stands for.
 ghost use Rattle.std.specs.Prelude.{◌≡◌, ◌≢◌, IsTrue};
 ghost use Rattle.ufs_catalog.specs.Reading.{IsReadOnly};
-ghost use Rattle.ufs_quiet.specs.TreeLines.{head_lines};
+ghost use Rattle.ufs_print.specs.TreeLines.{head_lines};
 ghost use Rattle.ufs_quiet.specs.Seen.{formatting, writing};
 ghost use Rattle.ufs_quiet.specs.Endings.{EndsPrinting, EndsTree, IsAnswer};
 
 use crate::ending::Ending;
 use crate::image::tell_refusal;
 use crate::last_line::{SINK_FAULT, out_of_memory};
-use crate::print::PrintFault;
-use crate::tree_lines::{MOST_SHOWN, print_heads};
 use std::alloc::Global;
 use ufs_base::Lack;
 use ufs_disk::Disk;
 use ufs_io::Sink;
 use ufs_opening::{PathHead, tree_heads};
+use ufs_print::{MOST_SHOWN, PrintFault, print_heads};
 
 // Writes the lines of what stands at these paths, and then ends.
 fn print_whole<K: Sink>(alloc: Global, sink: &mut K, heads: &[PathHead]) -> u8

@@ -1,8 +1,12 @@
 // Printed histories over images: what a session prints is legal, and what it doesn't isn't.
-use crate::calls::{Call, bytes, calm, check_calls, check_new, check_over, memory_disk};
-use crate::trees::making;
+use crate::calls::{Call, bytes, calm, check_calls, check_new, check_over, memory_disk, words};
+use crate::examples::EXAMPLES;
+use crate::trees::{making, making_large};
 use std::alloc::AllocGlobal;
 use std::process::Abort;
+use ufs_disk::{Disk, PlainDisk};
+use ufs_io::{MemorySink, MemorySource};
+use ufs_quiet::quiet;
 
 const SCRIPT: &str =
     "client 0\nopen /f rw creat\nwrite 3 6162\npread 3 9 0\nclient 1\nopen /f r\nend\n";
@@ -251,4 +255,58 @@ fn an_audit_begins_with_the_images_tree(rt: HostRuntime) {
         ],
         disk,
     );
+}
+
+// What a script prints with its trace, over a disk.
+fn printed<R: Abort + AllocGlobal, D: Disk + Drop>(rt: &R, script: &str, disk: D) -> String {
+    let none: Vec<u64> = Vec::new(rt.alloc());
+    let more: Vec<u64> = Vec::new(rt.alloc());
+    let mut source = MemorySource::new(bytes(rt, script), none);
+    let mut sink = MemorySink::new(rt.alloc(), more);
+    let words = words(rt, &["play", "--trace"]);
+    let _outcome = quiet(rt.alloc(), &words, &mut source, &mut sink, disk);
+    let text = sink.bytes().to_vec(rt.alloc()).expect(rt, "memory");
+    String::from_utf8(text).expect(rt, "text")
+}
+
+fn new_disk<R: Abort + AllocGlobal>(rt: &R) -> PlainDisk {
+    check_new(rt, 65_536, &[making_large()])
+}
+
+// How many lines of a trace stand in it.
+fn traced(text: &str) -> usize {
+    let mut count = 0usize;
+    for byte in text.as_bytes() {
+        if *byte == b'#' {
+            count = count.saturating_add(1);
+        }
+    }
+    count
+}
+
+// What an audit of them reads.
+fn script_and_text<R: Abort + AllocGlobal>(rt: &R, script: &str, text: &str) -> String {
+    let mut whole = String::from_str(rt.alloc(), script).expect(rt, "memory");
+    whole.push_str(text).expect(rt, "memory");
+    whole
+}
+
+fn legal_line<R: Abort + AllocGlobal>(rt: &R, entries: usize) -> String {
+    format!(in rt.alloc(); "legal {entries}\n").expect(rt, "memory")
+}
+
+#[test]
+fn what_the_examples_print_is_legal(rt: HostRuntime) {
+    for (_, script, status, _) in &EXAMPLES {
+        if *status == 0 {
+            let text = printed(&rt, script, new_disk(&rt));
+            let legal = legal_line(&rt, traced(text.as_str()));
+            let whole = script_and_text(&rt, script, text.as_str());
+            check_over(
+                &rt,
+                &auditing(whole.as_str(), 0, legal.as_str()),
+                new_disk(&rt),
+            );
+        }
+    }
 }

@@ -1,13 +1,13 @@
 use Rattle.std.proofs.Common.{◌≡◌, ◌<◌, List, subst, refl, length, rules}
 use Rattle.std.specs.Io.KnownBytes.{Appends}
 use Rattle.ufs_image.specs.Damage.{Damage}
-use Rattle.ufs_quiet.specs.DamageLines.{clean_line, damage_lines}
+use Rattle.ufs_print.specs.DamageLines.{clean_line, damage_lines}
 use Rattle.ufs_quiet.specs.Seen.{writing}
 use Rattle.ufs_quiet.specs.Endings.{EndsListing}
 use Rattle.ufs_quiet.specs.declared.ending.Ending.TheVariants.{Done, Damaged}
 use Rattle.ufs_quiet.proofs.AnswerLemmas.{answer_line}
-use Rattle.ufs_quiet.specs.Pieces.{GotFront}
-use Rattle.ufs_quiet.proofs.DamageLemmas.{none_told, some_told}
+use Rattle.ufs_print.specs.Pieces.{GotFront}
+use Rattle.ufs_print.proofs.DamageLemmas.{none_told, some_told}
 use Rattle.ufs_quiet.proofs.check.print_list.Goals as goal
 
 pub returns-then-is_empty : goal.returns-then-is_empty

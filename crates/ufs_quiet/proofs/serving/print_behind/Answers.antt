@@ -2,13 +2,13 @@ use Rattle.std.proofs.Common.{List, ◌++◌, subst, refl, ap, Err}
 use Rattle.std.specs.Io.KnownBytes.{Appends}
 use Rattle.ufs_model.specs.History.{joined}
 use Rattle.ufs_model.specs.declared.data.Entry.{Entry}
-use Rattle.ufs_quiet.specs.Served.{session_lines}
+use Rattle.ufs_print.specs.Printed.{session_lines}
 use Rattle.ufs_quiet.specs.Texts.{device_line, memory_line}
 use Rattle.ufs_quiet.specs.Endings.{EndsBehind}
 use Rattle.ufs_quiet.specs.declared.ending.Ending.TheVariants.{DeviceFault, OutOfMemory}
 use Rattle.ufs_quiet.proofs.AnswerLemmas.{answer_after}
-use Rattle.ufs_quiet.specs.Pieces.{GotFront, GotLines}
-use Rattle.ufs_quiet.proofs.WriteLemmas.{front_longer}
+use Rattle.ufs_print.specs.Pieces.{GotFront, GotLines}
+use Rattle.ufs_print.proofs.WriteLemmas.{front_longer}
 use Rattle.ufs_quiet.proofs.serving.print_behind.Goals as goal
 
 pub returns-in-Ok : goal.returns-in-Ok

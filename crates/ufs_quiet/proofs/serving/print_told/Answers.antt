@@ -2,12 +2,12 @@ use Rattle.std.proofs.Common.{List, subst, refl, ap, Err}
 use Rattle.std.specs.Io.KnownBytes.{Appends}
 use Rattle.ufs_model.specs.History.{joined}
 use Rattle.ufs_model.specs.declared.data.Entry.{Entry}
-use Rattle.ufs_quiet.specs.Served.{session_lines}
+use Rattle.ufs_print.specs.Printed.{session_lines}
 use Rattle.ufs_quiet.specs.Texts.{memory_line}
 use Rattle.ufs_quiet.specs.Endings.{EndsPrinting}
 use Rattle.ufs_quiet.specs.declared.ending.Ending.TheVariants.{Done, OutOfMemory}
 use Rattle.ufs_quiet.proofs.AnswerLemmas.{answer_after}
-use Rattle.ufs_quiet.specs.Pieces.{GotFront, GotLines}
+use Rattle.ufs_print.specs.Pieces.{GotFront, GotLines}
 use Rattle.ufs_quiet.proofs.serving.print_told.Goals as goal
 
 pub returns-in-Err-Memory : goal.returns-in-Err-Memory

@@ -5,7 +5,8 @@ use Rattle.ufs_model.specs.History.{joined, tree_after}
 use Rattle.ufs_engine.specs.Numbers.{RaisesNumbers}
 use Rattle.ufs_recovery.specs.Recovered.{IsCleanDisk}
 use Rattle.ufs_quiet.specs.Seen.{formatting, writing}
-use Rattle.ufs_quiet.specs.Served.{IsSessionOf, session_lines}
+use Rattle.ufs_print.specs.Printed.{session_lines}
+use Rattle.ufs_quiet.specs.Served.{IsSessionOf}
 use Rattle.ufs_quiet.specs.Endings.{EndsPlayed, EndsServing}
 use Rattle.ufs_quiet.proofs.AnswerLemmas.{answer_map}
 use Rattle.ufs_quiet.proofs.LeavingLemmas.{left_still, never_unread, on_whole}

@@ -1,6 +1,6 @@
 use Rattle.std.proofs.Common.{refl, ap, Err}
 use Rattle.ufs_quiet.specs.Texts.{memory_line}
-use Rattle.ufs_quiet.specs.TreeLines.{head_lines}
+use Rattle.ufs_print.specs.TreeLines.{head_lines}
 use Rattle.ufs_quiet.specs.Endings.{EndsPrinting}
 use Rattle.ufs_quiet.specs.declared.ending.Ending.TheVariants.{Done, OutOfMemory}
 use Rattle.ufs_quiet.proofs.AnswerLemmas.{answer_after}

@@ -1,9 +1,9 @@
 use Rattle.std.proofs.Common.{◌≡◌, List, ℕ, ap, ◌∙◌, subst}
-use Rattle.ufs_quiet.specs.TreeLines.{head_lines, tree_lines}
+use Rattle.ufs_print.specs.TreeLines.{head_lines, tree_lines}
 use Rattle.ufs_quiet.specs.Seen.{formatting, writing}
 use Rattle.ufs_quiet.specs.Endings.{EndsPrinting, EndsTree, ending_of, line_of}
 use Rattle.ufs_quiet.proofs.AnswerLemmas.{answer_map, answer_line}
-use Rattle.ufs_quiet.proofs.TextLemmas.{tree_lines_are}
+use Rattle.ufs_print.proofs.TextLemmas.{tree_lines_are}
 use Rattle.ufs_quiet.proofs.TreeLemmas.{tree_shown, tree_refused, calm_by}
 use Rattle.ufs_quiet.proofs.tree.tree.Goals as goal
 

@@ -1,0 +1,5 @@
+pub mod Lines
+pub mod Pieces
+pub mod Printed
+pub mod TreeLines
+pub mod DamageLines
