@@ -1,5 +1,5 @@
 -- The names with what was noted of them since their last commit, and how a request with some files goes by them.
-use Rattle.std.specs.Prelude.{ℕ, ◌≡◌, ◌⊎◌, ◌++◌, List, length, true, false, Option, Some, None, refl}
+use Rattle.std.specs.Prelude.{ℕ, ◌≡◌, ◌⊎◌, ◌++◌, List, [], length, true, false, Option, Some, None, refl}
 use Rattle.std.specs.Coded.{Coded, code_by, coded×, coded_list, coded_ℕ}
 use Rattle.std.specs.FinMap as map
 use Rattle.std.specs.FinSet as set
@@ -19,6 +19,7 @@ use Rattle.ufs_name_tree.specs.NameTable.{IsNameTable}
 use Rattle.ufs_name_tree.specs.Notes.{GoesByNotes}
 use Rattle.ufs_names.specs.Calls.{HaveInodes, IsAsked, IsServed, KeepInodes}
 use Rattle.ufs_names.specs.NamesPart.{NamesPart, part_code}
+use Rattle.ufs_names.specs.Notes.{with_notes}
 use Rattle.ufs_names.specs.Space.{AreApart, HaveTheSame}
 use Rattle.ufs_names_stored.specs.Serving.{HasServed}
 use Rattle.ufs_stored.specs.Parts.{Commits, Parts}
@@ -32,6 +33,10 @@ pub record Noted : Type 0 where
 
 abbrev pub noted_code : Coded Noted
 noted_code = code_by _ (coded× part_code (coded× (coded_list coded_ℕ) (set.code coded_ℕ))) (λ n. (n.names, (n.fresh, n.dropped))) (λ p. record { names = p.0; fresh = p.1.0; dropped = p.1.1 }) (λ _. refl)
+
+-- the same once they are committed: nothing is noted, and no block is fresh; what was dropped still is
+abbrev pub committed_noted : Noted → Noted
+committed_noted n = record { names = with_notes (Some []) n.names; fresh = []; dropped = n.dropped }
 
 -- a server that has these files alone, with what is known of their commits, and this pool
 abbrev pub parts_with : Noted → Files → Commits → BlockSet → Parts

@@ -1,7 +1,9 @@
-//! The names with what was noted of them since their last commit: they serve a request with the one file that it touches.
+//! The names with what was noted of them since their last commit: they serve a request with the one file that it touches, and are
+//! committed in a turn of the store.
 #![tactic(auto)]
 
 mod applying;
+mod committing;
 mod known;
 mod noted;
 

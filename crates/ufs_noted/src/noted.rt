@@ -79,6 +79,13 @@ impl NotedNames {
         })
     }
 
+    /// The next file number.
+    pub fn next_number(&self) -> u32
+        ensures { result ≡ self.now.names.next }
+    {
+        self.next
+    }
+
     /// The one live file that a request touches, if it does one: `apply_with` wants it. A `sync` touches all, and isn't asked for here.
     pub fn needed(&self, ask: &Ask) -> Result<Option<u32>, Memory>
         requires client { ask.now.client < 16 }

@@ -1,0 +1,10 @@
+mod Files
+mod Drawing
+mod After
+mod Alone
+mod With
+mod Committed
+mod Live
+mod Tried
+mod Answering
+mod Faultless

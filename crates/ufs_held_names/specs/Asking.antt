@@ -1,0 +1,31 @@
+-- A client asks a request of the names, and is answered.
+use Rattle.std.specs.Prelude.{ℕ, ◌≡◌, ◌≢◌, ◌<◌, true, false, [], ◌∷◌, ◌++◌, length, Option, Some, None}
+use Rattle.std.specs.FinMap as fin
+use Rattle.ufs_model.specs.Asks.{IsAsk, fd_told}
+use Rattle.ufs_model.specs.History.{is_excused}
+use Rattle.ufs_model.specs.PosixTree.{PosixTree, desc_at}
+use Rattle.ufs_model.specs.declared.data.Ask.{Ask}
+use Rattle.ufs_model.specs.declared.data.Desc.{Desc}
+use Rattle.ufs_model.specs.declared.data.Entry.{Entry}
+use Rattle.ufs_names.specs.Calls.{IsOfNames}
+use Rattle.ufs_prefix.specs.Changes.{asks_commit}
+use Rattle.ufs_sound.specs.Parts.{ClientPart, OwnFds}
+
+-- The client asked the request, which is one of the names that commits nothing; and what is told with it is so in each tree that has the
+-- client's descriptors.
+pub record AsksNames (part : ClientPart) (ask : Ask) : Type 0 where
+  pub low : ask.client < 16
+  pub asked : part.asked ≡ Some ask.op
+  pub seq : ask.seq ≡ length part.entries
+  pub kind : IsOfNames ask
+  pub no_commit : asks_commit ask.op ≡ false
+  pub told : (t : PosixTree) → ((fd : ℕ) → fin.get part.fds fd ≡ desc_at t ask.client fd) → IsAsk t ask
+
+-- It has one more entry, and asks nothing. An excuse leaves its descriptors as they were; else the one that the request names or opens is
+-- that, or is gone, and the others are as they were.
+pub record IsAnsweredNames (part : ClientPart) (entry : Entry) (desc : Option Desc) (after : ClientPart) : Type 0 where
+  pub fds : OwnFds
+  pub is : after ≡ record part { entries = part.entries ++ entry ∷ []; fds = fds; asked = None }
+  pub stay : is_excused entry.reply ≡ true → fds ≡ part.fds
+  pub this : is_excused entry.reply ≡ false → (fd : ℕ) → fd_told entry.op entry.reply ≡ Some fd → fin.get fds fd ≡ desc
+  pub others : is_excused entry.reply ≡ false → (fd : ℕ) → fd_told entry.op entry.reply ≢ Some fd → fin.get fds fd ≡ fin.get part.fds fd

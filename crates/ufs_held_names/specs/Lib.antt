@@ -1,0 +1,7 @@
+pub mod HeldNames
+pub mod Asking
+pub mod Asked
+pub mod Drawn
+pub mod Come
+pub mod Synced
+pub mod Dirs

@@ -1,0 +1,99 @@
+// The names are committed, and a file hears of it, by a hand that has their cell meanwhile.
+ghost use Rattle.std.specs.Prelude.{ℕ, ◌≡◌, ◌++◌, ◌||◌, [], false, Err, Some, IfErr, IsSome, OnErr, OnOk, is_some};
+ghost use Rattle.std.specs.FinMap as fin;
+ghost use Rattle.std.specs.FinSet as set;
+ghost use Rattle.ufs_layout.specs.Areas.{IsGeometry};
+ghost use Rattle.ufs_store.specs.Refusals.{fault_in, is_no_space};
+ghost use Rattle.ufs_store.specs.declared.fault.StoreFault.TheVariants as refusal;
+ghost use Rattle.ufs_turns.specs.Lent.{AreTold, IsBare, IsBeside, StopsByFault, TellsStop};
+ghost use Rattle.ufs_turns.specs.Told.{fault_told, told_list};
+ghost use Rattle.ufs_held_names.specs.HeldNames.{AreCommitted, HoldsNames, first_names};
+
+use ufs_held::HeldFile;
+use ufs_joint::{Hand, HandTable, Naming};
+use ufs_layout::Geometry;
+use ufs_model::PartName;
+use ufs_noted::NotedNames;
+use ufs_store::StoreFault;
+use ufs_turns::Turns;
+
+// Commits the names. The hand that comes has their cell meanwhile, and is told the fault.
+pub(crate) fn commit_lent<N: Naming, T: Turns<N>>(
+    table: &HandTable<N>,
+    right: &mut Hand<N>,
+    noted: &mut NotedNames,
+    guest: &mut Hand<N>,
+    door: &mut T,
+) -> Result<(), StoreFault>
+    requires held { HoldsNames noted.old right.old }
+    requires calm { right.old.faults ≡ [] }
+    requires bare { IsBare guest.old }
+    ensures held { HoldsNames noted.new right.new }
+    ensures calm { right.new.faults ≡ [] }
+    ensures bare { IsBare guest.new }
+    ensures beside { IsBeside guest.old guest.new }
+    ensures ok { OnOk result (AreCommitted N.start.is_visible (first_names noted.old right.old.names) (first_names noted.new right.new.names)) }
+    ensures err { OnErr result (first_names noted.new right.new.names ≡ first_names noted.old right.old.names) }
+    ensures faults { guest.new.faults ≡ told_list (fault_told (fault_in result)) ++ guest.old.faults }
+    ensures stop { (fault : ℕ) → result ≡ Err (refusal.Stopped fault) → guest.new.stop ≡ Some fault }
+    ensures free { AreTold (T.tells door.old) (T.tells door.new) (λ had has. has ≡ had) }
+    ensures telling { is_some (T.tells door.new) ≡ is_some (T.tells door.old) }
+    ensures halts { StopsByFault (T.tells door.old) (T.tells door.new) (fault_in result) }
+    ensures halted { TellsStop (T.tells door.old) result }
+    ensures refused { IfErr result (λ fault. is_no_space fault ≡ false) }
+{
+    let own = right.split(table, PartName::Names);
+    guest.join(table, own);
+    let done = noted.commit(guest, door);
+    let own = guest.split(table, PartName::Names);
+    right.join(table, own);
+    done
+}
+
+// Tells a file its birth, where the names know it.
+pub(crate) fn tell_lent<N: Naming>(
+    table: &HandTable<N>,
+    right: &mut Hand<N>,
+    noted: &NotedNames,
+    file: &mut HeldFile<N>,
+    geometry: &Geometry,
+)
+    requires formed { IsGeometry geometry.now }
+    requires its { geometry.now ≡ N.start.geometry }
+    requires held { HoldsNames noted.now right.old }
+    requires calm { right.old.faults ≡ [] }
+    ensures held { HoldsNames noted.now right.new }
+    ensures calm { right.new.faults ≡ [] }
+    ensures same { first_names noted.now right.new.names ≡ first_names noted.now right.old.names }
+    ensures told { file.new ≡ record file.old { born = file.old.born || set.contains (first_names noted.now right.old.names).named file.old.value.file.file } }
+{
+    // For the prover alone.
+    let _ = noted;
+    file.tell_born(table, right, geometry)
+}
+
+// A file that is held is live: the names tell of it.
+pub(crate) fn see_live<N: Naming>(
+    table: &HandTable<N>,
+    right: &mut Hand<N>,
+    noted: &NotedNames,
+    file: HeldFile<N>,
+) -> HeldFile<N>
+    requires held { HoldsNames noted.now right.old }
+    requires calm { right.old.faults ≡ [] }
+    ensures held { HoldsNames noted.now right.new }
+    ensures calm { right.new.faults ≡ [] }
+    ensures same { first_names noted.now right.new.names ≡ first_names noted.now right.old.names }
+    ensures file { result ≡ file }
+    ensures live { IsSome (fin.get noted.now.names.held file.value.file.file) }
+{
+    // For the prover alone.
+    let _ = noted;
+    let (hand, commits, mut own) = file.into_parts();
+    let lent = right.split(table, PartName::Names);
+    own.join(table, lent);
+    own.look(table);
+    let lent = own.split(table, PartName::Names);
+    right.join(table, lent);
+    HeldFile::new(hand, commits, own)
+}

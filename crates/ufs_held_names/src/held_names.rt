@@ -1,0 +1,275 @@
+// The names, what was noted of them, and the right to their cell.
+ghost use Rattle.std.specs.Prelude.{ℕ, ◌≡◌, ◌≢◌, ◌<◌, ◌≤◌, ◌^◌, ◌++◌, ◌||◌, ◌⊎◌, suc, [], true, false, Err, Some, None, IfErr, IfOk, IfSome, OnErr, OnOk, is_some};
+ghost use Rattle.std.specs.FinSet as set;
+ghost use Rattle.ufs_bitmap.specs.Blocks.{BlockSet};
+ghost use Rattle.ufs_bitmap.specs.Taking.{set_of};
+ghost use Rattle.ufs_file.specs.Hand.{IsEntryOf, IsOf};
+ghost use Rattle.ufs_layout.specs.Areas.{IsGeometry};
+ghost use Rattle.ufs_model.specs.History.{is_excused};
+ghost use Rattle.ufs_model.specs.declared.data.Excuse.{Excuse};
+ghost use Rattle.ufs_model.specs.declared.data.Excuse.TheVariants as excuse;
+ghost use Rattle.ufs_model.specs.declared.data.Op.TheVariants as op;
+ghost use Rattle.ufs_model.specs.declared.data.Reply.TheVariants as reply;
+ghost use Rattle.ufs_names.specs.Calls.{IsOfNames};
+ghost use Rattle.ufs_names.specs.Space.{IsCause};
+ghost use Rattle.ufs_sound.specs.Parts.{ClientPart};
+ghost use Rattle.ufs_durable.specs.State.{file_committed};
+ghost use Rattle.ufs_store.specs.Refusals.{fault_in, is_no_space};
+ghost use Rattle.ufs_store.specs.declared.fault.StoreFault.TheVariants as refusal;
+ghost use Rattle.ufs_turns.specs.Lent.{AreTold, IsBare, IsBeside, StopsByFault, TellsStop};
+ghost use Rattle.ufs_turns.specs.Told.{fault_told, told_list};
+ghost use Rattle.ufs_noted.specs.Noted.{HasServedWith, MayLack};
+ghost use Rattle.ufs_held.specs.Asking.{Asks, IsAnswered, IsGuest, IsSyncReply};
+ghost use Rattle.ufs_held_names.specs.Asked.{IsNamedApart, IsNeeded, number_of};
+ghost use Rattle.ufs_held_names.specs.Asking.{AsksNames, IsAnsweredNames};
+ghost use Rattle.ufs_held_names.specs.Come.{IsNewborn, IsStillThere, commits_of, files_of, files_then};
+ghost use Rattle.ufs_held_names.specs.Dirs.{AsksDir, answered};
+ghost use Rattle.ufs_held_names.specs.Drawn.{names_then};
+ghost use Rattle.ufs_held_names.specs.HeldNames.{AreCommitted, HasNamesAlone, HoldsNames, first_names, noted_in};
+
+use crate::commits::{commit_lent, tell_lent};
+use crate::dirs::fsync_dir_lent;
+use crate::newborn::Newborn;
+use crate::serving::serve_any;
+use crate::syncs::fsync_lent;
+use std::marker::Model;
+use ufs_base::Memory;
+use ufs_bitmap::Pool;
+use ufs_held::HeldFile;
+use ufs_joint::{Hand, HandTable, Naming};
+use ufs_layout::Geometry;
+use ufs_model::{Actor, Ask, Desc, Entry};
+use ufs_noted::NotedNames;
+use ufs_store::StoreFault;
+use ufs_turns::Turns;
+
+/// The names as a server of session `N` holds them. Contracts see their cell.
+#[derive(Drop)]
+pub struct HeldNames<N: Naming> {
+    noted: NotedNames,
+    right: Hand<N>,
+}
+
+impl<N: Naming> Model for HeldNames<N> {
+    ghost use Rattle.std.specs.Prelude.{◌≡◌, []};
+    ghost use Rattle.ufs_joint.specs.Cells.{NamesCell};
+    ghost use Rattle.ufs_joint.specs.Codes.{names_code};
+    ghost use Rattle.ufs_held_names.specs.HeldNames.{HoldsNames, first_names};
+
+    ghost Value = { NamesCell };
+
+    ghost coded = { names_code };
+
+    ghost view = { λ h. first_names h.noted h.right.names };
+
+    ghost invariant = { λ h. HoldsNames h.noted h.right × (h.right.faults ≡ []) };
+}
+
+/// What a request of the names was answered, the hand that came with it, and the file that it touched, if that is still there, or the
+/// one that it made.
+#[derive(Drop)]
+pub struct NamesServed<N: Naming> {
+    pub entry: Entry,
+    /// What the request's descriptor stands for afterwards.
+    pub desc: Option<Desc>,
+    pub guest: Hand<N>,
+    pub file: Option<HeldFile<N>>,
+    pub made: Option<Newborn<N>>,
+}
+
+/// What an `fsync` was answered, the hand that came with it, and the file.
+#[derive(Drop)]
+pub struct FileSynced<N: Naming> {
+    pub entry: Entry,
+    /// What the request's descriptor stands for, as before.
+    pub desc: Option<Desc>,
+    pub guest: Hand<N>,
+    pub file: HeldFile<N>,
+}
+
+/// What an `fsync` of a directory was answered, and the hand that came with it.
+#[derive(Drop)]
+pub struct NamesSynced<N: Naming> {
+    pub entry: Entry,
+    pub guest: Hand<N>,
+}
+
+impl<N: Naming> HeldNames<N> {
+    pub fn new(noted: NotedNames, right: Hand<N>) -> HeldNames<N>
+        requires held { HoldsNames noted right }
+        requires calm { right.faults ≡ [] }
+        ensures { result ≡ first_names noted right.names }
+    {
+        HeldNames { noted, right }
+    }
+
+    pub fn into_parts(self) -> (NotedNames, Hand<N>)
+        ensures noted { noted_in self ≡ result.0 }
+        ensures hand { HasNamesAlone self result.1 }
+        ensures calm { result.1.faults ≡ [] }
+    {
+        let HeldNames { noted, right } = self;
+        (noted, right)
+    }
+
+    /// The next file number.
+    pub fn next_number(&self) -> u32
+        ensures { result ≡ self.now.value.next }
+    {
+        self.noted.next_number()
+    }
+
+    /// The one live file that a request touches, if it does one: `serve` wants it. A `sync` touches all, and isn't asked for here.
+    pub fn needed(&self, ask: &Ask) -> Result<Option<u32>, Memory>
+        requires client { ask.now.client < 16 }
+        requires kind { IsOfNames ask.now }
+        requires one { ask.now.op ≢ op.Sync }
+        ensures { IfOk result (IsNeeded self.now.value ask.now) }
+    {
+        self.noted.needed(ask)
+    }
+
+    /// Serves a request of the names that commits nothing, with the one live file that it touches, if it does one: draws its entry, and
+    /// gives the file back, if it is still there, or the one that the request made. The hand that comes with it has its client and the
+    /// server's pool; it goes back with one more entry. An excuse leaves all as it was.
+    pub fn serve(
+        &mut self,
+        table: &HandTable<N>,
+        ask: Ask,
+        guest: Hand<N>,
+        by: Actor,
+        pool: &mut Pool,
+        file: Option<HeldFile<N>>,
+        geometry: &Geometry,
+    ) -> NamesServed<N>
+        requires formed { IsGeometry geometry.now }
+        requires its { geometry.now ≡ N.start.geometry }
+        requires guest { (part : ClientPart) × (n : ℕ) × IsGuest ask.client part n pool.old guest × AsksNames part ask × IsNamedApart n self.old.value.next file }
+        requires numbers { self.old.value.next < 2 ^ 31 }
+        requires needed { IsNeeded self.old.value ask (number_of file) }
+        ensures entry { IsEntryOf ask by result.entry.ticket result.entry }
+        ensures guest { (part : ClientPart) (n : ℕ) → IsGuest ask.client part n pool.old guest → IsNamedApart n self.old.value.next file → (after : ClientPart) × IsAnsweredNames part result.entry result.desc after × IsGuest ask.client after n pool.new result.guest }
+        ensures served { is_excused result.entry.reply ≡ false → HasServedWith ask (noted_in self.old) (noted_in self.new) (files_of file) (files_then result.file result.made) (commits_of file) (commits_of result.file) pool.old pool.new (number_of file) result.entry.reply result.desc }
+        ensures names { is_excused result.entry.reply ≡ false → self.new ≡ names_then (noted_in self.new) result.entry.ticket self.old }
+        ensures file { is_excused result.entry.reply ≡ false → IfSome result.file (IsStillThere result.entry.ticket file) }
+        ensures made { IfSome result.made (IsNewborn self.old.value.next result.entry.ticket) }
+        ensures cause { (x : Excuse) → result.entry.reply ≡ reply.Excused x → (lent : BlockSet) × MayLack pool.old lent x × IsCause self.old.value.tree.dirs lent ask.op x }
+        ensures kept { is_excused result.entry.reply ≡ true → self.new ≡ self.old }
+        ensures kept_file { is_excused result.entry.reply ≡ true → result.file ≡ file }
+        ensures none_made { is_excused result.entry.reply ≡ true → result.made ≡ None }
+        ensures untaken { is_excused result.entry.reply ≡ true → pool.new ≡ pool.old }
+        ensures desc { is_excused result.entry.reply ≡ true → result.desc ≡ ask.desc }
+        // no fault that the guest was told before excuses it
+        ensures faults { result.guest.faults ≡ guest.faults }
+        ensures later { guest.seen ≤ result.entry.ticket }
+        ensures seen { result.guest.seen ≡ suc result.entry.ticket }
+    {
+        let HeldNames { noted, right } = self;
+        serve_any(table, right, noted, ask, guest, by, pool, file, geometry)
+    }
+
+    /// Commits the names in one turn of the store. Where it passes, nothing is noted of them, and all that changed of them is known as
+    /// committed; else they are as they were, and the guest was told the fault by which it failed, or that the store has stopped.
+    pub fn commit<T: Turns<N>>(
+        &mut self,
+        table: &HandTable<N>,
+        guest: &mut Hand<N>,
+        door: &mut T,
+    ) -> Result<(), StoreFault>
+        requires bare { IsBare guest.old }
+        ensures bare { IsBare guest.new }
+        ensures beside { IsBeside guest.old guest.new }
+        ensures ok { OnOk result (AreCommitted N.start.is_visible self.old self.new) }
+        ensures err { OnErr result (self.new ≡ self.old) }
+        ensures faults { guest.new.faults ≡ told_list (fault_told (fault_in result)) ++ guest.old.faults }
+        ensures stop { (fault : ℕ) → result ≡ Err (refusal.Stopped fault) → guest.new.stop ≡ Some fault }
+        ensures free { AreTold (T.tells door.old) (T.tells door.new) (λ had has. has ≡ had) }
+        ensures telling { is_some (T.tells door.new) ≡ is_some (T.tells door.old) }
+        ensures halts { StopsByFault (T.tells door.old) (T.tells door.new) (fault_in result) }
+        ensures halted { TellsStop (T.tells door.old) result }
+        ensures refused { IfErr result (λ fault. is_no_space fault ≡ false) }
+    {
+        let HeldNames { noted, right } = self;
+        commit_lent(table, right, noted, guest, door)
+    }
+
+    /// Tells a file its birth, where the names know it as committed. Takes no memory.
+    pub fn tell_born(&mut self, table: &HandTable<N>, file: &mut HeldFile<N>, geometry: &Geometry)
+        requires formed { IsGeometry geometry.now }
+        requires its { geometry.now ≡ N.start.geometry }
+        ensures same { self.new ≡ self.old }
+        ensures told { file.new ≡ record file.old { born = file.old.born || set.contains self.old.named file.old.value.file.file } }
+    {
+        let HeldNames { noted, right } = self;
+        tell_lent(table, right, noted, file, geometry)
+    }
+
+    /// Serves an `fsync` of a file: commits the names, tells the file its birth, and commits it, each in a turn of the store, and
+    /// acknowledges. Where a commit fails, the request is excused by the fault or by the stop of the store, and the file is as it was,
+    /// but that it may know its birth.
+    pub fn fsync<T: Turns<N>>(
+        &mut self,
+        table: &HandTable<N>,
+        ask: Ask,
+        guest: Hand<N>,
+        by: Actor,
+        file: HeldFile<N>,
+        door: &mut T,
+        geometry: &Geometry,
+    ) -> FileSynced<N>
+        requires formed { IsGeometry geometry.now }
+        requires its { geometry.now ≡ N.start.geometry }
+        requires guest { (part : ClientPart) × (n : ℕ) × (pool : BlockSet) × IsGuest ask.client part n pool guest × Asks part ask × (n ≢ file.value.file.file) }
+        requires fsync { (fd : ℕ) × (ask.op ≡ op.Fsync fd) }
+        requires named { IsOf ask.desc file.value.file.file }
+        ensures entry { IsEntryOf ask by result.entry.ticket result.entry }
+        ensures replied { IsSyncReply result.entry.reply }
+        ensures desc { result.desc ≡ ask.desc }
+        ensures guest { (part : ClientPart) (n : ℕ) (pool : BlockSet) → IsGuest ask.client part n pool guest → n ≢ file.value.file.file → (after : ClientPart) × IsAnswered part result.entry result.desc after × IsGuest ask.client after n pool result.guest }
+        ensures names { result.entry.reply ≡ reply.Done → AreCommitted N.start.is_visible self.old self.new }
+        ensures committed { result.entry.reply ≡ reply.Done → result.file.value ≡ file_committed file.value }
+        ensures known { result.entry.reply ≡ reply.Done → N.start.is_visible ≡ true → result.file.changed ≤ result.file.known }
+        ensures born { result.entry.reply ≡ reply.Done → result.file.born ≡ true }
+        ensures rest { result.file ≡ record file { value = result.file.value; known = result.file.known; born = result.file.born } }
+        ensures kept { is_excused result.entry.reply ≡ true → result.file ≡ record file { born = result.file.born } }
+        ensures kept_names { is_excused result.entry.reply ≡ true → (self.new ≡ self.old) ⊎ AreCommitted N.start.is_visible self.old self.new }
+        // no fault that the guest was told before excuses it, and a stop is the store's
+        ensures faults { result.guest.faults ≡ guest.faults }
+        ensures stop { (fault : ℕ) → result.entry.reply ≡ reply.Excused (excuse.Stopped fault) → result.guest.stop ≡ Some fault }
+        ensures freed { result.entry.reply ≡ reply.Done → AreTold (T.tells door.old) (T.tells door.new) (λ had has. has ≡ set.union had (set_of file.value.dropped)) }
+        ensures unfreed { is_excused result.entry.reply ≡ true → AreTold (T.tells door.old) (T.tells door.new) (λ had has. has ≡ had) }
+        ensures telling { is_some (T.tells door.new) ≡ is_some (T.tells door.old) }
+        ensures later { guest.seen ≤ result.entry.ticket }
+        ensures seen { result.guest.seen ≡ suc result.entry.ticket }
+    {
+        let HeldNames { noted, right } = self;
+        fsync_lent(table, right, noted, ask, guest, by, file, door, geometry)
+    }
+    /// Serves an `fsync` of a directory: commits the names in one turn of the store, and acknowledges. Where that fails, the request is
+    /// excused by the fault or by the stop of the store, and the names are as they were.
+    pub fn fsync_dir<T: Turns<N>>(
+        &mut self,
+        table: &HandTable<N>,
+        ask: Ask,
+        guest: Hand<N>,
+        by: Actor,
+        door: &mut T,
+    ) -> NamesSynced<N>
+        requires guest { (part : ClientPart) × (n : ℕ) × (pool : BlockSet) × IsGuest ask.client part n pool guest × AsksDir part ask }
+        ensures entry { IsEntryOf ask by result.entry.ticket result.entry }
+        ensures replied { IsSyncReply result.entry.reply }
+        ensures guest { (part : ClientPart) (n : ℕ) (pool : BlockSet) → IsGuest ask.client part n pool guest → IsGuest ask.client (answered part result.entry) n pool result.guest }
+        ensures names { result.entry.reply ≡ reply.Done → AreCommitted N.start.is_visible self.old self.new }
+        ensures kept { is_excused result.entry.reply ≡ true → self.new ≡ self.old }
+        // no fault that the guest was told before excuses it, and a stop is the store's
+        ensures faults { result.guest.faults ≡ guest.faults }
+        ensures stop { (fault : ℕ) → result.entry.reply ≡ reply.Excused (excuse.Stopped fault) → result.guest.stop ≡ Some fault }
+        ensures free { AreTold (T.tells door.old) (T.tells door.new) (λ had has. has ≡ had) }
+        ensures telling { is_some (T.tells door.new) ≡ is_some (T.tells door.old) }
+        ensures later { guest.seen ≤ result.entry.ticket }
+        ensures seen { result.guest.seen ≡ suc result.entry.ticket }
+    {
+        let HeldNames { noted, right } = self;
+        fsync_dir_lent(table, right, noted, ask, guest, by, door)
+    }
+}

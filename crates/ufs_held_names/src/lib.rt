@@ -1,0 +1,14 @@
+//! The names at a server, with the right to their cell: requests on them are served with the files that they touch, drawn, and answered;
+//! and they are committed in turns of the store.
+#![tactic(auto)]
+
+mod commits;
+mod dirs;
+mod draws;
+mod held_names;
+mod newborn;
+mod serving;
+mod syncs;
+
+pub use held_names::{FileSynced, HeldNames, NamesServed, NamesSynced};
+pub use newborn::Newborn;
