@@ -1,6 +1,6 @@
 #!/usr/bin/env python3
 """Asks what an audit costs: the processor time of `ufs audit` on what 65,536 requests of sixteen clients print, beside that of
-`ufs play` on their script.
+`ufs play` on their script; and the same of the workload of `ufs bench 1`.
 
 Run it by hand, from any folder: python3 bench/audit.py [FOLDER [PROGRAM]]
 FOLDER (default /dev/shm) is where scripts, texts and images are made and removed again; PROGRAM is a build of `ufs`, by default
@@ -15,6 +15,8 @@ import shutil
 import subprocess
 import sys
 import tempfile
+
+import workload
 
 TOP = os.path.dirname(os.path.dirname(os.path.abspath(__file__)))
 CLIENTS = 16
@@ -54,6 +56,14 @@ def script(count):
     for client in range(CLIENTS):
         lines += ["client %d" % client] + requests(client, count // CLIENTS)
     return "\n".join(lines + ["end"]) + "\n"
+
+
+def benched(folder):
+    """The script of `ufs bench 1`."""
+    path = os.path.join(folder, "workload")
+    workload.script(path, workload.workload(1))
+    with open(path) as f:
+        return f.read()
 
 
 class Session:
@@ -98,16 +108,16 @@ class Session:
         return used
 
 
-def row(program, folder, count):
-    """The times of so many requests, and how many times as long the audit takes."""
-    session = Session(program, folder, script(count))
+def row(program, folder, name, text):
+    """The times of a script, and how many times as long the audit takes."""
+    session = Session(program, folder, text)
     session.print_whole()
     played, audited = float("inf"), float("inf")
     for _ in range(RUNS):
         played = min(played, session.play(["play"]))
         audited = min(audited, session.audit())
     size = os.path.getsize(session.whole)
-    print("%6d requests, %8d bytes to audit: play %7.3f s, audit %7.3f s, %.2f times" % (count, size, played, audited, audited / played), flush=True)
+    print("%s, %8d bytes to audit: play %7.3f s, audit %7.3f s, %.2f times" % (name, size, played, audited, audited / played), flush=True)
     return audited / played
 
 
@@ -117,7 +127,8 @@ def main():
     if len(sys.argv) < 3:
         subprocess.run([program], stdin=subprocess.DEVNULL, stdout=subprocess.DEVNULL)  # builds it where it isn't there
     with tempfile.TemporaryDirectory(dir=base) as folder:
-        times = [row(program, folder, count) for count in (16384, 65536)]
+        times = [row(program, folder, "%6d requests" % count, script(count)) for count in (16384, 65536)]
+        times.append(row(program, folder, "ufs bench 1", benched(folder)))
     if max(times) > MOST:
         print("an audit takes MORE THAN %d TIMES as long as play" % MOST)
         return 1

@@ -21,7 +21,7 @@ LABEL = 524_287 * 512  # where the label of a file stands
 CALL = re.compile(r'(pread64|pwrite64|fsync)\(\d+<([^>]*)>(?:, (?:""|NULL)(?:\.\.\.)?, (\d+), (\d+))?\)\s+= ')
 
 SYNCED = ["open /log w creat append"] + ["write 3 100*61", "fsync 3"] * 200
-LARGE = ["open /large rw creat", "write 3 4000000*61", "fsync 3", "trunc 3 1000000", "fsync 3", "pread 3 1000000 0"]
+LARGE = ["open /large rw creat", *["write 3 1000000*61"] * 4, "fsync 3", "trunc 3 1000000", "fsync 3", "pread 3 1000000 0"]
 NAMES = ["mkdir /d"] + [line for n in range(100) for line in ("open /d/f%d w creat" % n, "write 3 61", "close 3", "sync")]
 SESSIONS = (("200 appends with an fsync each", SYNCED), ("one large file", LARGE), ("100 new files with a sync each", NAMES))
 
