@@ -56,6 +56,8 @@ pub record IsTold (k : Start) (entry : Entry) (desc : Option Desc) (owner : Opti
   pub unowned : fd_told entry.op entry.reply ≡ None → owner ≡ None
   pub there : (a : Actor) → owner ≡ Some a → IsServerThere k a
   pub granted : (l : Lease) → lease ≡ Some l → Has l self.copies
+  -- none is granted yet: so there is no copy of any
+  pub unleased : self.copies ≡ []
 
 -- The request may go there.
 pub record IsSent (k : Start) (request : Asked) (to : Actor) : Type 0 where

@@ -1,5 +1,5 @@
 // Whose an answer is.
-ghost use Rattle.std.specs.Prelude.{◌≡◌, true};
+ghost use Rattle.std.specs.Prelude.{◌≡◌, false, true};
 ghost use Rattle.ufs_msg.specs.Addressed.{IsAnswerTo};
 ghost use Rattle.ufs_msg.specs.There.{IsClientThere};
 
@@ -19,7 +19,8 @@ impl<N: Naming> Answer<N> {
     }
 
     pub fn is_to(&self, client: u8) -> bool
-        ensures { result ≡ true → IsAnswerTo client self.now }
+        ensures yes { result ≡ true → IsAnswerTo client self.now }
+        ensures no { result ≡ false → IsAnswerTo client self.now → ⊥ }
     {
         match self {
             Answer::Served(served) => served.client() == client,
