@@ -1,5 +1,5 @@
 // The store, and the hand of the store's cell.
-ghost use Rattle.std.specs.Prelude.{ℕ, ◌≡◌, ◌≤◌, ◌∷◌, ◌++◌, [], true, false, Ok, Err, Some, IfErr, IsTrue, OnOk, OnErr, length};
+ghost use Rattle.std.specs.Prelude.{ℕ, ◌≡◌, ◌≤◌, ◌<◌, ◌+◌, ◌∷◌, ◌++◌, [], true, false, Ok, Err, Some, IfErr, IsTrue, OnOk, OnErr, length};
 ghost use Rattle.std.specs.FinSet as set;
 ghost use Rattle.ufs_bitmap.specs.Taking.{set_of};
 ghost use Rattle.ufs_layout.specs.Areas.{IsGeometry};
@@ -21,6 +21,7 @@ use crate::commits::commit_lent;
 use crate::space::{checkpoint_lent, give_lent, take_lent};
 use crate::syncs::{sync_store, told_by, told_of};
 use std::marker::{Brand, Model};
+use std::sync::ledger::{Book, Ledger, Share};
 use ufs_bitmap::Pool;
 use ufs_durable::{FileCommits, fetch};
 use ufs_file::FileHand;
@@ -33,14 +34,16 @@ use ufs_names::Names;
 use ufs_on_disk::file_sync_law;
 use ufs_store::{Door, StoreFault};
 
-/// A store, and the hand of the store's cell of session `N`, which goes with it. Contracts see the hand.
+/// A store, and the hand of the store's cell of session `N`, which goes with it. Contracts see the hand. The book counts the checkpoints
+/// that the store made, and the wishes for blocks that it couldn't meet: each in the share of the way by which it was asked.
 #[derive(Drop)]
-pub struct HeldStore<N: Naming, D: Door> {
+pub struct HeldStore<N: Naming, D: Door, L: Ledger> {
     hand: Hand<N>,
     store: D,
+    book: Book<L>,
 }
 
-impl<N: Naming, D: Door> Model for HeldStore<N, D> {
+impl<N: Naming, D: Door, L: Ledger> Model for HeldStore<N, D, L> {
     ghost use Rattle.ufs_joint.specs.Codes.{view_code};
     ghost use Rattle.ufs_joint.specs.Cells.{View};
     ghost use Rattle.ufs_turns.specs.HeldStore.{IsHeldStore};
@@ -54,13 +57,13 @@ impl<N: Naming, D: Door> Model for HeldStore<N, D> {
     ghost invariant = { λ h. (D.stamps → ⊥) × IsHeldStore N.start D.visible D.keeps h.hand (D.store h.store) };
 }
 
-impl<N: Naming, D: Door> HeldStore<N, D> {
-    pub fn new(hand: Hand<N>, store: D) -> HeldStore<N, D>
+impl<N: Naming, D: Door, L: Ledger> HeldStore<N, D, L> {
+    pub fn new(hand: Hand<N>, store: D, book: Book<L>) -> HeldStore<N, D, L>
         requires plain { D.stamps → ⊥ }
         requires home { IsHeldStore N.start D.visible D.keeps hand (D.store store) }
         ensures { result ≡ hand }
     {
-        HeldStore { hand, store }
+        HeldStore { hand, store, book }
     }
 
     /// Ends the turns.
@@ -68,7 +71,7 @@ impl<N: Naming, D: Door> HeldStore<N, D> {
         ensures hand { result.0 ≡ self }
         ensures home { IsHeldStore N.start D.visible D.keeps result.0 (D.store result.1) }
     {
-        let HeldStore { hand, store } = self;
+        let HeldStore { hand, store, .. } = self;
         (hand, store)
     }
 
@@ -95,7 +98,11 @@ impl<N: Naming, D: Door> HeldStore<N, D> {
         ensures halted { (fault : ℕ) → stop_in self.old.store ≡ Some fault → result ≡ Err (refusal.Stopped fault) }
         ensures refused { IfErr result (λ fault. is_no_space fault ≡ false) }
     {
-        let HeldStore { hand: own, store } = self;
+        let HeldStore {
+            hand: own,
+            store,
+            ..
+        } = self;
         lend(table, own, hand);
         let synced = sync_lent(table, hand, store, file, commits);
         give_back(table, own, hand);
@@ -123,7 +130,11 @@ impl<N: Naming, D: Door> HeldStore<N, D> {
         ensures faults { hand.new.faults ≡ told_list (fault_told (fault_in result)) ++ hand.old.faults }
         ensures refused { IfErr result (λ fault. IsTrue (is_own fault)) }
     {
-        let HeldStore { hand: own, store } = self;
+        let HeldStore {
+            hand: own,
+            store,
+            ..
+        } = self;
         lend(table, own, hand);
         let read = fetch_lent(table, hand, store, file, commits, op, desc);
         give_back(table, own, hand);
@@ -154,7 +165,11 @@ impl<N: Naming, D: Door> HeldStore<N, D> {
         ensures halted { (fault : ℕ) → stop_in self.old.store ≡ Some fault → result ≡ Err (refusal.Stopped fault) }
         ensures refused { IfErr result (λ fault. is_no_space fault ≡ false) }
     {
-        let HeldStore { hand: own, store } = self;
+        let HeldStore {
+            hand: own,
+            store,
+            ..
+        } = self;
         lend(table, own, hand);
         let committed = commit_lent(table, hand, store, names, fresh);
         give_back(table, own, hand);
@@ -168,7 +183,9 @@ impl<N: Naming, D: Door> HeldStore<N, D> {
         hand: &mut Hand<N>,
         pool: &mut Pool,
         missing: u32,
+        share: &mut Share<L>,
     ) -> Result<(), StoreFault>
+        requires part { 0 < share.old.parts }
         requires lent { (name : ℕ) × LendsPool name pool.old hand.old }
         ensures lent { (name : ℕ) → LendsPool name pool.old hand.old → LendsPool name pool.new hand.new }
         ensures beside { IsBesidePools hand.old hand.new }
@@ -176,11 +193,19 @@ impl<N: Naming, D: Door> HeldStore<N, D> {
         ensures lacks { IfErr result (LacksBlocks missing (set.len (free_in self.old.store))) }
         ensures kept { OnErr result (pool.new ≡ pool.old) }
         ensures same { OnErr result (free_in self.new.store ≡ free_in self.old.store) }
+        ensures met { OnOk result (share.new.amount ≡ share.old.amount) }
+        ensures unmet { OnErr result (share.new.amount ≡ share.old.amount + 1) }
+        ensures parts { share.new.parts ≡ share.old.parts }
     {
-        let HeldStore { hand: own, store } = self;
+        let HeldStore {
+            hand: own,
+            store,
+            book,
+        } = self;
         lend(table, own, hand);
         let given = give_lent(table, hand, store, pool, missing);
         give_back(table, own, hand);
+        count_unmet(book, share, &given);
         given
     }
 
@@ -192,14 +217,24 @@ impl<N: Naming, D: Door> HeldStore<N, D> {
         ensures back { free_in self.new.store ≡ set.union (free_in self.old.store) pool.old }
         ensures none { pool.new ≡ set.empty }
     {
-        let HeldStore { hand: own, store } = self;
+        let HeldStore {
+            hand: own,
+            store,
+            ..
+        } = self;
         lend(table, own, hand);
         take_lent(table, hand, store, pool);
         give_back(table, own, hand);
     }
 
     /// Makes a checkpoint, as `Turns` says: the whole journal is free then.
-    pub fn checkpoint(&mut self, table: &HandTable<N>, hand: &mut Hand<N>) -> Result<(), StoreFault>
+    pub fn checkpoint(
+        &mut self,
+        table: &HandTable<N>,
+        hand: &mut Hand<N>,
+        share: &mut Share<L>,
+    ) -> Result<(), StoreFault>
+        requires part { 0 < share.old.parts }
         requires bare { IsBare hand.old }
         ensures emptied { OnOk result (used_in self.new.store ≡ 0) }
         ensures free { free_in self.new.store ≡ free_in self.old.store }
@@ -210,12 +245,46 @@ impl<N: Naming, D: Door> HeldStore<N, D> {
         ensures halts { stop_in self.new.store ≡ stop_after (stop_in self.old.store) (fault_in result) }
         ensures halted { (fault : ℕ) → stop_in self.old.store ≡ Some fault → result ≡ Err (refusal.Stopped fault) }
         ensures refused { IfErr result (λ fault. is_no_space fault ≡ false) }
+        ensures made { OnOk result (share.new.amount ≡ share.old.amount + 1) }
+        ensures unmade { OnErr result (share.new.amount ≡ share.old.amount) }
+        ensures parts { share.new.parts ≡ share.old.parts }
     {
-        let HeldStore { hand: own, store } = self;
+        let HeldStore {
+            hand: own,
+            store,
+            book,
+        } = self;
         lend(table, own, hand);
         let made = checkpoint_lent(table, hand, store);
         give_back(table, own, hand);
+        count_made(book, share, &made);
         made
+    }
+}
+
+// A checkpoint that was made is counted.
+fn count_made<L: Ledger>(book: &mut Book<L>, share: &mut Share<L>, made: &Result<(), StoreFault>)
+    requires { 0 < share.old.parts }
+    ensures made { OnOk made.now (share.new.amount ≡ share.old.amount + 1) }
+    ensures unmade { OnErr made.now (share.new.amount ≡ share.old.amount) }
+    ensures parts { share.new.parts ≡ share.old.parts }
+{
+    match made {
+        Ok(()) => book.add(share, 1),
+        Err(_) => {}
+    }
+}
+
+// A wish for blocks that wasn't met is counted.
+fn count_unmet<L: Ledger>(book: &mut Book<L>, share: &mut Share<L>, given: &Result<(), StoreFault>)
+    requires { 0 < share.old.parts }
+    ensures met { OnOk given.now (share.new.amount ≡ share.old.amount) }
+    ensures unmet { OnErr given.now (share.new.amount ≡ share.old.amount + 1) }
+    ensures parts { share.new.parts ≡ share.old.parts }
+{
+    match given {
+        Ok(()) => {}
+        Err(_) => book.add(share, 1),
     }
 }
 

@@ -1,4 +1,4 @@
-ghost use Rattle.std.specs.Prelude.{ℕ, ◌≡◌, ◌++◌, [], true, false, Ok, Err, Option, Some, IfErr, IfSome, IsTrue, OnOk, OnErr, is_some, length};
+ghost use Rattle.std.specs.Prelude.{ℕ, ◌≡◌, ◌+◌, ◌++◌, [], true, false, Ok, Err, Option, Some, IfErr, IfSome, IsTrue, OnOk, OnErr, is_some, length};
 ghost use Rattle.std.specs.FinSet as set;
 ghost use Rattle.ufs_bitmap.specs.Blocks.{BlockSet};
 ghost use Rattle.ufs_bitmap.specs.Taking.{set_of};
@@ -28,6 +28,10 @@ pub trait Turns<N: Naming> {
     /// The store's own hand, where nobody else comes to the store between two turns.
     ghost tells: { Self → Option View };
 
+    /// How many answers the store has given to this way that no cell of a lent hand shows: checkpoints that it made, and wishes for
+    /// blocks that it couldn't meet. The store alone counts them, so no way answers so without a turn.
+    ghost answers: { Self → ℕ };
+
     /// Commits a file whose birth is known as committed: the whole of its `fsync`. Where it passes, all that changed of the file is
     /// known as committed; else the hand has what it had, and was told the fault by which it failed, or that the store has stopped.
     fn sync_file(
@@ -46,6 +50,7 @@ pub trait Turns<N: Naming> {
         ensures freed { OnOk result (AreTold (tells self.old) (tells self.new) (λ had has. has ≡ set.union had (set_of commits.old.dropped))) }
         ensures unfreed { OnErr result (AreTold (tells self.old) (tells self.new) (λ had has. has ≡ had)) }
         ensures telling { is_some (tells self.new) ≡ is_some (tells self.old) }
+        ensures answers { answers self.new ≡ answers self.old }
         ensures faults { hand.new.faults ≡ told_list (fault_told (fault_in result)) ++ hand.old.faults }
         ensures stop { (fault : ℕ) → result ≡ Err (refusal.Stopped fault) → hand.new.stop ≡ Some fault }
         ensures halts { StopsByFault (tells self.old) (tells self.new) (fault_in result) }
@@ -70,6 +75,7 @@ pub trait Turns<N: Naming> {
         ensures nothing { HasNeeded file.old.content desc op.now → (file.new ≡ file.old) × (result ≡ Ok tt) }
         ensures free { AreTold (tells self.old) (tells self.new) (λ had has. has ≡ had) }
         ensures telling { is_some (tells self.new) ≡ is_some (tells self.old) }
+        ensures answers { answers self.new ≡ answers self.old }
         ensures beside { IsBeside hand.old hand.new }
         ensures faults { hand.new.faults ≡ told_list (fault_told (fault_in result)) ++ hand.old.faults }
         ensures refused { IfErr result (λ fault. IsTrue (is_own fault)) };
@@ -94,6 +100,7 @@ pub trait Turns<N: Naming> {
         ensures unspent { OnErr result (fresh.new.items ≡ fresh.old.items) }
         ensures free { AreTold (tells self.old) (tells self.new) (λ had has. has ≡ had) }
         ensures telling { is_some (tells self.new) ≡ is_some (tells self.old) }
+        ensures answers { answers self.new ≡ answers self.old }
         ensures faults { hand.new.faults ≡ told_list (fault_told (fault_in result)) ++ hand.old.faults }
         ensures stop { (fault : ℕ) → result ≡ Err (refusal.Stopped fault) → hand.new.stop ≡ Some fault }
         ensures halts { StopsByFault (tells self.old) (tells self.new) (fault_in result) }
@@ -116,7 +123,9 @@ pub trait Turns<N: Naming> {
         ensures kept { OnErr result (pool.new ≡ pool.old) }
         ensures lowest { OnOk result (AreTold (tells self.old) (tells self.new) (λ had left. GainsBlocks missing had left pool.old pool.new)) }
         ensures fewer { IfErr result (λ fault. AreTold (tells self.old) (tells self.new) (λ had left. LacksBlocks missing (set.len had) fault × (left ≡ had))) }
-        ensures telling { is_some (tells self.new) ≡ is_some (tells self.old) };
+        ensures telling { is_some (tells self.new) ≡ is_some (tells self.old) }
+        ensures met { OnOk result (answers self.new ≡ answers self.old) }
+        ensures unmet { OnErr result (answers self.new ≡ answers self.old + 1) };
 
     /// Every block of a pool is unassigned again. No call of the disk.
     fn take_back(&mut self, hand: &mut Hand<N>, pool: &mut Pool)
@@ -125,7 +134,8 @@ pub trait Turns<N: Naming> {
         ensures beside { IsBesidePools hand.old hand.new }
         ensures none { pool.new ≡ set.empty }
         ensures back { AreTold (tells self.old) (tells self.new) (λ had has. has ≡ set.union had pool.old) }
-        ensures telling { is_some (tells self.new) ≡ is_some (tells self.old) };
+        ensures telling { is_some (tells self.new) ≡ is_some (tells self.old) }
+        ensures answers { answers self.new ≡ answers self.old };
 
     /// Writes home all that is committed, and begins the next epoch with the whole journal. The hand that is lent has no file; it was
     /// told the fault where the disk failed, or that the store has stopped.
@@ -134,6 +144,8 @@ pub trait Turns<N: Naming> {
         ensures emptied { OnOk result (IfSome (tells self.new) (λ v. used_in v.store ≡ 0)) }
         ensures free { AreTold (tells self.old) (tells self.new) (λ had has. has ≡ had) }
         ensures telling { is_some (tells self.new) ≡ is_some (tells self.old) }
+        ensures made { OnOk result (answers self.new ≡ answers self.old + 1) }
+        ensures unmade { OnErr result (answers self.new ≡ answers self.old) }
         ensures bare { IsBare hand.new }
         ensures beside { IsBeside hand.old hand.new }
         ensures faults { hand.new.faults ≡ told_list (fault_told (fault_in result)) ++ hand.old.faults }

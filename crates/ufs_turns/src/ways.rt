@@ -1,5 +1,8 @@
 // Two ways to the store: straight, and by a lock.
+ghost use Rattle.std.specs.Prelude.{◌<◌};
+
 use crate::{HeldStore, Turns};
+use std::sync::ledger::{Ledger, Share};
 use std::sync::{Mutex, Wait};
 use ufs_bitmap::Pool;
 use ufs_durable::FileCommits;
@@ -11,15 +14,19 @@ use ufs_store::{Door, StoreFault};
 
 /// To a store that it borrows.
 #[derive(Drop)]
-pub struct Direct<'a, N: Naming, D: Door> {
+pub struct Direct<'a, N: Naming, D: Door, L: Ledger> {
     pub table: &'a HandTable<N>,
-    pub held: &'a mut HeldStore<N, D>,
+    pub held: &'a mut HeldStore<N, D, L>,
+    pub share: Share<L>,
+    pub ghost part: { 0 < share.parts },
 }
 
-impl<'a, N: Naming, D: Door> Turns<N> for Direct<'a, N, D> {
+impl<'a, N: Naming, D: Door, L: Ledger> Turns<N> for Direct<'a, N, D, L> {
     ghost use Rattle.std.specs.Prelude.{Some};
 
     ghost tells = { λ d. Some d.held.now };
+
+    ghost answers = { λ d. d.share.amount };
 
     fn sync_file(
         &mut self,
@@ -56,7 +63,8 @@ impl<'a, N: Naming, D: Door> Turns<N> for Direct<'a, N, D> {
         pool: &mut Pool,
         missing: u32,
     ) -> Result<(), StoreFault> {
-        self.held.give_pool(self.table, hand, pool, missing)
+        self.held
+            .give_pool(self.table, hand, pool, missing, &mut self.share)
     }
 
     fn take_back(&mut self, hand: &mut Hand<N>, pool: &mut Pool) {
@@ -64,22 +72,26 @@ impl<'a, N: Naming, D: Door> Turns<N> for Direct<'a, N, D> {
     }
 
     fn checkpoint(&mut self, hand: &mut Hand<N>) -> Result<(), StoreFault> {
-        self.held.checkpoint(self.table, hand)
+        self.held.checkpoint(self.table, hand, &mut self.share)
     }
 }
 
 /// To a store that threads share, for one call each. It may wait.
 #[derive(Drop)]
-pub struct Locked<'a, N: Naming, D: Door, R: Wait> {
+pub struct Locked<'a, N: Naming, D: Door, L: Ledger, R: Wait> {
     pub rt: &'a R,
     pub table: &'a HandTable<N>,
-    pub held: &'a Mutex<HeldStore<N, D>>,
+    pub held: &'a Mutex<HeldStore<N, D, L>>,
+    pub share: Share<L>,
+    pub ghost part: { 0 < share.parts },
 }
 
-impl<'a, N: Naming, D: Door, R: Wait> Turns<N> for Locked<'a, N, D, R> {
+impl<'a, N: Naming, D: Door, L: Ledger, R: Wait> Turns<N> for Locked<'a, N, D, L, R> {
     ghost use Rattle.std.specs.Prelude.{None};
 
     ghost tells = { λ d. None };
+
+    ghost answers = { λ d. d.share.amount };
 
     fn sync_file(
         &mut self,
@@ -124,7 +136,7 @@ impl<'a, N: Naming, D: Door, R: Wait> Turns<N> for Locked<'a, N, D, R> {
     ) -> Result<(), StoreFault> {
         self.held
             .lock(self.rt)
-            .give_pool(self.table, hand, pool, missing)
+            .give_pool(self.table, hand, pool, missing, &mut self.share)
     }
 
     fn take_back(&mut self, hand: &mut Hand<N>, pool: &mut Pool) {
@@ -132,6 +144,8 @@ impl<'a, N: Naming, D: Door, R: Wait> Turns<N> for Locked<'a, N, D, R> {
     }
 
     fn checkpoint(&mut self, hand: &mut Hand<N>) -> Result<(), StoreFault> {
-        self.held.lock(self.rt).checkpoint(self.table, hand)
+        self.held
+            .lock(self.rt)
+            .checkpoint(self.table, hand, &mut self.share)
     }
 }

@@ -1,6 +1,6 @@
 // A session over the root alone, of whose disk contracts say nothing: the store gives a pool blocks, takes them back, and makes a
 // checkpoint.
-ghost use Rattle.std.specs.Prelude.{ℕ, ◌≡◌, ◌+◌, [], length};
+ghost use Rattle.std.specs.Prelude.{ℕ, ◌≡◌, ◌<◌, ◌+◌, [], length};
 ghost use Rattle.std.specs.FinSet as set;
 ghost use Rattle.ufs_dir_tree.specs.DirTable.{dir_at, no_dir};
 ghost use Rattle.ufs_layout.specs.Areas.{IsGeometry};
@@ -12,6 +12,7 @@ ghost use Rattle.ufs_turns.specs.Lent.{IsBare, LendsPool};
 
 use std::alloc::Global;
 use std::marker::Brand;
+use std::sync::ledger::{Blank, Ledger, Share};
 use std::sync::{Mutex, Wait};
 use ufs_bitmap::Pool;
 use ufs_disk::Disk;
@@ -82,7 +83,8 @@ fn straight_on<D: Door + Drop>(alloc: Global, names: &Names, store: D, pool: Poo
     let Ok(opened) = Opened::open(alloc, parts) else {
         return None;
     };
-    Some(run::<Brand, D>(opened, &geometry, names, store, pool))
+    let blank = Blank::new(1);
+    Some(run::<Brand, D, Brand>(opened, &geometry, names, store, pool, blank))
 }
 
 // and behind a lock.
@@ -106,17 +108,22 @@ fn locked_on<D: Door + Drop, R: Wait>(
     let Ok(opened) = Opened::open(alloc, parts) else {
         return None;
     };
-    Some(run_locked::<Brand, D, R>(rt, opened, &geometry, names, store, pool))
+    let blank = Blank::new(1);
+    Some(run_locked::<Brand, D, Brand, R>(rt, opened, &geometry, names, store, pool, blank))
 }
 
-fn run<N: Naming, D: Door + Drop>(
+fn run<N: Naming, D: Door + Drop, L: Ledger>(
     opened: Opened,
     geometry: &Geometry,
     names: &Names,
     store: D,
     mut pool: Pool,
+    blank: Blank,
 ) -> Ended
     requires plain { D.stamps → ⊥ }
+    requires ledger { blank.name ≡ L.name }
+    requires parts { blank.parts ≡ L.parts }
+    requires one { blank.parts ≡ 1 }
     requires name { (opened.table ≡ N.table) × (opened.start ≡ N.start) }
     requires start { N.start ≡ small_start names.now (D.store store) }
     requires formed { geometry_of_store (D.store store) ≡ small }
@@ -126,10 +133,11 @@ fn run<N: Naming, D: Door + Drop>(
     requires its { geometry.now ≡ N.start.geometry }
 {
     let Begun { table, mut hand } = opened.named::<N>();
+    let (book, share) = blank.open::<L>();
     let own = hand.split(&table, PartName::Store);
-    let mut held = HeldStore::new(own, store);
+    let mut held = HeldStore::new(own, store, book);
     let mut lent = hand.split(&table, PartName::File(0));
-    let told = turns_straight(&table, &mut held, &mut lent, &mut pool);
+    let told = turns_straight(&table, &mut held, &mut lent, &mut pool, share);
     let (own, store) = held.into_parts();
     drop(store);
     hand.join(&table, lent);
@@ -138,15 +146,19 @@ fn run<N: Naming, D: Door + Drop>(
     Ended { tickets, told }
 }
 
-fn run_locked<N: Naming, D: Door + Drop, R: Wait>(
+fn run_locked<N: Naming, D: Door + Drop, L: Ledger, R: Wait>(
     rt: &R,
     opened: Opened,
     geometry: &Geometry,
     names: &Names,
     store: D,
     mut pool: Pool,
+    blank: Blank,
 ) -> Ended
     requires plain { D.stamps → ⊥ }
+    requires ledger { blank.name ≡ L.name }
+    requires parts { blank.parts ≡ L.parts }
+    requires one { blank.parts ≡ 1 }
     requires name { (opened.table ≡ N.table) × (opened.start ≡ N.start) }
     requires start { N.start ≡ small_start names.now (D.store store) }
     requires formed { geometry_of_store (D.store store) ≡ small }
@@ -156,10 +168,11 @@ fn run_locked<N: Naming, D: Door + Drop, R: Wait>(
     requires its { geometry.now ≡ N.start.geometry }
 {
     let Begun { table, mut hand } = opened.named::<N>();
+    let (book, share) = blank.open::<L>();
     let own = hand.split(&table, PartName::Store);
-    let held = Mutex::new(HeldStore::new(own, store));
+    let held = Mutex::new(HeldStore::new(own, store, book));
     let mut lent = hand.split(&table, PartName::File(0));
-    let told = turns_locked(rt, &table, &held, &mut lent, &mut pool);
+    let told = turns_locked(rt, &table, &held, &mut lent, &mut pool, share);
     let (own, store) = held.into_inner().into_parts();
     drop(store);
     hand.join(&table, lent);
@@ -169,12 +182,14 @@ fn run_locked<N: Naming, D: Door + Drop, R: Wait>(
 }
 
 // The turns by the way that borrows the store,
-fn turns_straight<N: Naming, D: Door>(
-    table: &HandTable<N>,
-    held: &mut HeldStore<N, D>,
+fn turns_straight<'a, N: Naming, D: Door, L: Ledger>(
+    table: &'a HandTable<N>,
+    held: &'a mut HeldStore<N, D, L>,
     hand: &mut Hand<N>,
     pool: &mut Pool,
+    share: Share<L>,
 ) -> Told
+    requires part { 0 < share.parts }
     requires lent { (name : ℕ) × LendsPool name pool.old hand.old }
     requires files { hand.old.files ≡ [] }
     requires names { hand.old.names ≡ [] }
@@ -182,18 +197,20 @@ fn turns_straight<N: Naming, D: Door>(
     ensures clients { hand.new.clients ≡ hand.old.clients }
     ensures pool { (name : ℕ) → LendsPool name pool.old hand.old → LendsPool name pool.new hand.new }
 {
-    let mut door = Direct { table, held };
+    let mut door = Direct { table, held, share };
     take_turns(&mut door, hand, pool)
 }
 
 // and by the one behind a lock.
-fn turns_locked<N: Naming, D: Door, R: Wait>(
+fn turns_locked<N: Naming, D: Door, L: Ledger, R: Wait>(
     rt: &R,
     table: &HandTable<N>,
-    held: &Mutex<HeldStore<N, D>>,
+    held: &Mutex<HeldStore<N, D, L>>,
     hand: &mut Hand<N>,
     pool: &mut Pool,
+    share: Share<L>,
 ) -> Told
+    requires part { 0 < share.parts }
     requires lent { (name : ℕ) × LendsPool name pool.old hand.old }
     requires files { hand.old.files ≡ [] }
     requires names { hand.old.names ≡ [] }
@@ -201,7 +218,12 @@ fn turns_locked<N: Naming, D: Door, R: Wait>(
     ensures clients { hand.new.clients ≡ hand.old.clients }
     ensures pool { (name : ℕ) → LendsPool name pool.old hand.old → LendsPool name pool.new hand.new }
 {
-    let mut door = Locked { rt, table, held };
+    let mut door = Locked {
+        rt,
+        table,
+        held,
+        share,
+    };
     take_turns(&mut door, hand, pool)
 }
 

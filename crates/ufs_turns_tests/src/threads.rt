@@ -1,5 +1,5 @@
 // Four threads take turns of one store, each with the hand of a pool of its own.
-ghost use Rattle.std.specs.Prelude.{ℕ, ◌≡◌, ◌+◌, length};
+ghost use Rattle.std.specs.Prelude.{ℕ, ◌≡◌, ◌<◌, ◌+◌, length};
 ghost use Rattle.std.specs.FinSet as set;
 ghost use denote.Param.Send.{IsSend, IsSync};
 ghost use Rattle.ufs_dir_tree.specs.DirTable.{dir_at, no_dir};
@@ -15,6 +15,7 @@ ghost use Rattle.ufs_turns_tests.specs.Seats.{IsSeat};
 use crate::session::{Told, take_turns};
 use std::alloc::Global;
 use std::marker::{Brand, Model};
+use std::sync::ledger::{Blank, Ledger, Share};
 use std::sync::{Mutex, Wait};
 use std::thread::{Threads, join};
 use ufs_bitmap::Pool;
@@ -72,6 +73,14 @@ impl<N: Naming> Seat<N> {
     }
 }
 
+// What two threads have to count by.
+#[derive(Drop)]
+struct Shares<L: Ledger> {
+    one: Share<L>,
+    two: Share<L>,
+    ghost parts: { (0 < one.parts) × (0 < two.parts) },
+}
+
 /// The pools of the four.
 #[derive(Drop)]
 pub struct Pools {
@@ -125,18 +134,28 @@ fn shared_on<D: Door + Drop + Send, R: Threads + Wait + Sync>(
     let Ok(opened) = Opened::open(alloc, parts) else {
         return None;
     };
-    Some(run_shared::<Brand, D, R>(rt, opened, &geometry, names, store, pools))
+    let blank = Blank::new(4);
+    Some(run_shared::<Brand, D, Brand, R>(rt, opened, &geometry, names, store, pools, blank))
 }
 
-fn run_shared<N: Naming + Send + Sync, D: Door + Drop + Send, R: Threads + Wait + Sync>(
+fn run_shared<
+    N: Naming + Send + Sync,
+    D: Door + Drop + Send,
+    L: Ledger + Send + Sync,
+    R: Threads + Wait + Sync,
+>(
     rt: &R,
     opened: Opened,
     geometry: &Geometry,
     names: &Names,
     store: D,
     pools: Pools,
+    blank: Blank,
 ) -> Shared
     requires plain { D.stamps → ⊥ }
+    requires ledger { blank.name ≡ L.name }
+    requires parts { blank.parts ≡ L.parts }
+    requires four { blank.parts ≡ 4 }
     requires name { (opened.table ≡ N.table) × (opened.start ≡ N.start) }
     requires start { N.start ≡ small_start names.now (D.store store) }
     requires formed { geometry_of_store (D.store store) ≡ small }
@@ -145,8 +164,9 @@ fn run_shared<N: Naming + Send + Sync, D: Door + Drop + Send, R: Threads + Wait 
     requires its { geometry.now ≡ N.start.geometry }
 {
     let Begun { table, mut hand } = opened.named::<N>();
+    let (book, share) = blank.open::<L>();
     let own = hand.split(&table, PartName::Store);
-    let held = Mutex::new(HeldStore::new(own, store));
+    let held = Mutex::new(HeldStore::new(own, store, book));
     let Pools {
         first,
         second,
@@ -157,7 +177,16 @@ fn run_shared<N: Naming + Send + Sync, D: Door + Drop + Send, R: Threads + Wait 
     let two = give_seat(&table, &mut hand, 1, second);
     let three = give_seat(&table, &mut hand, 2, third);
     let four = give_seat(&table, &mut hand, 3, fourth);
-    let ((one, two), (three, four)) = all_turns(rt, &table, &held, (one, two), (three, four));
+    let (ours, theirs) = four_shares(share);
+    let ((one, two), (three, four)) = all_turns(
+        rt,
+        &table,
+        &held,
+        (one, two),
+        (three, four),
+        ours,
+        theirs,
+    );
     let (own, store) = held.into_inner().into_parts();
     drop(store);
     let (one, _, first) = one.leave();
@@ -172,6 +201,22 @@ fn run_shared<N: Naming + Send + Sync, D: Door + Drop + Send, R: Threads + Wait 
     hand.join(&table, own);
     let tickets = hand.close(table, geometry);
     Shared { tickets, passed }
+}
+
+// The share is cut for the four.
+fn four_shares<L: Ledger>(mut share: Share<L>) -> (Shares<L>, Shares<L>)
+    requires { share.parts ≡ 4 }
+{
+    let two = share.split_off(1, 0);
+    let three = share.split_off(1, 0);
+    let four = share.split_off(1, 0);
+    (
+        Shares { one: share, two },
+        Shares {
+            one: three,
+            two: four,
+        },
+    )
 }
 
 // The hand gives one up that has this pool.
@@ -194,12 +239,19 @@ fn give_seat<N: Naming>(
 }
 
 // Each of the four takes its turns in a thread of its own.
-fn all_turns<N: Naming + Send + Sync, D: Door + Send, R: Threads + Wait + Sync>(
+fn all_turns<
+    N: Naming + Send + Sync,
+    D: Door + Send,
+    L: Ledger + Send + Sync,
+    R: Threads + Wait + Sync,
+>(
     rt: &R,
     table: &HandTable<N>,
-    held: &Mutex<HeldStore<N, D>>,
+    held: &Mutex<HeldStore<N, D, L>>,
     pair: (Seat<N>, Seat<N>),
     other: (Seat<N>, Seat<N>),
+    ours: Shares<L>,
+    theirs: Shares<L>,
 ) -> ((Seat<N>, Seat<N>), (Seat<N>, Seat<N>))
     ensures one { result.0.0 ≡ pair.0 }
     ensures two { result.0.1 ≡ pair.1 }
@@ -211,44 +263,63 @@ fn all_turns<N: Naming + Send + Sync, D: Door + Send, R: Threads + Wait + Sync>(
         || -> (Seat<N>, Seat<N>)
             requires { IsSync R.row × IsSend N.row × IsSync N.row × IsSend D.row }
             ensures { (result.0 ≡ pair.0) × (result.1 ≡ pair.1) }
-        { both_turns(rt, table, held, pair) },
+        { both_turns(rt, table, held, pair, ours) },
         || -> (Seat<N>, Seat<N>)
             requires { IsSync R.row × IsSend N.row × IsSync N.row × IsSend D.row }
             ensures { (result.0 ≡ other.0) × (result.1 ≡ other.1) }
-        { both_turns(rt, table, held, other) },
+        { both_turns(rt, table, held, other, theirs) },
     )
 }
 
-fn both_turns<N: Naming + Send + Sync, D: Door + Send, R: Threads + Wait + Sync>(
+fn both_turns<
+    N: Naming + Send + Sync,
+    D: Door + Send,
+    L: Ledger + Send + Sync,
+    R: Threads + Wait + Sync,
+>(
     rt: &R,
     table: &HandTable<N>,
-    held: &Mutex<HeldStore<N, D>>,
+    held: &Mutex<HeldStore<N, D, L>>,
     pair: (Seat<N>, Seat<N>),
+    shares: Shares<L>,
 ) -> (Seat<N>, Seat<N>)
     ensures { (result.0 ≡ pair.0) × (result.1 ≡ pair.1) }
 {
     let (one, two) = pair;
+    let Shares {
+        one: first,
+        two: second,
+    } = shares;
     join(
         rt,
         || -> Seat<N>
+            requires { IsSync R.row × IsSend N.row × IsSync N.row × IsSend D.row × (0 < first.parts) }
             ensures { result ≡ one }
-        { turns(rt, table, held, one) },
+        { turns(rt, table, held, one, first) },
         || -> Seat<N>
+            requires { IsSync R.row × IsSend N.row × IsSync N.row × IsSend D.row × (0 < second.parts) }
             ensures { result ≡ two }
-        { turns(rt, table, held, two) },
+        { turns(rt, table, held, two, second) },
     )
 }
 
 // One takes its turns.
-fn turns<N: Naming, D: Door, R: Wait>(
+fn turns<N: Naming, D: Door, L: Ledger, R: Wait>(
     rt: &R,
     table: &HandTable<N>,
-    held: &Mutex<HeldStore<N, D>>,
+    held: &Mutex<HeldStore<N, D, L>>,
     mut seat: Seat<N>,
+    share: Share<L>,
 ) -> Seat<N>
+    requires { 0 < share.parts }
     ensures { result ≡ seat }
 {
-    let mut door = Locked { rt, table, held };
+    let mut door = Locked {
+        rt,
+        table,
+        held,
+        share,
+    };
     for _ in 0..ROUNDS {
         round(&mut door, &mut seat);
     }

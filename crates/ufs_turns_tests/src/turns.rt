@@ -1,5 +1,6 @@
 // A mount makes two calls of the disk.
 use crate::asserts::same;
+use crate::names::{Commits, commit_names_of};
 use crate::session::{Ended, Told, behind_a_lock, straight};
 use crate::threads::{Shared, by_four_threads};
 use std::alloc::Global;
@@ -57,4 +58,17 @@ fn so_they_do_by_four_threads(rt: HostRuntime) {
 fn a_checkpoint_tells_the_fault(rt: HostRuntime) {
     let wanted = Some(Err(StoreFault::Device { fault: 1 }));
     same(&rt, made_within(rt.alloc(), 2), wanted);
+}
+
+// Nothing was noted, so a disk that serves no more calls than a mount makes isn't asked.
+#[test]
+fn names_are_committed_without_a_call(rt: HostRuntime) {
+    let bytes = vec![in rt.alloc(); 0; 1_048_576].expect(&rt, "memory");
+    let disk = FuseDisk::new(rt.alloc(), SECTORS, bytes, Fuse { passes: 2 }).expect(&rt, "no disk");
+    let wanted = Some(Commits {
+        tickets: 0,
+        first: Ok(()),
+        second: Ok(()),
+    });
+    same(&rt, commit_names_of(rt.alloc(), disk), wanted);
 }
