@@ -1,8 +1,10 @@
-//! Tests of rings, of nodes on lists and of the load plan.
+//! Tests of rings, of nodes on lists, of the load plan and of hints.
 #![tactic(auto)]
 
 #[cfg(test)]
 mod asserts;
+#[cfg(test)]
+mod hints;
 #[cfg(test)]
 mod loads;
 #[cfg(test)]
