@@ -27,7 +27,6 @@ MAY = {
     # a number at its end
     "ufs_catalog/src/dirs.rt": {"Lack::AtEnd": 1},
     "ufs_held/src/excuses.rt": {"Lack::AtEnd": 1},
-    "ufs_held_names/src/syncs.rt": {"Lack::AtEnd": 1},
     "ufs_ilog/src/name_notes.rt": {"Lack::AtEnd": 1, ".lose": 1},
     "ufs_ilog/src/names_log.rt": {"Lack::AtEnd": 1},
     "ufs_image_paths/src/opened.rt": {"Lack::AtEnd": 1},

@@ -19,6 +19,7 @@ use Rattle.ufs_joint.specs.Draws.{drawn}
 use Rattle.ufs_joint.specs.FileHands.{IsFileHand, own_desc}
 use Rattle.ufs_turns.specs.Lent.{HasCommitted, IsBeside, LendsFile}
 use Rattle.ufs_held.specs.Asking.{Asks, IsAnswered, IsGuest}
+use Rattle.ufs_held.specs.Committed.{HasSameCells}
 use Rattle.ufs_held.specs.Drawn.{cell_then, fds_with, first_fds, fresh_of, held_leaves, kept_leaves}
 use Rattle.ufs_held.specs.Held.{HasFileAlone, IsHeld, first_cell}
 use Rattle.ufs_held.proofs.Drawing.{other_fds, this_fd}
@@ -223,7 +224,7 @@ module _ (own guest : View) (x : DurableState) (client : ℕ) (part : ClientPart
 
 -- ---- what was seen
 
-later_right : (a b : ℕ) → b ≤ later a b
+pub later_right : (a b : ℕ) → b ≤ later a b
 later_right a b = by (leb a b) refl
   where
     by : (d : Bool) → leb a b ≡ d → b ≤ cond d b a
@@ -319,3 +320,41 @@ module _ (visible : Bool) (own read : View) (x y : DurableState) (held : IsHeld 
 
   pub first_fetched : first_cell y read.files ≡ record (first_cell x own.files) { value = y }
   first_fetched = ap (first_cell y) lent.file.files ∙ sym (ap (λ (cs : List (ℕ × FileCell)). record (first_cell x cs) { value = y }) held.files)
+
+-- ---- what its hand was told goes on
+
+module _ (own : View) (x : DurableState) (held : IsHeld x own) where
+  its_number : eqb x.file.file x.file.file ≡ true
+  its_number = itself x.file.file
+
+  pub own_files : (given_of (File x.file.file) own).files ≡ (x.file.file, held.cell) ∷ []
+  own_files = ap (only (is_file (File x.file.file))) held.files ∙ (λ i. cond (its_number i) ((x.file.file, held.cell) ∷ []) [])
+
+  pub own_given : IsHeld x (given_of (File x.file.file) own)
+  own_given = record {
+    cell = held.cell;
+    clients = only_none own.clients;
+    asked = only_none own.asked;
+    files = own_files;
+    pools = ap (only (is_file (File x.file.file))) held.pools;
+    names = only_none own.names;
+    store = only_none own.store;
+    value = held.value;
+  }
+
+  pub first_given : first_cell x (given_of (File x.file.file) own).files ≡ first_cell x own.files
+  first_given = ap (first_cell x) own_files ∙ sym (first_held x own held)
+
+  pub own_left : (kept_of (File x.file.file) own).files ≡ []
+  own_left = ap (without (is_file (File x.file.file))) held.files ∙ (λ k. cond (its_number k) [] ((x.file.file, held.cell) ∷ []))
+
+  pub told_on : (guest : View) → HasSameCells guest (both_of (kept_of (File x.file.file) own) guest)
+  told_on guest = record {
+    clients = λ i. (without_none own.clients ∙ held.clients) i ++ guest.clients;
+    asked = λ i. (without_none own.asked ∙ held.asked) i ++ guest.asked;
+    files = λ i. own_left i ++ guest.files;
+    pools = λ i. ap (without (is_file (File x.file.file))) held.pools i ++ guest.pools;
+    names = λ i. (without_none own.names ∙ held.names) i ++ guest.names;
+    store = λ i. (without_none own.store ∙ held.store) i ++ guest.store;
+    seen = later_right own.seen guest.seen;
+  }

@@ -2,3 +2,4 @@ pub mod Drawing
 pub mod After
 pub mod Excusing
 pub mod Birth
+pub mod Together

@@ -3,3 +3,5 @@ pub mod Held
 pub mod Drawn
 pub mod Serving
 pub mod Births
+pub mod Committed
+pub mod Together

@@ -1,9 +1,11 @@
 // A file is told its birth, by a hand that lends the names to the file's.
-ghost use Rattle.std.specs.Prelude.{ℕ, ◌≡◌, ◌≤◌, ◌∷◌, ◌||◌, [], true};
+ghost use Rattle.std.specs.Prelude.{ℕ, ◌≡◌, ◌≤◌, ◌∷◌, ◌||◌, [], true, IsSome};
+ghost use Rattle.std.specs.FinMap as fin;
 ghost use Rattle.std.specs.FinSet as set;
 ghost use Rattle.ufs_durable.specs.State.{state_of};
 ghost use Rattle.ufs_layout.specs.Areas.{IsGeometry};
 ghost use Rattle.ufs_joint.specs.Cells.{NamesCell};
+ghost use Rattle.ufs_joint.specs.Known.{Knows};
 ghost use Rattle.ufs_held.specs.Births.{HasStill, told_view};
 ghost use Rattle.ufs_held.specs.Held.{IsHeld, first_cell};
 
@@ -32,6 +34,7 @@ pub(crate) fn tell_lent<N: Naming>(
     ensures calm { right.new.faults ≡ [] }
     ensures told { (cell : NamesCell) → names.old.names ≡ (tt, cell) ∷ [] → first_cell (state_of file.now commits.now) right.new.files
         ≡ record (first_cell (state_of file.now commits.now) right.old.files) { born = (first_cell (state_of file.now commits.now) right.old.files).born || set.contains cell.named file.now.file } }
+    ensures live { (cell : NamesCell) → names.old.names ≡ (tt, cell) ∷ [] → IsSome (fin.get cell.value.held file.now.file) }
     ensures still { HasStill names.old names.new }
 {
     // For the prover alone.
@@ -50,7 +53,8 @@ fn tell<N: Naming, E: Event>(table: &HandTable<N>, hand: &mut Hand<N>, geometry:
     requires formed { IsGeometry geometry.now }
     requires its { geometry.now ≡ N.start.geometry }
     requires names { (cell : NamesCell) × (hand.old.names ≡ (tt, cell) ∷ []) }
-    ensures { hand.new ≡ told_view hand.old }
+    ensures cells { hand.new ≡ told_view hand.old }
+    ensures knows { Knows N.start result hand.old }
 {
     hand.mark::<E>(table, geometry)
 }

@@ -36,8 +36,8 @@ use ufs_model::{Actor, Ask, Entry, Excuse, PartName, Reply, a_file_goes_on_by_it
 use ufs_sound::Fresh;
 use ufs_store::StoreFault;
 
-// The excuse for what a turn of the store refused. The last number of the disk's count may be told twice, so it is no fault's.
-pub(crate) fn excuse_of(fault: StoreFault) -> Excuse
+/// The excuse for what a turn of the store refused. The last number of the disk's count may be told twice, so it is no fault's.
+pub fn excuse_of(fault: StoreFault) -> Excuse
     requires { is_no_space fault ≡ false }
     ensures kind { is_of_turn result ≡ true }
     ensures read { IsTrue (is_own fault) → is_of_read result ≡ true }
@@ -94,8 +94,8 @@ pub(crate) fn serve_excused<N: Naming>(
     Served { entry, desc, guest }
 }
 
-// Draws the entry, with the excuse.
-fn draw_excused<N: Naming>(
+/// Draws the entry of a request on a file, with the excuse, by a hand that has the client, the file and the pool. All cells stay.
+pub fn draw_excused<N: Naming>(
     table: &HandTable<N>,
     right: &mut Hand<N>,
     ask: Ask,

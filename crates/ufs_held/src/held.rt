@@ -1,5 +1,6 @@
 // A file, what is known of its commits, and the right to its cell.
-ghost use Rattle.std.specs.Prelude.{ℕ, List, ◌≡◌, ◌≢◌, ◌≤◌, ◌∷◌, ◌||◌, suc, [], true, false, None, Some, is_some};
+ghost use Rattle.std.specs.Prelude.{ℕ, List, ◌≡◌, ◌≢◌, ◌≤◌, ◌∷◌, ◌++◌, ◌||◌, suc, [], true, false, Err, None, Some, IfErr, IsSome, OnErr, OnOk, is_some};
+ghost use Rattle.std.specs.FinMap as fin;
 ghost use Rattle.std.specs.FinSet as set;
 ghost use Rattle.ufs_bitmap.specs.Blocks.{BlockSet};
 ghost use Rattle.ufs_bitmap.specs.Taking.{set_of};
@@ -18,15 +19,23 @@ ghost use Rattle.ufs_durable.specs.Serving.{IsServedKept};
 ghost use Rattle.ufs_durable.specs.State.{file_committed, state_of, whole_of};
 ghost use Rattle.ufs_prefix.specs.Changes.{asks_commit};
 ghost use Rattle.ufs_sound.specs.Parts.{ClientPart};
-ghost use Rattle.ufs_joint.specs.Cells.{NamesCell};
-ghost use Rattle.ufs_turns.specs.Lent.{AreTold};
+ghost use Rattle.ufs_joint.specs.Cells.{NamesCell, View};
+ghost use Rattle.ufs_joint.specs.Rule.{MayDrawAny};
+ghost use Rattle.ufs_store.specs.Refusals.{fault_in, is_no_space};
+ghost use Rattle.ufs_store.specs.declared.fault.StoreFault.TheVariants as refusal;
+ghost use Rattle.ufs_turns.specs.Lent.{AreTold, StopsByFault, TellsStop};
+ghost use Rattle.ufs_turns.specs.Told.{fault_told, told_list};
 ghost use Rattle.ufs_held.specs.Asking.{Asks, IsAnswered, IsGuest, IsSyncReply};
 ghost use Rattle.ufs_held.specs.Births.{HasStill};
+ghost use Rattle.ufs_held.specs.Committed.{HasSameCells};
 ghost use Rattle.ufs_held.specs.Held.{HasFileAlone, IsHeld, first_cell};
 ghost use Rattle.ufs_held.specs.Serving.{IsReadFor, IsServeCause, read_as};
+ghost use Rattle.ufs_held.specs.Together.{AreApartFrom, HasDrawnStill, HasThemToo, still_of};
 
 use crate::births::tell_lent;
+use crate::commits::commit_lent;
 use crate::serving::{serve_lent, serve_ready};
+use crate::still::draw_still;
 use crate::syncs::sync_lent;
 use std::marker::Model;
 use ufs_bitmap::Pool;
@@ -35,7 +44,9 @@ use ufs_extent::Extents;
 use ufs_file::FileHand;
 use ufs_joint::{Hand, HandTable, Naming};
 use ufs_layout::Geometry;
-use ufs_model::{Actor, Ask, Desc, Entry};
+use ufs_model::{Actor, Ask, Desc, Entry, PartName};
+use ufs_sound::Fresh;
+use ufs_store::StoreFault;
 use ufs_turns::Turns;
 
 /// A file as a server of session `N` holds it. Contracts see its cell, which tells what the file has.
@@ -106,6 +117,20 @@ impl<N: Naming> HeldFile<N> {
         (hand, commits, right)
     }
 
+    /// Its number in the tree.
+    pub fn number(&self) -> u32
+        ensures { result ≡ self.now.value.file.file }
+    {
+        self.hand.file()
+    }
+
+    /// The number of its inode.
+    pub fn inode(&self) -> u32
+        ensures { result ≡ self.now.value.file.inode }
+    {
+        self.hand.inode()
+    }
+
     /// All its blocks, with the right to its cell, for who draws that the file is no more. Takes no memory.
     pub fn drop_blocks(self) -> Dropped<N>
         ensures extents { result.extents ≡ self.value.file.extents }
@@ -125,12 +150,14 @@ impl<N: Naming> HeldFile<N> {
         }
     }
 
-    /// Tells the file its birth, where the names, which this hand has, know it as committed. Takes no memory.
+    /// Tells the file its birth, where the names, which this hand has, know it as committed. A file that is held is live: the names
+    /// tell of it. Takes no memory.
     pub fn tell_born(&mut self, table: &HandTable<N>, names: &mut Hand<N>, geometry: &Geometry)
         requires formed { IsGeometry geometry.now }
         requires its { geometry.now ≡ N.start.geometry }
         requires names { (cell : NamesCell) × (names.old.names ≡ (tt, cell) ∷ []) }
         ensures told { (cell : NamesCell) → names.old.names ≡ (tt, cell) ∷ [] → self.new ≡ record self.old { born = self.old.born || set.contains cell.named self.old.value.file.file } }
+        ensures live { (cell : NamesCell) → names.old.names ≡ (tt, cell) ∷ [] → IsSome (fin.get cell.value.held self.old.value.file.file) }
         ensures still { HasStill names.old names.new }
     {
         let HeldFile {
@@ -163,6 +190,7 @@ impl<N: Naming> HeldFile<N> {
             → IsServedKept (whole_of bytes (self.old.value)) (whole_of (file_step bytes d ask.op).bytes (self.new.value)) pool.old pool.new d ask.op result.entry.reply result.desc }
         ensures excused { (x : Excuse) → result.entry.reply ≡ reply.Excused x → (d : Desc) → ask.desc ≡ Some d → (bytes : List ℕ) → IsContentOf self.old.value.file.content bytes → IsExcusedFor (whole_as bytes self.old.value.file) d ask.op pool.old x }
         ensures untaken { is_excused result.entry.reply ≡ true → pool.new ≡ pool.old }
+        ensures desc { is_excused result.entry.reply ≡ true → result.desc ≡ ask.desc }
         ensures kept { is_excused result.entry.reply ≡ true → self.new ≡ self.old }
         ensures changed { is_excused result.entry.reply ≡ false → self.new.changed ≡ suc result.entry.ticket }
         ensures known { self.new.known ≡ self.old.known }
@@ -219,6 +247,38 @@ impl<N: Naming> HeldFile<N> {
         sync_lent(table, right, hand, commits, ask, guest, by, door)
     }
 
+    /// Commits the file, whose birth is known as committed, in one turn of the store, and draws no entry. Where it passes, all that
+    /// changed of the file is known as committed; else it is as it was, and the guest was told the fault by which it failed, or that
+    /// the store has stopped.
+    pub fn commit<T: Turns<N>>(
+        &mut self,
+        table: &HandTable<N>,
+        guest: &mut Hand<N>,
+        door: &mut T,
+    ) -> Result<(), StoreFault>
+        requires born { self.old.born ≡ true }
+        ensures committed { OnOk result (self.new.value ≡ file_committed self.old.value) }
+        ensures known { OnOk result (N.start.is_visible ≡ true → self.new.changed ≤ self.new.known) }
+        ensures kept { OnErr result (self.new ≡ self.old) }
+        ensures rest { self.new ≡ record self.old { value = self.new.value; known = self.new.known } }
+        ensures same { HasSameCells guest.old guest.new }
+        ensures faults { guest.new.faults ≡ told_list (fault_told (fault_in result)) ++ guest.old.faults }
+        ensures stop { (fault : ℕ) → result ≡ Err (refusal.Stopped fault) → guest.new.stop ≡ Some fault }
+        ensures freed { OnOk result (AreTold (T.tells door.old) (T.tells door.new) (λ had has. has ≡ set.union had (set_of self.old.value.dropped))) }
+        ensures unfreed { OnErr result (AreTold (T.tells door.old) (T.tells door.new) (λ had has. has ≡ had)) }
+        ensures telling { is_some (T.tells door.new) ≡ is_some (T.tells door.old) }
+        ensures halts { StopsByFault (T.tells door.old) (T.tells door.new) (fault_in result) }
+        ensures halted { TellsStop (T.tells door.old) result }
+        ensures refused { IfErr result (λ fault. is_no_space fault ≡ false) }
+    {
+        let HeldFile {
+            hand,
+            commits,
+            right,
+        } = self;
+        commit_lent(table, right, hand, commits, guest, door)
+    }
+
     /// Serves a request on a descriptor of the file that commits nothing. Where it isn't refused, the blocks that it needs are read
     /// first, in one turn of the store; where one can't be read, the request is excused by the fault, and what was read stays.
     pub fn serve<T: Turns<N>>(
@@ -243,6 +303,7 @@ impl<N: Naming> HeldFile<N> {
         ensures read { is_excused result.entry.reply ≡ true → (d : Desc) → ask.desc ≡ Some d → IsReadFor self.old.value.file self.new.value.file d ask.op }
         ensures kept { is_excused result.entry.reply ≡ true → self.new ≡ record self.old { value = read_as self.new.value.file self.old.value } }
         ensures untaken { is_excused result.entry.reply ≡ true → pool.new ≡ pool.old }
+        ensures desc { is_excused result.entry.reply ≡ true → result.desc ≡ ask.desc }
         ensures changed { is_excused result.entry.reply ≡ false → self.new.changed ≡ suc result.entry.ticket }
         ensures known { self.new.known ≡ self.old.known }
         ensures born { self.new.born ≡ self.old.born }
@@ -260,4 +321,34 @@ impl<N: Naming> HeldFile<N> {
         } = self;
         serve_lent(table, right, hand, commits, ask, guest, by, pool, door)
     }
+}
+
+/// Draws an entry that leaves all as it is, by a hand that has each of these files meanwhile. Takes no memory, and goes as deep as there
+/// are files.
+pub fn draw_with_files<N: Naming>(
+    table: &HandTable<N>,
+    files: &mut [HeldFile<N>],
+    hand: &mut Hand<N>,
+    fresh: &Fresh,
+) -> u64
+    requires apart { AreApartFrom hand.old files.old }
+    requires may { (v : View) → HasThemToo files.old hand.old v → MayDrawAny N.start v fresh.now (λ n. still_of v) }
+    ensures files { files.new ≡ files.old }
+    ensures drawn { HasDrawnStill result fresh.now hand.old hand.new }
+{
+    let Some((file, rest)) = files.split_first_mut() else {
+        return draw_still(table, hand, fresh);
+    };
+    let HeldFile {
+        hand: own,
+        commits: _,
+        right,
+    } = file;
+    let number = own.file();
+    let lent = right.split(table, PartName::File(number));
+    hand.join(table, lent);
+    let ticket = draw_with_files(table, rest, hand, fresh);
+    let lent = hand.split(table, PartName::File(number));
+    right.join(table, lent);
+    ticket
 }

@@ -2,10 +2,14 @@
 #![tactic(auto)]
 
 mod births;
+mod commits;
 mod draws;
 mod excuses;
 mod held;
 mod serving;
+mod still;
 mod syncs;
 
-pub use held::{Dropped, HeldFile, Served};
+pub use excuses::{draw_excused, excuse_of};
+pub use held::{Dropped, HeldFile, Served, draw_with_files};
+pub use still::draw_still;

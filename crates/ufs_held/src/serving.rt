@@ -60,6 +60,7 @@ pub(crate) fn serve_lent<N: Naming, T: Turns<N>>(
     ensures read { is_excused result.entry.reply ≡ true → (d : Desc) → ask.desc ≡ Some d → IsReadFor file.old file.new d ask.op }
     ensures kept { is_excused result.entry.reply ≡ true → first_cell (state_of file.new commits.new) right.new.files ≡ record (first_cell (state_of file.old commits.old) right.old.files) { value = read_as file.new (state_of file.old commits.old) } }
     ensures untaken { is_excused result.entry.reply ≡ true → pool.new ≡ pool.old }
+    ensures desc { is_excused result.entry.reply ≡ true → result.desc ≡ ask.desc }
     ensures changed { is_excused result.entry.reply ≡ false → (first_cell (state_of file.new commits.new) right.new.files).changed ≡ suc result.entry.ticket }
     ensures known { (first_cell (state_of file.new commits.new) right.new.files).known ≡ (first_cell (state_of file.old commits.old) right.old.files).known }
     ensures born { (first_cell (state_of file.new commits.new) right.new.files).born ≡ (first_cell (state_of file.old commits.old) right.old.files).born }
@@ -136,6 +137,7 @@ pub(crate) fn serve_ready<N: Naming>(
         → IsServedKept (whole_of bytes (state_of file.old commits.old)) (whole_of (file_step bytes d ask.op).bytes (state_of file.new commits.new)) pool.old pool.new d ask.op result.entry.reply result.desc }
     ensures excused { (x : Excuse) → result.entry.reply ≡ reply.Excused x → (d : Desc) → ask.desc ≡ Some d → (bytes : List ℕ) → IsContentOf (state_of file.old commits.old).file.content bytes → IsExcusedFor (whole_as bytes (state_of file.old commits.old).file) d ask.op pool.old x }
     ensures untaken { is_excused result.entry.reply ≡ true → pool.new ≡ pool.old }
+    ensures desc { is_excused result.entry.reply ≡ true → result.desc ≡ ask.desc }
     ensures same { is_excused result.entry.reply ≡ true → state_of file.new commits.new ≡ state_of file.old commits.old }
     ensures kept { is_excused result.entry.reply ≡ true → first_cell (state_of file.new commits.new) right.new.files ≡ first_cell (state_of file.old commits.old) right.old.files }
     ensures changed { is_excused result.entry.reply ≡ false → (first_cell (state_of file.new commits.new) right.new.files).changed ≡ suc result.entry.ticket }

@@ -1,6 +1,6 @@
 -- A request of the names that touches no live file, once its entry is drawn and the hands are parted.
-use Rattle.std.proofs.Common.{◌≡◌, ◌≢◌, ◌≤◌, ◌++◌, ℕ, suc, Bool, true, false, cond, List, [], ◌∷◌, Option, Some, None, sym, refl, ap, ◌∙◌, subst}
-use Rattle.std.specs.Prelude.{IfSome}
+use Rattle.std.proofs.Common.{◌≡◌, ◌≢◌, ◌≤◌, ◌++◌, ◌⊎◌, ℕ, Bool, true, false, cond, List, [], ◌∷◌, Option, Some, None, sym, refl, ap, ◌∙◌, subst}
+use Rattle.std.specs.Prelude.{IfSome, IsSome}
 use Rattle.std.specs.FinMap as map
 use Rattle.ufs_bitmap.specs.Blocks.{BlockSet}
 use Rattle.ufs_durable.specs.State.{state_of}
@@ -16,9 +16,7 @@ use Rattle.ufs_model.specs.declared.data.PartName.TheVariants.{File, Names}
 use Rattle.ufs_model.specs.declared.data.Reply.TheVariants as reply
 use Rattle.ufs_names.specs.Calls.{no_bytes}
 use Rattle.ufs_names.specs.Space.{IsCause}
-use Rattle.ufs_sound.specs.Owned.{only}
-use Rattle.ufs_sound.specs.Parts.{ClientPart, is_file}
-use Rattle.ufs_sound.proofs.Keys.{itself}
+use Rattle.ufs_sound.specs.Parts.{ClientPart}
 use Rattle.ufs_stored.specs.Parts.{committed_as}
 use Rattle.ufs_joint.specs.Cells.{FileCell, NamesCell, View, both_of, given_of, kept_of}
 use Rattle.ufs_joint.specs.Draws.{drawn}
@@ -27,8 +25,7 @@ use Rattle.ufs_held.specs.Asking.{IsGuest}
 use Rattle.ufs_held.specs.Drawn.{fresh_of}
 use Rattle.ufs_held.specs.Held.{IsHeld, first_cell}
 use Rattle.ufs_held.proofs.After.{came_below}
-use Rattle.ufs_held_names.specs.Asked.{IsNamedApart}
-use Rattle.ufs_held_names.specs.Asking.{IsAnsweredNames}
+use Rattle.ufs_held_names.specs.Asked.{number_of}
 use Rattle.ufs_held_names.specs.Come.{HasCome, files_of}
 use Rattle.ufs_held_names.specs.Drawn.{made_in, made_number, names_left, names_then, new_cell, new_cells, parted}
 use Rattle.ufs_held_names.specs.HeldNames.{HoldsNames, first_names, noted_in}
@@ -40,6 +37,7 @@ pub record HasDrawnAlone (ask : Ask) (by : Actor) (x y : Noted) (pool left : Blo
   pub cells : z ≡ drawn e.ticket (fresh_of e) (names_left (fresh_of e) j y left d (new_cells file) e.ticket) j
   pub served : is_excused e.reply ≡ false → HasServedWith ask x y map.empty (one_file x.names.next file) map.empty map.empty pool left None e.reply d
   pub young : IfSome file (λ s. s ≡ no_bytes x.names.next s.inode)
+  pub lives : (f : ℕ) → IsSome (map.get y.names.held f) → IsSome (map.get x.names.held f) ⊎ (made_number file ≡ Some f)
   pub cause : (q : Excuse) → e.reply ≡ reply.Excused q → (lent : BlockSet) × MayLack pool lent q × IsCause x.names.tree.dirs lent ask.op q
   pub unchanged : is_excused e.reply ≡ true → y ≡ x
   pub untaken : is_excused e.reply ≡ true → left ≡ pool
@@ -80,14 +78,18 @@ module _ (ask : Ask) (by : Actor) (x y : Noted) (pool left : BlockSet) (file : O
             file_given ask.client (part_after part e d) n left cell_then z s.file (new_cell s e.ticket) (subst (λ (o : Option FileState). HasAll ask.client (part_after part e d) n left cell_then (new_cells o e.ticket) z) is has_drawn)
             (λ same. off (same ∙ number_is s is)) (state_of s (committed_as s)) refl refl
 
+    made_first : (s : FileState) → file ≡ Some s → first_cell (state_of s (committed_as s)) (given_of (File s.file) z).files ≡ new_cell s e.ticket
+    made_first s is =
+        file_first ask.client (part_after part e d) n left cell_then z s.file (new_cell s e.ticket) (subst (λ (o : Option FileState). HasAll ask.client (part_after part e d) n left cell_then (new_cells o e.ticket) z) is has_drawn)
+        (λ same. off (same ∙ number_is s is)) (state_of s (committed_as s))
+
     pub made_is : IfSome (made_in file z) (λ c. c ≡ new_cell (no_bytes x.names.next c.value.file.inode) e.ticket)
     made_is = at file refl
       where
         at : (o : Option FileState) → file ≡ o → IfSome (made_in o z) (λ c. c ≡ new_cell (no_bytes x.names.next c.value.file.inode) e.ticket)
         at None is = tt
         at (Some s) is =
-            let first = file_first ask.client (part_after part e d) n left cell_then z s.file (new_cell s e.ticket) (subst (λ (o : Option FileState). HasAll ask.client (part_after part e d) n left cell_then (new_cells o e.ticket) z) is has_drawn)
-            (λ same. off (same ∙ number_is s is)) (state_of s (committed_as s)) in
+            let first = made_first s is in
             let its : s ≡ no_bytes x.names.next s.inode = subst (λ (o : Option FileState). IfSome o (λ q. q ≡ no_bytes x.names.next q.inode)) is drew.young in
             subst (λ (c : FileCell). c ≡ new_cell (no_bytes x.names.next c.value.file.inode) e.ticket) (sym first) (ap (λ (q : FileState). new_cell q e.ticket) its)
 
@@ -97,8 +99,7 @@ module _ (ask : Ask) (by : Actor) (x y : Noted) (pool left : BlockSet) (file : O
         at : (o : Option FileState) → file ≡ o → files_of (made_in o z) ≡ one_file x.names.next o
         at None is = refl
         at (Some s) is =
-            let first = file_first ask.client (part_after part e d) n left cell_then z s.file (new_cell s e.ticket) (subst (λ (o : Option FileState). HasAll ask.client (part_after part e d) n left cell_then (new_cells o e.ticket) z) is has_drawn)
-            (λ same. off (same ∙ number_is s is)) (state_of s (committed_as s)) in
+            let first = made_first s is in
             ap (λ (c : FileCell). files_of (Some c)) first ∙ ap (λ (k : ℕ). one_file k (Some s)) (number_is s is)
 
     has_parted : HasAll ask.client (part_after part e d) n left cell_then [] (parted (made_number file) z)
@@ -136,6 +137,8 @@ module _ (ask : Ask) (by : Actor) (x y : Noted) (pool left : BlockSet) (file : O
         (λ i. (sym held.value i, sym (noted_after x y e held.cell held.value drew.unchanged) i, sym (made_files part n came off) i)) (drew.served is);
     names = λ is. names_served is;
     file = λ is. tt;
+    lives = lives;
+    gone = λ is none. tt;
     made = subst (λ (k : ℕ). IfSome (made_in file z) (λ c. c ≡ new_cell (no_bytes k c.value.file.inode) e.ticket)) (sym next) (made_is part n came off);
     cause = λ q is. let why = drew.cause q is in (why.0, why.1, subst (λ (k : Noted). IsCause k.names.tree.dirs why.0 ask.op q) (sym held.value) why.2);
     kept = λ is. ap (λ (b : Bool). cond b held.cell (names_then y e.ticket held.cell)) is;
@@ -148,6 +151,20 @@ module _ (ask : Ask) (by : Actor) (x y : Noted) (pool left : BlockSet) (file : O
     seen = parted_seen (made_number file) z ∙ ap (λ (v : View). v.seen) drew.cells;
   }
     where
+      numbers : made_number file ≡ number_of (made_in file z)
+      numbers = at file refl
+        where
+          at : (o : Option FileState) → file ≡ o → made_number o ≡ number_of (made_in o z)
+          at None is = refl
+          at (Some s) is = ap Some (sym (ap (λ (c : FileCell). c.value.file.file) (made_first part n came off s is)))
+
+      now_noted : noted_in cell_then ≡ y
+      now_noted = noted_after x y e held.cell held.value drew.unchanged
+
+      lives : (f : ℕ) → IsSome (map.get cell_then.value.held f) → IsSome (map.get held.cell.value.held f) ⊎ (number_of (made_in file z) ≡ Some f)
+      lives f live =
+          subst (λ (q : Noted × Option ℕ). IsSome (map.get q.0.names.held f) ⊎ (q.1 ≡ Some f)) (λ i. (sym held.value i, numbers i)) (drew.lives f (subst (λ (q : Noted). IsSome (map.get q.names.held f)) now_noted live))
+
       next : held.cell.value.next ≡ x.names.next
       next = ap (λ (q : Noted). q.names.next) held.value
 

@@ -1,5 +1,5 @@
 -- An `fsync` of a directory is answered by a guest that has the names meanwhile.
-use Rattle.std.proofs.Common.{◌≡◌, ◌≢◌, ◌≤◌, ◌++◌, ◌⊎◌, inl, inr, ℕ, Bool, true, false, cond, eqb, List, [], ◌∷◌, Option, Some, None, is_some, sym, refl, ap, ◌∙◌, subst}
+use Rattle.std.proofs.Common.{◌≡◌, ◌≤◌, ◌++◌, inl, inr, ℕ, Bool, true, cond, eqb, List, [], ◌∷◌, Option, Some, None, is_some, sym, refl, ap, ◌∙◌, subst}
 use Rattle.std.specs.Prelude.{if◌then◌else◌, is_none, unwrap_or}
 use Rattle.std.specs.FinMap as map
 use Rattle.std.proofs.lemmas.List.{append-nil}
@@ -19,16 +19,12 @@ use Rattle.ufs_model.specs.declared.data.Errno.TheVariants.{Ebadf}
 use Rattle.ufs_model.specs.declared.data.Excuse.{Excuse}
 use Rattle.ufs_model.specs.declared.data.Excuse.TheVariants as excuse
 use Rattle.ufs_model.specs.declared.data.Op.{Op}
-use Rattle.ufs_model.specs.declared.data.Op.TheVariants as op
-use Rattle.ufs_model.specs.declared.data.PartName.{PartName}
 use Rattle.ufs_model.specs.declared.data.PartName.TheVariants as name
 use Rattle.ufs_model.specs.declared.data.Reply.{Reply}
-use Rattle.ufs_model.specs.declared.data.Reply.TheVariants as reply
-use Rattle.ufs_names.specs.Calls.{AreGathered, IsAsked}
-use Rattle.ufs_names.specs.NamesPart.{IsNamesPart}
+use Rattle.ufs_names.specs.Calls.{AreGathered}
 use Rattle.ufs_sound.specs.Draws.{client_after}
 use Rattle.ufs_sound.specs.Owned.{each, only, times, without}
-use Rattle.ufs_sound.specs.Parts.{ClientPart, either, is_names}
+use Rattle.ufs_sound.specs.Parts.{ClientPart, is_names}
 use Rattle.ufs_sound.specs.declared.fresh.Fresh.{Fresh}
 use Rattle.ufs_sound.proofs.Keys.{itself}
 use Rattle.ufs_joint.specs.Cells.{NamesCell, Start, View, both_of, given_of, kept_of}
@@ -37,11 +33,12 @@ use Rattle.ufs_joint.specs.NamesHands.{AreNumberedOnce, DirAcknowledgementsMayDr
 use Rattle.ufs_turns.specs.NamesLent.{AreNamesIn}
 use Rattle.ufs_held.specs.Asking.{IsGuest, faults_of, is_of_turn}
 use Rattle.ufs_held.specs.Drawn.{first_fds, fresh_of}
+use Rattle.ufs_held.specs.Together.{still_of}
 use Rattle.ufs_held.proofs.After.{only_none, without_none}
 use Rattle.ufs_held.proofs.Excusing.{its_fault, stop_joined, told_joined}
 use Rattle.ufs_noted.specs.Noted.{Noted}
-use Rattle.ufs_held_names.specs.Dirs.{AsksDir, IsNamesGuest, IsDone, IsRefused, MayAnswer, answered, still_of}
-use Rattle.ufs_held_names.specs.HeldNames.{HoldsNames, first_names}
+use Rattle.ufs_held_names.specs.Dirs.{AsksDir, IsNamesGuest, IsDone, IsRefused, MayAnswer, answered}
+use Rattle.ufs_held_names.specs.HeldNames.{HoldsNames}
 use Rattle.ufs_held_names.proofs.Files.{files_none, once_none}
 
 -- ---- what it touches, and that nothing refuses it

@@ -4,7 +4,10 @@ mod After
 mod Alone
 mod With
 mod Committed
-mod Live
+mod Lending
 mod Tried
+mod Lives
 mod Answering
 mod Faultless
+mod SyncedAll
+mod AnsweringAll

@@ -1,6 +1,7 @@
 -- A request of the names that touches a live file, once its entry is drawn and the hands are parted.
-use Rattle.std.proofs.Common.{◌≡◌, ◌≢◌, ◌≤◌, ◌++◌, ℕ, suc, Bool, true, false, cond, List, [], ◌∷◌, Option, Some, None, sym, refl, ap, ◌∙◌, subst}
-use Rattle.std.specs.Prelude.{IfSome, unwrap_or}
+use Rattle.std.proofs.Common.{◌≡◌, ◌≢◌, ◌≤◌, ◌++◌, ℕ, inl, Bool, true, false, cond, List, [], ◌∷◌, Option, Some, None, sym, refl, ap, ◌∙◌, subst}
+use Rattle.std.specs.Prelude.{IfSome, IsSome, unwrap_or}
+use Rattle.std.specs.FinMap as map
 use Rattle.ufs_bitmap.specs.Blocks.{BlockSet}
 use Rattle.ufs_durable.specs.State.{DurableState, state_of}
 use Rattle.ufs_file.specs.Hand.{IsEntryOf}
@@ -25,7 +26,6 @@ use Rattle.ufs_held.specs.Asking.{IsGuest}
 use Rattle.ufs_held.specs.Drawn.{fresh_of}
 use Rattle.ufs_held.specs.Held.{HasFileAlone, IsHeld, first_cell}
 use Rattle.ufs_held.proofs.After.{came_below}
-use Rattle.ufs_held_names.specs.Asked.{IsNamedApart}
 use Rattle.ufs_held_names.specs.Come.{HasCome, IsStillThere, commits_of, files_of, files_then}
 use Rattle.ufs_held_names.specs.Drawn.{known_in, known_number, names_left, names_then, next_cell, next_cells, parted}
 use Rattle.ufs_held_names.specs.HeldNames.{HoldsNames, first_names, noted_in}
@@ -38,6 +38,8 @@ pub record HasDrawnWith (ask : Ask) (by : Actor) (x y : Noted) (pool left : Bloc
   pub served : is_excused e.reply ≡ false
       → HasServedWith ask x y (one_file file.hand.file (Some file.hand)) (one_file file.hand.file (file_in then)) (one_known file.hand.file (Some file.commits)) (one_known file.hand.file (commits_in then)) pool left (Some file.hand.file) e.reply d
   pub number : IfSome then (λ k. k.hand.file ≡ file.hand.file)
+  pub lives : (f : ℕ) → IsSome (map.get y.names.held f) → IsSome (map.get x.names.held f)
+  pub gone : is_excused e.reply ≡ false → then ≡ None → map.get y.names.held file.hand.file ≡ None
   pub cause : (q : Excuse) → e.reply ≡ reply.Excused q → (lent : BlockSet) × MayLack pool lent q × IsCause x.names.tree.dirs lent ask.op q
   pub unchanged : is_excused e.reply ≡ true → y ≡ x
   pub untaken : is_excused e.reply ≡ true → left ≡ pool
@@ -193,6 +195,8 @@ module _ (ask : Ask) (by : Actor) (x y : Noted) (pool left : BlockSet) (file : K
     names = names_served;
     file = still_there part n came off;
     made = tt;
+    lives = λ f live. inl (subst (λ (q : Noted). IsSome (map.get q.names.held f)) (sym held.value) (drew.lives f (subst (λ (q : Noted). IsSome (map.get q.names.held f)) (noted_after x y e held.cell held.value drew.unchanged) live)));
+    gone = gone;
     cause = λ q is. let why = drew.cause q is in (why.0, why.1, subst (λ (k : Noted). IsCause k.names.tree.dirs why.0 ask.op q) (sym held.value) why.2);
     kept = λ is. ap (λ (b : Bool). cond b held.cell (names_then y e.ticket held.cell)) is;
     kept_file = kept_file part n came off;
@@ -204,6 +208,13 @@ module _ (ask : Ask) (by : Actor) (x y : Noted) (pool left : BlockSet) (file : K
     seen = parted_seen (known_number then) z ∙ ap (λ (v : View). v.seen) drew.cells;
   }
     where
+      none_then : (o : Option KnownFile) → known_in o z ≡ None → o ≡ None
+      none_then None is = refl
+      none_then (Some k) is = absurd cc
+
+      gone : is_excused e.reply ≡ false → known_in then z ≡ None → map.get cell_then.value.held c.value.file.file ≡ None
+      gone is none = subst (λ (q : Noted × ℕ). map.get q.0.names.held q.1 ≡ None) (λ i. (sym (noted_after x y e held.cell held.value drew.unchanged) i, number_is i)) (drew.gone is (none_then then none))
+
       whole : is_excused e.reply ≡ false → cell_then ≡ names_then y e.ticket held.cell
       whole q = ap (λ (b : Bool). cond b held.cell (names_then y e.ticket held.cell)) q
 

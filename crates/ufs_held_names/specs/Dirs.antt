@@ -1,5 +1,5 @@
 -- An `fsync` of a directory: the names are committed, and it is acknowledged or excused.
-use Rattle.std.specs.Prelude.{ℕ, suc, ◌≡◌, ◌≤◌, ◌<◌, ◌++◌, ◌⊎◌, Bool, true, List, [], ◌∷◌, length, is_some, Option, Some, None}
+use Rattle.std.specs.Prelude.{ℕ, suc, ◌≡◌, ◌≤◌, ◌<◌, ◌++◌, Bool, true, List, [], ◌∷◌, length, is_some, Option, Some, None}
 use Rattle.std.specs.FinMap as fin
 use Rattle.ufs_bitmap.specs.Blocks.{BlockSet}
 use Rattle.ufs_file.specs.Hand.{IsEntryOf}
@@ -17,10 +17,8 @@ use Rattle.ufs_model.specs.declared.data.Reply.{Reply}
 use Rattle.ufs_model.specs.declared.data.Reply.TheVariants as reply
 use Rattle.ufs_sound.specs.Parts.{ClientPart}
 use Rattle.ufs_joint.specs.Cells.{NamesCell, View}
-use Rattle.ufs_joint.specs.Draws.{Leaves}
 use Rattle.ufs_turns.specs.Lent.{AreTold}
 use Rattle.ufs_held.specs.Asking.{IsGuest, IsSyncReply, faults_of, is_of_turn}
-use Rattle.ufs_held.specs.Drawn.{first_fds}
 use Rattle.ufs_held_names.specs.HeldNames.{AreCommitted}
 
 -- The client asked for an `fsync` of a directory, and what is told with it is so in each tree that has the client's descriptors.
@@ -39,10 +37,6 @@ pub record AsksDir (part : ClientPart) (ask : Ask) : Type 0 where
 -- The client has one more entry, and asks nothing; its descriptors stay.
 abbrev pub answered : ClientPart → Entry → ClientPart
 answered part e = record part { entries = part.entries ++ e ∷ []; asked = None }
-
--- All stays.
-abbrev pub still_of : View → Leaves
-still_of v = record { fds = first_fds v.clients; files = v.files; pools = v.pools; names = v.names }
 
 -- It may be answered so: all that changed of the names is known as committed, or a turn refused, and the guest was told by which fault.
 pub data MayAnswer (visible : Bool) (names : NamesCell) (guest : View) (r : Reply) : Type 0 where

@@ -5,3 +5,4 @@ pub mod Drawn
 pub mod Come
 pub mod Synced
 pub mod Dirs
+pub mod SyncAll

@@ -1,7 +1,8 @@
 // The names are committed, and a file hears of it, by a hand that has their cell meanwhile.
-ghost use Rattle.std.specs.Prelude.{ℕ, ◌≡◌, ◌++◌, ◌||◌, [], false, Err, Some, IfErr, IsSome, OnErr, OnOk, is_some};
+ghost use Rattle.std.specs.Prelude.{ℕ, ◌≡◌, ◌++◌, ◌||◌, [], true, false, Err, Some, IfErr, IsSome, OnErr, OnOk, is_some};
 ghost use Rattle.std.specs.FinMap as fin;
 ghost use Rattle.std.specs.FinSet as set;
+ghost use Rattle.ufs_joint.specs.NamesTurns.{live_files};
 ghost use Rattle.ufs_layout.specs.Areas.{IsGeometry};
 ghost use Rattle.ufs_store.specs.Refusals.{fault_in, is_no_space};
 ghost use Rattle.ufs_store.specs.declared.fault.StoreFault.TheVariants as refusal;
@@ -66,34 +67,30 @@ pub(crate) fn tell_lent<N: Naming>(
     ensures calm { right.new.faults ≡ [] }
     ensures same { first_names noted.now right.new.names ≡ first_names noted.now right.old.names }
     ensures told { file.new ≡ record file.old { born = file.old.born || set.contains (first_names noted.now right.old.names).named file.old.value.file.file } }
+    ensures live { IsSome (fin.get noted.now.names.held file.old.value.file.file) }
 {
     // For the prover alone.
     let _ = noted;
     file.tell_born(table, right, geometry)
 }
 
-// A file that is held is live: the names tell of it.
-pub(crate) fn see_live<N: Naming>(
+// The names were committed: a file that is held knows its birth then.
+pub(crate) fn tell_committed<N: Naming>(
     table: &HandTable<N>,
     right: &mut Hand<N>,
     noted: &NotedNames,
-    file: HeldFile<N>,
-) -> HeldFile<N>
+    file: &mut HeldFile<N>,
+    geometry: &Geometry,
+)
+    requires formed { IsGeometry geometry.now }
+    requires its { geometry.now ≡ N.start.geometry }
     requires held { HoldsNames noted.now right.old }
     requires calm { right.old.faults ≡ [] }
+    requires all { (first_names noted.now right.old.names).named ≡ live_files noted.now.names }
     ensures held { HoldsNames noted.now right.new }
     ensures calm { right.new.faults ≡ [] }
     ensures same { first_names noted.now right.new.names ≡ first_names noted.now right.old.names }
-    ensures file { result ≡ file }
-    ensures live { IsSome (fin.get noted.now.names.held file.value.file.file) }
+    ensures told { file.new ≡ record file.old { born = true } }
 {
-    // For the prover alone.
-    let _ = noted;
-    let (hand, commits, mut own) = file.into_parts();
-    let lent = right.split(table, PartName::Names);
-    own.join(table, lent);
-    own.look(table);
-    let lent = own.split(table, PartName::Names);
-    right.join(table, lent);
-    HeldFile::new(hand, commits, own)
+    tell_lent(table, right, noted, file, geometry)
 }

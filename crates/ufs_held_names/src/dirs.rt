@@ -5,19 +5,16 @@ ghost use Rattle.ufs_file.specs.Hand.{IsEntryOf};
 ghost use Rattle.ufs_sound.specs.Parts.{ClientPart};
 ghost use Rattle.ufs_joint.specs.Cells.{NamesCell};
 ghost use Rattle.ufs_joint.specs.Draws.{drawn};
-ghost use Rattle.ufs_joint.specs.Rule.{MayDrawAny};
 ghost use Rattle.ufs_held.specs.Asking.{IsGuest};
 ghost use Rattle.ufs_held.specs.Drawn.{fresh_of};
-ghost use Rattle.ufs_held_names.specs.Dirs.{AsksDir, HasSyncedDir, IsAnsweredBy, IsNamesGuest, MayAnswer, still_of};
+ghost use Rattle.ufs_held.specs.Together.{still_of};
+ghost use Rattle.ufs_held_names.specs.Dirs.{AsksDir, HasSyncedDir, IsAnsweredBy, IsNamesGuest, MayAnswer};
 ghost use Rattle.ufs_held_names.specs.HeldNames.{HoldsNames, first_names};
 
 use crate::commits::commit_lent;
 use crate::held_names::NamesSynced;
-use crate::syncs::excuse_of;
-use std::marker::Brand;
-use ufs_joint::{
-    Hand, HandTable, Leaving, Naming, a_directory_is_acknowledged, a_names_excuse_is_drawn,
-};
+use ufs_held::{draw_still, excuse_of};
+use ufs_joint::{Hand, HandTable, Naming, a_directory_is_acknowledged, a_names_excuse_is_drawn};
 use ufs_model::{Actor, Ask, Entry, PartName, Reply};
 use ufs_noted::NotedNames;
 use ufs_sound::Fresh;
@@ -107,7 +104,7 @@ fn draw_answer<N: Naming>(
         op,
         reply,
     };
-    let ticket = draw_still::<N, Brand>(table, hand, &fresh);
+    let ticket = draw_still(table, hand, &fresh);
     let Fresh {
         client,
         seq,
@@ -123,14 +120,4 @@ fn draw_answer<N: Naming>(
         op,
         reply,
     }
-}
-
-// Draws the entry. All cells stay.
-fn draw_still<N: Naming, L: Leaving>(table: &HandTable<N>, hand: &mut Hand<N>, fresh: &Fresh) -> u64
-    requires leaves { L.leaves ≡ (λ n. still_of hand.old) }
-    requires may { MayDrawAny N.start hand.old fresh.now (λ n. still_of hand.old) }
-    ensures cells { hand.new ≡ drawn result fresh.now (still_of hand.old) hand.old }
-    ensures later { hand.old.seen ≤ result }
-{
-    hand.draw::<L>(table, fresh)
 }

@@ -1,5 +1,5 @@
 // A request of the names is applied and drawn, by a hand that has its client, the names, a pool and the file that it touches.
-ghost use Rattle.std.specs.Prelude.{ℕ, ◌≡◌, ◌<◌, ◌≤◌, ◌^◌, [], ◌∷◌, true, false, None, Some, IfSome};
+ghost use Rattle.std.specs.Prelude.{ℕ, ◌≡◌, ◌<◌, ◌≤◌, ◌^◌, ◌⊎◌, [], ◌∷◌, true, false, None, Some, IfSome, IsSome};
 ghost use Rattle.std.specs.FinMap as map;
 ghost use Rattle.ufs_bitmap.specs.Blocks.{BlockSet};
 ghost use Rattle.ufs_durable.specs.State.{state_of};
@@ -20,7 +20,7 @@ ghost use Rattle.ufs_noted.specs.Noted.{HasServedWith, MayLack, one_file, one_kn
 ghost use Rattle.ufs_held.specs.Drawn.{fresh_of};
 ghost use Rattle.ufs_held_names.specs.Asked.{IsNeeded};
 ghost use Rattle.ufs_held_names.specs.Asking.{AsksNames};
-ghost use Rattle.ufs_held_names.specs.Drawn.{names_left, new_cells, next_cells};
+ghost use Rattle.ufs_held_names.specs.Drawn.{made_number, names_left, new_cells, next_cells};
 ghost use Rattle.ufs_held_names.specs.HeldNames.{noted_in};
 
 use std::marker::Brand;
@@ -55,6 +55,7 @@ pub(crate) fn draw_alone<N: Naming>(
     ensures cells { right.new ≡ drawn result.applied.entry.ticket (fresh_of result.applied.entry) (names_left (fresh_of result.applied.entry) right.old noted.new pool.new result.applied.desc (new_cells result.file) result.applied.entry.ticket) right.old }
     ensures served { is_excused result.applied.entry.reply ≡ false → HasServedWith ask noted.old noted.new map.empty (one_file noted.old.names.next result.file) map.empty map.empty pool.old pool.new None result.applied.entry.reply result.applied.desc }
     ensures young { IfSome result.file (λ file. file ≡ no_bytes noted.old.names.next file.inode) }
+    ensures lives { (f : ℕ) → IsSome (map.get noted.new.names.held f) → IsSome (map.get noted.old.names.held f) ⊎ (made_number result.file ≡ Some f) }
     ensures cause { (x : Excuse) → result.applied.entry.reply ≡ reply.Excused x → (lent : BlockSet) × MayLack pool.old lent x × IsCause noted.old.names.tree.dirs lent ask.op x }
     ensures unchanged { is_excused result.applied.entry.reply ≡ true → noted.new ≡ noted.old }
     ensures untaken { is_excused result.applied.entry.reply ≡ true → pool.new ≡ pool.old }
@@ -127,6 +128,8 @@ pub(crate) fn draw_with<N: Naming>(
     ensures cells { right.new ≡ drawn result.applied.entry.ticket (fresh_of result.applied.entry) (names_left (fresh_of result.applied.entry) right.old noted.new pool.new result.applied.desc (next_cells result.file right.old.files) result.applied.entry.ticket) right.old }
     ensures served { is_excused result.applied.entry.reply ≡ false → HasServedWith ask noted.old noted.new (one_file file.hand.file (Some file.hand)) (one_file file.hand.file (file_in result.file)) (one_known file.hand.file (Some file.commits)) (one_known file.hand.file (commits_in result.file)) pool.old pool.new (Some file.hand.file) result.applied.entry.reply result.applied.desc }
     ensures number { IfSome result.file (λ kept. kept.hand.file ≡ file.hand.file) }
+    ensures lives { (f : ℕ) → IsSome (map.get noted.new.names.held f) → IsSome (map.get noted.old.names.held f) }
+    ensures gone { is_excused result.applied.entry.reply ≡ false → result.file ≡ None → map.get noted.new.names.held file.hand.file ≡ None }
     ensures cause { (x : Excuse) → result.applied.entry.reply ≡ reply.Excused x → (lent : BlockSet) × MayLack pool.old lent x × IsCause noted.old.names.tree.dirs lent ask.op x }
     ensures unchanged { is_excused result.applied.entry.reply ≡ true → noted.new ≡ noted.old }
     ensures untaken { is_excused result.applied.entry.reply ≡ true → pool.new ≡ pool.old }

@@ -1,5 +1,6 @@
 // The names, what was noted of them, and the right to their cell.
-ghost use Rattle.std.specs.Prelude.{ℕ, ◌≡◌, ◌≢◌, ◌<◌, ◌≤◌, ◌^◌, ◌++◌, ◌||◌, ◌⊎◌, suc, [], true, false, Err, Some, None, IfErr, IfOk, IfSome, OnErr, OnOk, is_some};
+ghost use Rattle.std.specs.Prelude.{ℕ, ◌≡◌, ◌≢◌, ◌<◌, ◌≤◌, ◌^◌, ◌++◌, ◌||◌, ◌⊎◌, suc, [], true, false, Err, Some, None, IfErr, IfOk, IfSome, OnErr, OnOk, IsSome, eqb, is_some, length};
+ghost use Rattle.std.specs.FinMap as fin;
 ghost use Rattle.std.specs.FinSet as set;
 ghost use Rattle.ufs_bitmap.specs.Blocks.{BlockSet};
 ghost use Rattle.ufs_bitmap.specs.Taking.{set_of};
@@ -12,6 +13,7 @@ ghost use Rattle.ufs_model.specs.declared.data.Op.TheVariants as op;
 ghost use Rattle.ufs_model.specs.declared.data.Reply.TheVariants as reply;
 ghost use Rattle.ufs_names.specs.Calls.{IsOfNames};
 ghost use Rattle.ufs_names.specs.Space.{IsCause};
+ghost use Rattle.ufs_sound.specs.Owned.{count};
 ghost use Rattle.ufs_sound.specs.Parts.{ClientPart};
 ghost use Rattle.ufs_durable.specs.State.{file_committed};
 ghost use Rattle.ufs_store.specs.Refusals.{fault_in, is_no_space};
@@ -20,17 +22,20 @@ ghost use Rattle.ufs_turns.specs.Lent.{AreTold, IsBare, IsBeside, StopsByFault, 
 ghost use Rattle.ufs_turns.specs.Told.{fault_told, told_list};
 ghost use Rattle.ufs_noted.specs.Noted.{HasServedWith, MayLack};
 ghost use Rattle.ufs_held.specs.Asking.{Asks, IsAnswered, IsGuest, IsSyncReply};
+ghost use Rattle.ufs_held.specs.Together.{under_numbers};
 ghost use Rattle.ufs_held_names.specs.Asked.{IsNamedApart, IsNeeded, number_of};
 ghost use Rattle.ufs_held_names.specs.Asking.{AsksNames, IsAnsweredNames};
 ghost use Rattle.ufs_held_names.specs.Come.{IsNewborn, IsStillThere, commits_of, files_of, files_then};
 ghost use Rattle.ufs_held_names.specs.Dirs.{AsksDir, answered};
 ghost use Rattle.ufs_held_names.specs.Drawn.{names_then};
 ghost use Rattle.ufs_held_names.specs.HeldNames.{AreCommitted, HasNamesAlone, HoldsNames, first_names, noted_in};
+ghost use Rattle.ufs_held_names.specs.SyncAll.{AreAllLive, AreSynced, AsksSync, StopsShort, freed_by};
 
 use crate::commits::{commit_lent, tell_lent};
 use crate::dirs::fsync_dir_lent;
 use crate::newborn::Newborn;
 use crate::serving::serve_any;
+use crate::sync_all::sync_lent;
 use crate::syncs::fsync_lent;
 use std::marker::Model;
 use ufs_base::Memory;
@@ -153,6 +158,9 @@ impl<N: Naming> HeldNames<N> {
         ensures names { is_excused result.entry.reply ≡ false → self.new ≡ names_then (noted_in self.new) result.entry.ticket self.old }
         ensures file { is_excused result.entry.reply ≡ false → IfSome result.file (IsStillThere result.entry.ticket file) }
         ensures made { IfSome result.made (IsNewborn self.old.value.next result.entry.ticket) }
+        // each live file was live before, or is the one that was made; the touched one is live no more where it isn't given back
+        ensures lives { (f : ℕ) → IsSome (fin.get self.new.value.held f) → IsSome (fin.get self.old.value.held f) ⊎ (number_of result.made ≡ Some f) }
+        ensures gone { is_excused result.entry.reply ≡ false → result.file ≡ None → IfSome file (λ c. fin.get self.new.value.held c.value.file.file ≡ None) }
         ensures cause { (x : Excuse) → result.entry.reply ≡ reply.Excused x → (lent : BlockSet) × MayLack pool.old lent x × IsCause self.old.value.tree.dirs lent ask.op x }
         ensures kept { is_excused result.entry.reply ≡ true → self.new ≡ self.old }
         ensures kept_file { is_excused result.entry.reply ≡ true → result.file ≡ file }
@@ -193,12 +201,13 @@ impl<N: Naming> HeldNames<N> {
         commit_lent(table, right, noted, guest, door)
     }
 
-    /// Tells a file its birth, where the names know it as committed. Takes no memory.
+    /// Tells a file its birth, where the names know it as committed. A file that is held is live. Takes no memory.
     pub fn tell_born(&mut self, table: &HandTable<N>, file: &mut HeldFile<N>, geometry: &Geometry)
         requires formed { IsGeometry geometry.now }
         requires its { geometry.now ≡ N.start.geometry }
         ensures same { self.new ≡ self.old }
         ensures told { file.new ≡ record file.old { born = file.old.born || set.contains self.old.named file.old.value.file.file } }
+        ensures live { IsSome (fin.get self.old.value.held file.old.value.file.file) }
     {
         let HeldNames { noted, right } = self;
         tell_lent(table, right, noted, file, geometry)
@@ -245,6 +254,7 @@ impl<N: Naming> HeldNames<N> {
         let HeldNames { noted, right } = self;
         fsync_lent(table, right, noted, ask, guest, by, file, door, geometry)
     }
+
     /// Serves an `fsync` of a directory: commits the names in one turn of the store, and acknowledges. Where that fails, the request is
     /// excused by the fault or by the stop of the store, and the names are as they were.
     pub fn fsync_dir<T: Turns<N>>(
@@ -271,5 +281,40 @@ impl<N: Naming> HeldNames<N> {
     {
         let HeldNames { noted, right } = self;
         fsync_dir_lent(table, right, noted, ask, guest, by, door)
+    }
+
+    /// Serves a `sync`, with every live file: commits the names, and then each file in the order of the list, each in a turn of the
+    /// store, and acknowledges. Where a commit fails, no other one is tried, and the request is excused by the fault or by the stop of
+    /// the store.
+    pub fn sync<T: Turns<N>>(
+        &mut self,
+        table: &HandTable<N>,
+        ask: Ask,
+        guest: Hand<N>,
+        by: Actor,
+        files: &mut [HeldFile<N>],
+        door: &mut T,
+        geometry: &Geometry,
+    ) -> NamesSynced<N>
+        requires formed { IsGeometry geometry.now }
+        requires its { geometry.now ≡ N.start.geometry }
+        requires guest { (part : ClientPart) × (n : ℕ) × (pool : BlockSet) × IsGuest ask.client part n pool guest × AsksSync part ask × (count eqb n (under_numbers files.old) ≡ 0) }
+        requires all { AreAllLive self.old.value files.old }
+        ensures entry { IsEntryOf ask by result.entry.ticket result.entry }
+        ensures replied { IsSyncReply result.entry.reply }
+        ensures guest { (part : ClientPart) (n : ℕ) (pool : BlockSet) → IsGuest ask.client part n pool guest → IsGuest ask.client (answered part result.entry) n pool result.guest }
+        ensures names { result.entry.reply ≡ reply.Done → AreCommitted N.start.is_visible self.old self.new }
+        ensures files { result.entry.reply ≡ reply.Done → AreSynced N.start.is_visible files.old files.new (length files.old) }
+        ensures freed { result.entry.reply ≡ reply.Done → AreTold (T.tells door.old) (T.tells door.new) (λ had has. has ≡ freed_by (length files.old) files.old had) }
+        ensures short { is_excused result.entry.reply ≡ true → StopsShort N.start.is_visible self.old self.new files.old files.new (T.tells door.old) (T.tells door.new) }
+        // no fault that the guest was told before excuses it, and a stop is the store's
+        ensures faults { result.guest.faults ≡ guest.faults }
+        ensures stop { (fault : ℕ) → result.entry.reply ≡ reply.Excused (excuse.Stopped fault) → result.guest.stop ≡ Some fault }
+        ensures telling { is_some (T.tells door.new) ≡ is_some (T.tells door.old) }
+        ensures later { guest.seen ≤ result.entry.ticket }
+        ensures seen { result.guest.seen ≡ suc result.entry.ticket }
+    {
+        let HeldNames { noted, right } = self;
+        sync_lent(table, right, noted, ask, guest, by, files, door, geometry)
     }
 }

@@ -8,6 +8,8 @@ mod draws;
 mod held_names;
 mod newborn;
 mod serving;
+mod sync_all;
+mod sync_answers;
 mod syncs;
 
 pub use held_names::{FileSynced, HeldNames, NamesServed, NamesSynced};

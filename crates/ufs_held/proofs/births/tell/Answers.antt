@@ -9,5 +9,8 @@ mark-requires-clause-may g c =
     let s = c.requires.names in
     inr (inr (inr (inl (record { names = s.0; has = s.1; is = c.requires.leaves ∙ (λ i n. told_in (s.1 i) v) }))))
 
-pub returns : goal.returns
-returns g c = c.mark.ensures.cells ∙ ap (λ (f : ℕ → View). f c.mark.result) c.requires.leaves
+pub returns-clause-cells : goal.returns-clause-cells
+returns-clause-cells g c = c.mark.ensures.cells ∙ ap (λ (f : ℕ → View). f c.mark.result) c.requires.leaves
+
+pub returns-clause-knows : goal.returns-clause-knows
+returns-clause-knows g c = c.mark.ensures.knows

@@ -1,5 +1,8 @@
-use Rattle.std.proofs.Common.{◌||◌, ap, sym, ◌∙◌}
+use Rattle.std.proofs.Common.{◌||◌, ap, sym, subst, ◌∙◌}
+use Rattle.std.specs.Prelude.{IsSome}
+use Rattle.std.specs.FinMap as fin
 use Rattle.std.specs.FinSet as set
+use Rattle.ufs_noted.specs.Noted.{Noted}
 use Rattle.ufs_held_names.specs.HeldNames.{first_names}
 use Rattle.ufs_held_names.proofs.After.{first_held}
 use Rattle.ufs_held_names.proofs.commits.tell_lent.Goals as goal
@@ -35,3 +38,8 @@ returns-clause-told g c =
     let held = c.requires.held in
     c.tell_born.ensures.told held.cell held.alone.names
     ∙ (λ i. record (c.args.file.now) { born = c.args.file.now.born || set.contains (sym (first_held c.args.noted.now c.args.right.now held) i).named c.args.file.now.value.file.file })
+
+pub returns-clause-live : goal.returns-clause-live
+returns-clause-live g c =
+    let held = c.requires.held in
+    subst (λ (q : Noted). IsSome (fin.get q.names.held c.args.file.now.value.file.file)) held.value (c.tell_born.ensures.live held.cell held.alone.names)

@@ -1,4 +1,5 @@
-use Rattle.std.proofs.Common.{◌≡◌, ◌≤◌, ℕ, Bool, true, false, None, ap, sym, refl, subst, ◌∙◌, arith}
+use Rattle.std.proofs.Common.{◌≡◌, inl, Bool, true, false, None, ap, sym, refl, subst, ◌∙◌, arith}
+use Rattle.std.specs.Prelude.{IsSome}
 use Rattle.std.specs.FinMap as map
 use Rattle.ufs_joint.specs.Cells.{View}
 use Rattle.ufs_joint.specs.Draws.{MayDraw}
@@ -6,12 +7,17 @@ use Rattle.ufs_joint.specs.NamesHands.{NamesRequestsMayDraw}
 use Rattle.ufs_model.specs.History.{is_excused, tree_after}
 use Rattle.ufs_held.specs.Drawn.{fresh_of}
 use Rattle.ufs_sound.specs.Draws.{left_faults}
-use Rattle.ufs_noted.specs.Noted.{one_file}
+use Rattle.ufs_noted.specs.Noted.{Noted, one_file}
 use Rattle.ufs_held_names.specs.Drawn.{names_left, new_cells}
 use Rattle.ufs_held_names.proofs.Drawing.{apart_with, asked_of, asked_with, gathered_none, may_excused, may_served, none_some_of, part_of}
 use Rattle.ufs_held_names.proofs.Faultless.{calm, no_fault}
 use Rattle.ufs_held_names.proofs.Files.{files_none, new_files, new_next, new_once}
+use Rattle.ufs_held_names.proofs.Lives.{lives_alone}
 use Rattle.ufs_held_names.proofs.draws.draw_alone.Goals as goal
+
+by_reply : (b : Bool) (P : Type 0) → (b ≡ false → P) → (b ≡ true → P) → P
+by_reply true P served excused = excused refl
+by_reply false P served excused = served refl
 
 pub apply_alone-applied-requires-clause-asked : goal.apply_alone-applied-requires-clause-asked
 apply_alone-applied-requires-clause-asked g c =
@@ -61,10 +67,6 @@ draw_made-ticket-requires-clause-may g c ticket =
     (λ excused.
     may_excused k c.look.result v know h.0 h.1 h.2 c.args.pool.now c.args.ask h.3 x h.5 h.6 y left c.args.by entry desc map.empty (one_file x.names.next made) map.empty map.empty None (new_cells made) e.entry gathered before excused ticket (e.unchanged excused) (e.untaken excused)
     (λ q is fault. let caused = e.cause q is in no_fault x.names t part c.args.ask.client caused.0 c.args.ask.op q (e.fits q is t asked) caused.2 fault) e.fits c.a_names_excuse_is_drawn.ensures))
-  where
-    by_reply : (b : Bool) (P : Type 0) → (b ≡ false → P) → (b ≡ true → P) → P
-    by_reply true P served excused = excused refl
-    by_reply false P served excused = served refl
 
 pub returns-clause-faults : goal.returns-clause-faults
 returns-clause-faults g c =
@@ -89,3 +91,21 @@ returns-clause-later g c =
     let b = c.look.ensures.later in
     let d = c.draw_made-ticket.ensures.later in
     omega (arith, a, b, d)
+
+pub returns-clause-lives : goal.returns-clause-lives
+returns-clause-lives g c f live =
+    let h = c.requires.hand in
+    let k = g.N.Naming.start in
+    let know = c.look.ensures.knows in
+    let v = c.args.right.now in
+    let x = c.args.noted.now in
+    let e = c.apply_alone-applied.ensures in
+    let entry = c.apply_alone-applied.result.applied.entry in
+    let gathered = gathered_none x.names c.args.ask c.requires.needed in
+    let t = tree_after know.start know.history in
+    let part = part_of k c.look.result v know h.0 h.1 h.2 c.args.pool.now c.args.ask h.3 x h.5 h.6 in
+    let asked = asked_with k c.look.result v know h.0 h.1 h.2 c.args.pool.now c.args.ask h.3 x h.5 h.6 map.empty (none_some_of k c.look.result v know h.0 h.1 h.2 c.args.pool.now c.args.ask h.3 x h.5 h.6)
+    (gathered t part (asked_of k c.look.result v know h.0 h.1 h.2 c.args.pool.now c.args.ask h.3 x h.5 h.6)) in
+    by_reply (is_excused entry.reply) _
+    (λ served. lives_alone t c.args.ask x c.apply_alone-applied.new.self c.apply_alone-applied.result.file c.args.pool.now c.apply_alone-applied.new.pool entry.reply c.apply_alone-applied.result.applied.desc asked (e.served served) e.young f live)
+    (λ excused. inl (subst (λ (q : Noted). IsSome (map.get q.names.held f)) (e.unchanged excused) live))

@@ -1,4 +1,6 @@
-use Rattle.std.proofs.Common.{◌≡◌, ◌≤◌, ℕ, inl, Bool, true, false, Some, ap, sym, refl, subst, ◌∙◌, arith}
+use Rattle.std.proofs.Common.{◌≡◌, ℕ, inl, Bool, true, false, Some, ap, sym, refl, subst, ◌∙◌, arith}
+use Rattle.std.specs.Prelude.{IsSome}
+use Rattle.std.specs.FinMap as map
 use Rattle.ufs_joint.specs.Cells.{FileCell, View}
 use Rattle.ufs_joint.specs.Draws.{MayDraw}
 use Rattle.ufs_joint.specs.NamesHands.{AreFilesOfCells, AreNumberedOnce, IsNextCell, NamesRequestsMayDraw}
@@ -10,12 +12,17 @@ use Rattle.ufs_durable.specs.State.{DurableState, IsNoted}
 use Rattle.ufs_turns.proofs.Syncing.{file_sound}
 use Rattle.ufs_sound.specs.Owned.{Has}
 use Rattle.ufs_noted.specs.Known.{commits_in, file_in}
-use Rattle.ufs_noted.specs.Noted.{one_file, one_known}
+use Rattle.ufs_noted.specs.Noted.{Noted, one_file, one_known}
 use Rattle.ufs_held_names.specs.Drawn.{names_left, next_cells}
 use Rattle.ufs_held_names.proofs.Drawing.{apart_with, asked_of, asked_with, gathered_one, may_excused, may_served, one_some_of, part_of, touched_one}
 use Rattle.ufs_held_names.proofs.Faultless.{calm, no_fault}
 use Rattle.ufs_held_names.proofs.Files.{files_one, next_files, next_next, next_once}
+use Rattle.ufs_held_names.proofs.Lives.{gone_with, lives_with}
 use Rattle.ufs_held_names.proofs.draws.draw_with.Goals as goal
+
+by_reply : (b : Bool) (P : Type 0) → (b ≡ false → P) → (b ≡ true → P) → P
+by_reply true P served excused = excused refl
+by_reply false P served excused = served refl
 
 pub apply_with-applied-requires-clause-asked : goal.apply_with-applied-requires-clause-asked
 apply_with-applied-requires-clause-asked g c =
@@ -80,10 +87,6 @@ draw_kept_file-ticket-requires-clause-may g c ticket =
     (λ excused.
     may_excused k c.look.result v know h.0 h.1 h.2 c.args.pool.now c.args.ask h.4 x h.7 h.8 y left c.args.by entry desc (one_file file.hand.file (Some file.hand)) (one_file file.hand.file (file_in kept)) (one_known file.hand.file (Some file.commits)) (one_known file.hand.file (commits_in kept)) (Some file.hand.file) (next_cells kept v.files) e.entry gathered before excused ticket (e.unchanged excused) (e.untaken excused)
     (λ q is fault. let caused = e.cause q is in no_fault x.names t part c.args.ask.client caused.0 c.args.ask.op q (e.fits q is t asked) caused.2 fault) e.fits c.a_names_excuse_is_drawn.ensures))
-  where
-    by_reply : (b : Bool) (P : Type 0) → (b ≡ false → P) → (b ≡ true → P) → P
-    by_reply true P served excused = excused refl
-    by_reply false P served excused = served refl
 
 pub returns-clause-faults : goal.returns-clause-faults
 returns-clause-faults g c =
@@ -109,3 +112,41 @@ returns-clause-later g c =
     let b = c.look.ensures.later in
     let d = c.draw_kept_file-ticket.ensures.later in
     omega (arith, a, b, d)
+
+pub returns-clause-lives : goal.returns-clause-lives
+returns-clause-lives g c f live =
+    let h = c.requires.hand in
+    let k = g.N.Naming.start in
+    let know = c.look.ensures.knows in
+    let v = c.args.right.now in
+    let x = c.args.noted.now in
+    let file = c.args.file in
+    let e = c.apply_with-applied.ensures in
+    let entry = c.apply_with-applied.result.applied.entry in
+    let gathered = gathered_one x.names c.args.ask file.hand.file file.hand c.requires.needed in
+    let kept = c.apply_with-applied.result.file in
+    let t = tree_after know.start know.history in
+    let part = part_of k c.look.result v know h.0 h.1 h.2 c.args.pool.now c.args.ask h.4 x h.7 h.8 in
+    let asked = asked_with k c.look.result v know h.0 h.1 h.2 c.args.pool.now c.args.ask h.4 x h.7 h.8 (one_file file.hand.file (Some file.hand)) (one_some_of k c.look.result v know h.0 h.1 h.2 c.args.pool.now c.args.ask h.4 x h.7 h.8 file.hand.file file.hand h.3 h.5 (ap (λ (q : DurableState). q.file) h.6))
+    (gathered t part (asked_of k c.look.result v know h.0 h.1 h.2 c.args.pool.now c.args.ask h.4 x h.7 h.8)) in
+    by_reply (is_excused entry.reply) _
+    (λ served. lives_with t c.args.ask x c.apply_with-applied.new.self file kept (one_known file.hand.file (Some file.commits)) (one_known file.hand.file (commits_in kept)) c.args.pool.now c.apply_with-applied.new.pool entry.reply c.apply_with-applied.result.applied.desc asked (e.served served) f live)
+    (λ excused. subst (λ (q : Noted). IsSome (map.get q.names.held f)) (e.unchanged excused) live)
+
+pub returns-clause-gone : goal.returns-clause-gone
+returns-clause-gone g c served none =
+    let h = c.requires.hand in
+    let k = g.N.Naming.start in
+    let know = c.look.ensures.knows in
+    let v = c.args.right.now in
+    let x = c.args.noted.now in
+    let file = c.args.file in
+    let e = c.apply_with-applied.ensures in
+    let entry = c.apply_with-applied.result.applied.entry in
+    let gathered = gathered_one x.names c.args.ask file.hand.file file.hand c.requires.needed in
+    let kept = c.apply_with-applied.result.file in
+    let t = tree_after know.start know.history in
+    let part = part_of k c.look.result v know h.0 h.1 h.2 c.args.pool.now c.args.ask h.4 x h.7 h.8 in
+    let asked = asked_with k c.look.result v know h.0 h.1 h.2 c.args.pool.now c.args.ask h.4 x h.7 h.8 (one_file file.hand.file (Some file.hand)) (one_some_of k c.look.result v know h.0 h.1 h.2 c.args.pool.now c.args.ask h.4 x h.7 h.8 file.hand.file file.hand h.3 h.5 (ap (λ (q : DurableState). q.file) h.6))
+    (gathered t part (asked_of k c.look.result v know h.0 h.1 h.2 c.args.pool.now c.args.ask h.4 x h.7 h.8)) in
+    gone_with t c.args.ask x c.apply_with-applied.new.self file kept (one_known file.hand.file (Some file.commits)) (one_known file.hand.file (commits_in kept)) c.args.pool.now c.apply_with-applied.new.pool entry.reply c.apply_with-applied.result.applied.desc asked (e.served served) none

@@ -1,4 +1,4 @@
-use Rattle.std.proofs.Common.{◌≡◌, ◌++◌, [], ◌∷◌, ℕ, None, Option, Some, ap, refl, sym, subst, ◌∙◌}
+use Rattle.std.proofs.Common.{◌≡◌, ◌++◌, [], ◌∷◌, None, Option, Some, ap, refl, sym, subst, ◌∙◌}
 use Rattle.ufs_joint.specs.Cells.{FileCell, NamesCell, View, both_of, given_of, kept_of}
 use Rattle.ufs_durable.specs.State.{DurableState}
 use Rattle.ufs_model.specs.declared.data.PartName.TheVariants.{Names}
@@ -56,7 +56,7 @@ part_known-file-requires g c =
     let z = c.draw_with-applied.new.right in
     let t = c.draw_with-applied.ensures in
     let drew : HasDrawnWith c.args.ask c.args.by x y c.args.pool.now left known file e d j z =
-    record { entry = t.entry; cells = t.cells; served = t.served; number = t.number; cause = t.cause; unchanged = t.unchanged; untaken = t.untaken; kept = t.kept; desc = t.desc; faults = t.faults; later = t.later } in
+    record { entry = t.entry; cells = t.cells; served = t.served; number = t.number; lives = t.lives; gone = t.gone; cause = t.cause; unchanged = t.unchanged; untaken = t.untaken; kept = t.kept; desc = t.desc; faults = t.faults; later = t.later } in
     known_held c.args.ask c.args.by x y c.args.pool.now left known file e d own lent c.args.guest j z drew held c.args.file alone value joined f.0 f.1 f.2 off
 
 pub returns-clause-held : goal.returns-clause-held
@@ -80,7 +80,7 @@ returns-clause-held g c =
     let z = c.draw_with-applied.new.right in
     let t = c.draw_with-applied.ensures in
     let drew : HasDrawnWith c.args.ask c.args.by x y c.args.pool.now left known file e d j z =
-    record { entry = t.entry; cells = t.cells; served = t.served; number = t.number; cause = t.cause; unchanged = t.unchanged; untaken = t.untaken; kept = t.kept; desc = t.desc; faults = t.faults; later = t.later } in
+    record { entry = t.entry; cells = t.cells; served = t.served; number = t.number; lives = t.lives; gone = t.gone; cause = t.cause; unchanged = t.unchanged; untaken = t.untaken; kept = t.kept; desc = t.desc; faults = t.faults; later = t.later } in
     let has : j.names ≡ (tt, held.cell) ∷ [] = ap (λ (v : View). v.names) joined ∙ (λ i. (held.alone.names i ++ alone.names i) ++ f.2.names i) in
     let to = c.replace-guest.ensures.after ∙ c.split-own.ensures.given ∙ ap (given_of Names) c.part_known-file.ensures.kept in
     subst (HoldsNames y) (sym to) (held_with c.args.ask c.args.by x y c.args.pool.now left known file e d own lent c.args.guest j z drew held c.args.file alone value joined has)
@@ -109,7 +109,7 @@ returns-clause-came g c =
     let z = c.draw_with-applied.new.right in
     let t = c.draw_with-applied.ensures in
     let drew : HasDrawnWith c.args.ask c.args.by x y c.args.pool.now left known file e d j z =
-    record { entry = t.entry; cells = t.cells; served = t.served; number = t.number; cause = t.cause; unchanged = t.unchanged; untaken = t.untaken; kept = t.kept; desc = t.desc; faults = t.faults; later = t.later } in
+    record { entry = t.entry; cells = t.cells; served = t.served; number = t.number; lives = t.lives; gone = t.gone; cause = t.cause; unchanged = t.unchanged; untaken = t.untaken; kept = t.kept; desc = t.desc; faults = t.faults; later = t.later } in
     let has : j.names ≡ (tt, held.cell) ∷ [] = ap (λ (v : View). v.names) joined ∙ (λ i. (held.alone.names i ++ alone.names i) ++ f.2.names i) in
     let to = c.replace-guest.ensures.after ∙ c.split-own.ensures.given ∙ ap (given_of Names) c.part_known-file.ensures.kept in
     let back = c.replace-guest.ensures.value ∙ c.split-own.ensures.kept ∙ ap (kept_of Names) c.part_known-file.ensures.kept in

@@ -1,9 +1,8 @@
-use Rattle.std.proofs.Common.{◌≡◌, ◌≢◌, ◌≤◌, ◌++◌, ℕ, List, None, Option, Some, ap, refl, sym, subst, ◌∙◌, arith}
+use Rattle.std.proofs.Common.{◌≡◌, ◌≤◌, ◌++◌, ℕ, List, Some, ap, refl, sym, subst, ◌∙◌, arith}
 use Rattle.std.proofs.lemmas.List.{append-nil}
-use Rattle.ufs_bitmap.specs.Blocks.{BlockSet}
 use Rattle.ufs_durable.specs.State.{DurableState, state_of}
 use Rattle.ufs_file.specs.Hand.{IsFileOf, IsOf}
-use Rattle.ufs_joint.specs.Cells.{FileCell, View, both_of, given_of, kept_of}
+use Rattle.ufs_joint.specs.Cells.{View, given_of, kept_of}
 use Rattle.ufs_joint.specs.Draws.{drawn}
 use Rattle.ufs_joint.specs.FileHands.{IsFileHand}
 use Rattle.ufs_model.specs.FileCalls.{file_refusal}
@@ -14,13 +13,12 @@ use Rattle.ufs_sound.specs.Draws.{left_faults}
 use Rattle.ufs_sound.specs.Owned.{times}
 use Rattle.ufs_sound.specs.Parts.{ClientPart}
 use Rattle.ufs_turns.proofs.Hands.{later_left}
-use Rattle.ufs_held.specs.Asking.{Asks, IsAnswered, IsGuest, faults_of}
+use Rattle.ufs_held.specs.Asking.{Asks, IsGuest, faults_of}
 use Rattle.ufs_held.specs.Drawn.{fresh_of, kept_leaves}
 use Rattle.ufs_held.specs.Held.{IsHeld, first_cell}
 use Rattle.ufs_held.proofs.After.{acknowledged, answered_still, guest_still, held_still, joined_hand, same_part, still_first}
 use Rattle.ufs_held.proofs.Excusing.{excuse_fits, its_fault, stop_joined, told_joined, used_by}
-use Rattle.ufs_held_names.specs.Synced.{GoesBack, IsExcusedBy}
-use Rattle.ufs_held_names.proofs.Live.{file_there, guest_there, guest_untold, own_told, same_joined}
+use Rattle.ufs_held_names.proofs.Lending.{file_there, guest_there, guest_untold, own_told, same_joined}
 use Rattle.ufs_held_names.proofs.syncs.excuse_file.Goals as goal
 
 pub draw_excused-entry-requires-clause-hand : goal.draw_excused-entry-requires-clause-hand
