@@ -1,0 +1,17 @@
+pub mod Rooms
+pub mod Asking
+pub mod Ranges
+pub mod Back
+pub mod OwnParts
+pub mod OwnDraw
+pub mod Homes
+pub mod Servers
+pub mod Places
+pub mod Tries
+pub mod Redirects
+pub mod Sendings
+pub mod Tellings
+pub mod Turning
+pub mod Beginnings
+pub mod Starts
+pub mod ByHints

@@ -1,0 +1,2 @@
+pub mod Excusing
+pub mod Ending
