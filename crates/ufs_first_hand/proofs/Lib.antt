@@ -1,0 +1,4 @@
+mod Lists
+mod Trees
+mod Commits
+mod Beginning
