@@ -1,5 +1,5 @@
 -- The words of a generator, taken in parts.
-use Rattle.std.proofs.Common.{◌≡◌, ◌+◌, ◌++◌, ℕ, zero, suc, List, [], ◌∷◌, length, take, drop, refl, ap, ◌∙◌, arith}
+use Rattle.std.proofs.Common.{◌≡◌, ◌+◌, ◌++◌, ℕ, zero, suc, [], ◌∷◌, length, take, drop, refl, ap, ◌∙◌, arith}
 use Rattle.rand_core.specs.Steps.{first_words}
 use Rattle.rand_pcg.specs.Lcg.{Lcg}
 use Rattle.rand_pcg.specs.Pcg.{pcg32}
@@ -38,6 +38,12 @@ after_more (suc n) g = after_more n (pcg32 g).1
 
 pub after_one_more : (n : ℕ) (g : Lcg) → after_words (n + 1) g ≡ (pcg32 (after_words n g)).1
 after_one_more n g = ap (λ k. after_words k g) (one_up n) ∙ after_more n g
+
+-- behind some words, and then behind some more
+pub after_plus : (n m : ℕ) (g : Lcg) → after_words (n + m) g ≡ after_words m (after_words n g)
+unfolding after_words
+after_plus zero m g = ap (λ k. after_words k g) (zero_plus m)
+after_plus (suc n) m g = ap (λ k. after_words k g) (suc_plus n m) ∙ after_plus n m (pcg32 g).1
 
 pub length_words : (n : ℕ) (g : Lcg) → length (next_words n g) ≡ n
 unfolding first_words

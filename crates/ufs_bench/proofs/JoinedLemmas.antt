@@ -4,7 +4,7 @@ use Rattle.std.proofs.lemmas.List.{take_more}
 use Rattle.std.proofs.lemmas.List.Sums.{sum_by-append}
 use Rattle.ufs_model.specs.History.{joined}
 use Rattle.ufs_model.specs.declared.data.Entry.{Entry}
-use Rattle.ufs_bench.specs.Summary.{count_in, is_of}
+use Rattle.ufs_bench.specs.Summary.{count_in}
 use Rattle.ufs_bench.specs.declared.replies.Kind.{Kind}
 
 joined-append : (xs ys : List (List Entry)) → joined (xs ++ ys) ≡ joined xs ++ joined ys

@@ -1,4 +1,5 @@
 mod GeneratorLemmas
 mod WorkloadLemmas
+mod ScheduleLemmas
 mod JoinedLemmas
 mod CountLemmas

@@ -1,5 +1,5 @@
 -- The clients' requests, client by client.
-use Rattle.std.proofs.Common.{◌≡◌, ◌+◌, ◌*◌, ◌++◌, ℕ, zero, suc, List, [], ◌∷◌, map, take, drop, refl, ap, ap₂, sym, ◌∙◌, length, length-append, append-nil, append_assoc, arith}
+use Rattle.std.proofs.Common.{◌≡◌, ◌+◌, ◌*◌, ◌++◌, ℕ, suc, List, [], ◌∷◌, map, refl, ap, ap₂, sym, ◌∙◌, length, length-append, append-nil, append_assoc, arith}
 use Rattle.std.proofs.lemmas.List.{map-append, length-map}
 use Rattle.rand_pcg.specs.Lcg.{Lcg}
 use Rattle.rand_pcg.specs.Pcg.{pcg32}
@@ -31,6 +31,9 @@ client_more left client g = ap₂ (λ (a b : List ℕ). requests_of client a ∷
 
 times_more : (left : ℕ) → suc left * words_each ≡ words_each + left * words_each
 times_more left = omega arith
+
+pub one_more_times : (n : ℕ) → n * words_each + words_each ≡ (n + 1) * words_each
+one_more_times n = omega arith
 
 -- the same of so many clients
 pub client_at : (left count client : ℕ) (g : Lcg) → count ≡ suc left

@@ -1,3 +1,4 @@
 pub mod Generator
 pub mod Workload
+pub mod Schedule
 pub mod Summary

@@ -1,8 +1,8 @@
 // The requests of the benchmark's clients.
-ghost use Rattle.std.specs.Prelude.{◌≡◌, ◌<◌, ◌≤◌, ◌^◌, IfOk, OnOk, length, replicate};
+ghost use Rattle.std.specs.Prelude.{◌≡◌, ◌<◌, ◌≤◌, ◌^◌, ◌*◌, IfOk, OnOk, length, replicate};
 ghost use Rattle.ufs_model.specs.Bounds.{IsBounded};
-ghost use Rattle.ufs_bench.specs.Generator.{after_words, next_words};
-ghost use Rattle.ufs_bench.specs.Workload.{bench_geometry, client_count, count_of, dir_path, fd_of, file_path, first_requests, kind_of, opening, place_of, request_of, requests_of, words_each, workload_of};
+ghost use Rattle.ufs_bench.specs.Generator.{after_words, generator_of, next_words};
+ghost use Rattle.ufs_bench.specs.Workload.{bench_geometry, client_count, count_of, dir_path, fd_of, file_path, first_requests, kind_of, opening, place_of, request_of, requests_of, words_each, workload, workload_of};
 
 use rand_core::SeedableRng;
 use rand_core::utils::NextWord;
@@ -159,14 +159,29 @@ fn requests_of(alloc: Global, client: u8, rng: &mut Lcg64Xsh32) -> Result<OpList
     Ok(requests)
 }
 
+/// The generator of a seed.
+pub fn generator_of(seed: u32) -> Lcg64Xsh32
+    ensures { result ≡ generator_of seed }
+{
+    Lcg64Xsh32::seed_from_u64(u64::from(seed))
+}
+
+/// The requests of all clients, of the generator's next words.
+pub fn clients_of(alloc: Global, rng: &mut Lcg64Xsh32) -> Result<OpLists, Memory>
+    ensures value { IfOk result (λ clients. clients ≡ workload (next_words (client_count * words_each) rng.old)) }
+    ensures next { OnOk result (rng.new ≡ after_words (client_count * words_each) rng.old) }
+{
+    let mut clients = OpLists::new(alloc);
+    for client in 0..CLIENTS {
+        clients.push(requests_of(alloc, client, rng)?)?;
+    }
+    Ok(clients)
+}
+
 /// The requests of the benchmark's clients, of the words that the generator of this seed gives.
 pub fn workload(alloc: Global, seed: u32) -> Result<OpLists, Memory>
     ensures { IfOk result (λ clients. clients ≡ workload_of seed) }
 {
-    let mut rng = Lcg64Xsh32::seed_from_u64(u64::from(seed));
-    let mut clients = OpLists::new(alloc);
-    for client in 0..CLIENTS {
-        clients.push(requests_of(alloc, client, &mut rng)?)?;
-    }
-    Ok(clients)
+    let mut rng = generator_of(seed);
+    clients_of(alloc, &mut rng)
 }

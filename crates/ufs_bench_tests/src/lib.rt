@@ -1,4 +1,4 @@
-//! The benchmark's workload, beside what a program of another language makes of the same seed.
+//! The benchmark's workload and schedule, beside what a program of another language makes of the same seed.
 #![tactic(auto)]
 
 #[cfg(test)]

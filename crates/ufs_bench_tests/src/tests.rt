@@ -1,7 +1,8 @@
 use crate::asserts::{holds, same};
 use std::process::Abort;
-use ufs_bench::workload;
+use ufs_bench::{bench_script, workload};
 use ufs_model::Op;
+use ufs_script::ScheduleWord;
 
 // Of client 0 of seed 1, the requests behind the first five: what it does (write, read, sync, or cut and extend), the descriptor,
 // how many bytes, and the place or the length.
@@ -67,6 +68,75 @@ const REQUESTS: [(char, u64, usize, u64); 59] = [
     ('r', 3, 197, 33223),
 ];
 
+// Of the schedule of seed 1, the first words: the letter of a schedule word as scripts write it, and the number of the client or the
+// worker, or that of the ticks.
+const TURNS: [(char, u16); 64] = [
+    ('c', 0),
+    ('c', 7),
+    ('c', 7),
+    ('c', 3),
+    ('c', 6),
+    ('t', 1),
+    ('l', 0),
+    ('w', 1),
+    ('l', 0),
+    ('c', 0),
+    ('t', 1),
+    ('c', 6),
+    ('w', 2),
+    ('w', 4),
+    ('c', 1),
+    ('c', 5),
+    ('l', 0),
+    ('c', 1),
+    ('l', 0),
+    ('t', 1),
+    ('c', 6),
+    ('c', 2),
+    ('c', 1),
+    ('w', 3),
+    ('w', 2),
+    ('c', 6),
+    ('w', 1),
+    ('c', 5),
+    ('c', 0),
+    ('c', 7),
+    ('w', 1),
+    ('c', 2),
+    ('c', 6),
+    ('c', 3),
+    ('c', 5),
+    ('w', 3),
+    ('w', 3),
+    ('w', 2),
+    ('w', 4),
+    ('t', 1),
+    ('w', 4),
+    ('p', 0),
+    ('c', 1),
+    ('c', 6),
+    ('c', 5),
+    ('w', 1),
+    ('w', 4),
+    ('c', 2),
+    ('c', 6),
+    ('l', 0),
+    ('w', 1),
+    ('w', 2),
+    ('w', 4),
+    ('w', 2),
+    ('w', 2),
+    ('c', 4),
+    ('c', 0),
+    ('c', 2),
+    ('l', 0),
+    ('c', 4),
+    ('w', 1),
+    ('c', 5),
+    ('c', 0),
+    ('c', 3),
+];
+
 const OPENED: [&str; 4] = ["/c0/f0", "/c0/f1", "/c0/f2", "/c0/f3"];
 
 // What the request does, its descriptor, bytes and place.
@@ -97,6 +167,26 @@ fn check_first(rt: &impl Abort, ops: &[Op]) {
     }
 }
 
+// The word's letter and number.
+fn turn_of(word: &ScheduleWord) -> (char, u16) {
+    match word {
+        ScheduleWord::Client(client) => ('c', u16::from(*client)),
+        ScheduleWord::Worker(worker) => ('w', u16::from(*worker)),
+        ScheduleWord::Primary => ('p', 0),
+        ScheduleWord::Plan => ('l', 0),
+        ScheduleWord::Ticks(ticks) => ('t', *ticks),
+        ScheduleWord::Move { to, .. } => ('m', u16::from(*to)),
+    }
+}
+
+fn check_turns(rt: &impl Abort, words: &[ScheduleWord]) {
+    holds(rt, words.len() == 200_000);
+    for (word, turn) in words.iter().zip(&TURNS) {
+        same(rt, turn_of(word), *turn);
+    }
+    same(rt, turn_of(&words[199_999]), ('c', 1));
+}
+
 #[test]
 fn a_seed_gives_the_requests_that_another_program_makes_of_it(rt: HostRuntime) {
     let clients = workload(rt.alloc(), 1).expect(&rt, "memory");
@@ -106,4 +196,14 @@ fn a_seed_gives_the_requests_that_another_program_makes_of_it(rt: HostRuntime) {
     let last = clients[7].as_slice();
     holds(&rt, last.len() == 2_000);
     same(&rt, row_of(&last[1_999]), ('r', 5, 136, 51461));
+}
+
+#[test]
+fn a_seed_gives_the_schedule_that_another_program_makes_of_it(rt: HostRuntime) {
+    let script = bench_script(rt.alloc(), 1).expect(&rt, "memory");
+    same(&rt, script.workers, 4);
+    let clients = script.clients.as_slice();
+    holds(&rt, clients.len() == 8);
+    check_first(&rt, clients[0].as_slice());
+    check_turns(&rt, script.words.as_slice());
 }

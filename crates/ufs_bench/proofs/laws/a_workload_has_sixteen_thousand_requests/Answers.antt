@@ -1,5 +1,5 @@
 use Rattle.ufs_bench.specs.Generator.{words_of}
-use Rattle.ufs_bench.specs.Workload.{client_count, words_each}
+use Rattle.ufs_bench.specs.Workload.{client_count}
 use Rattle.ufs_bench.specs.Generator.{generator_of}
 use Rattle.ufs_bench.proofs.CountLemmas.{clients_length}
 use Rattle.ufs_bench.proofs.GeneratorLemmas.{length_words}
