@@ -20,8 +20,9 @@ use Rattle.ufs_joint.specs.FileHands.{IsFileHand, own_desc}
 use Rattle.ufs_turns.specs.Lent.{HasCommitted, IsBeside, LendsFile}
 use Rattle.ufs_held.specs.Asking.{Asks, IsAnswered, IsGuest}
 use Rattle.ufs_held.specs.Committed.{HasSameCells}
-use Rattle.ufs_held.specs.Drawn.{cell_then, fds_with, first_fds, fresh_of, held_leaves, kept_leaves}
+use Rattle.ufs_held.specs.Drawn.{cell_then, fds_with, first_fds, fresh_of, held_leaves}
 use Rattle.ufs_held.specs.Held.{HasFileAlone, IsHeld, first_cell}
+use Rattle.ufs_held.specs.Together.{still_of}
 use Rattle.ufs_held.proofs.Drawing.{other_fds, this_fd}
 
 pub without_none : {K D : Type 0} (ps : List (K × D)) → without (λ _. false) ps ≡ ps
@@ -166,7 +167,7 @@ module _ (own guest : View) (x : DurableState) (client : ℕ) (part : ClientPart
 
   -- ---- where all stays
 
-  module _ (entry : Entry) (of_client : entry.client ≡ client) (z : View) (is : z ≡ drawn entry.ticket (fresh_of entry) (kept_leaves joined) joined) (off : n ≢ x.file.file) where
+  module _ (entry : Entry) (of_client : entry.client ≡ client) (z : View) (is : z ≡ drawn entry.ticket (fresh_of entry) (still_of joined) joined) (off : n ≢ x.file.file) where
     kept_files : z.files ≡ (x.file.file, held.cell) ∷ []
     kept_files = ap (λ (q : View). q.files) is ∙ joined_hand.files
 
@@ -210,7 +211,7 @@ module _ (own guest : View) (x : DurableState) (client : ℕ) (part : ClientPart
       asked = without_none z.asked ∙ ap (λ (q : View). q.asked) is ∙ joined_asked;
       files = ap (without (is_file (File x.file.file))) kept_files ∙ (λ i. cond (kept_same i) [] ((x.file.file, held.cell) ∷ []));
       pools = ap (without (is_file (File x.file.file))) kept_pools ∙ (λ i. cond (kept_other i) [] ((n, pool) ∷ []));
-      names = without_none z.names ∙ ap (λ (q : View). q.names) is;
+      names = without_none z.names ∙ ap (λ (q : View). q.names) is ∙ joined_hand.names;
       store = without_none z.store ∙ ap (λ (q : View). q.store) is ∙ joined_store;
     }
 

@@ -4,6 +4,7 @@ use Rattle.ufs_file.specs.Hand.{FileState, IsFileOf, IsOf}
 use Rattle.ufs_file.proofs.FilledLemmas.{same_refusal}
 use Rattle.ufs_model.specs.Asks.{IsAsk}
 use Rattle.ufs_model.specs.Excuses.{ExcuseFits}
+use Rattle.ufs_model.specs.History.{is_excused}
 use Rattle.ufs_model.specs.FileCalls.{RefusalsArePosix, file_refusal, is_on_file}
 use Rattle.ufs_model.specs.PosixTree.{PosixTree}
 use Rattle.ufs_model.specs.Refusals.{refusal}
@@ -77,6 +78,13 @@ excuse_or x _ = x
 
 pub one_excuse : (r : Reply) (x y : Excuse) → r ≡ reply.Excused x → r ≡ reply.Excused y → x ≡ y
 one_excuse r x y is also = ap (excuse_or x) (sym is ∙ also)
+
+-- a reply isn't both an excuse and an acknowledgement
+pub not_done : (r : Reply) (x : Excuse) → r ≡ reply.Excused x → r ≡ reply.Done → ⊥
+not_done r x is done = (let clash : true ≡ false = sym (ap is_excused is) ∙ ap is_excused done in cc)
+
+pub not_excused : (r : Reply) → r ≡ reply.Done → is_excused r ≡ true → ⊥
+not_excused r done is = (let clash : false ≡ true = sym (ap is_excused done) ∙ is in cc)
 
 -- what is told of a store stays where nothing is done
 pub same_told : (o : Option View) → AreTold o o (λ had has. has ≡ had)

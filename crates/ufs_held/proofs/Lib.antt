@@ -3,3 +3,5 @@ pub mod After
 pub mod Excusing
 pub mod Birth
 pub mod Together
+pub mod Stopping
+pub mod Replying

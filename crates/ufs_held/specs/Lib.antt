@@ -5,3 +5,4 @@ pub mod Serving
 pub mod Births
 pub mod Committed
 pub mod Together
+pub mod Stopping

@@ -2,38 +2,27 @@
 ghost use Rattle.std.specs.Prelude.{ℕ, ◌≡◌, ◌≢◌, ◌≤◌, suc, [], IsTrue, true, false, None, Some};
 ghost use Rattle.ufs_bitmap.specs.Blocks.{BlockSet};
 ghost use Rattle.ufs_durable.specs.State.{state_of};
-ghost use Rattle.ufs_file.specs.Hand.{IsEntryOf, IsFileOf, IsOf};
-ghost use Rattle.ufs_model.specs.Asks.{IsAsk};
-ghost use Rattle.ufs_model.specs.Excuses.{ExcuseFits};
+ghost use Rattle.ufs_file.specs.Hand.{IsEntryOf, IsOf};
 ghost use Rattle.ufs_model.specs.FileCalls.{file_refusal};
-ghost use Rattle.ufs_model.specs.PosixTree.{PosixTree};
 ghost use Rattle.ufs_model.specs.declared.data.Desc.{Desc};
 ghost use Rattle.ufs_model.specs.declared.data.Excuse.TheVariants as excuse;
 ghost use Rattle.ufs_model.specs.declared.data.Reply.TheVariants as reply;
-ghost use Rattle.ufs_sound.specs.Draws.{left_faults};
-ghost use Rattle.ufs_sound.specs.Owned.{times};
 ghost use Rattle.ufs_sound.specs.Parts.{ClientPart};
-ghost use Rattle.ufs_joint.specs.Cells.{FileCell};
-ghost use Rattle.ufs_joint.specs.Draws.{drawn};
-ghost use Rattle.ufs_joint.specs.FileHands.{IsFileHand};
 ghost use Rattle.ufs_store.specs.Refusals.{fault_of, is_no_space, is_own};
 ghost use Rattle.ufs_store.specs.declared.fault.StoreFault.TheVariants as refusal;
 ghost use Rattle.ufs_turns.specs.Told.{fault_told, told_list};
 ghost use Rattle.ufs_held.specs.Asking.{Asks, IsAnswered, IsGuest, faults_of, is_of_turn};
-ghost use Rattle.ufs_held.specs.Drawn.{fresh_of, kept_leaves};
 ghost use Rattle.ufs_held.specs.Held.{IsHeld, first_cell};
 ghost use Rattle.ufs_held.specs.Serving.{is_of_read};
 
 use crate::held::Served;
-use crate::syncs::draw_kept;
-use std::marker::Brand;
+use crate::replies::draw_reply;
 use std::mem;
 use ufs_base::Lack;
 use ufs_durable::FileCommits;
 use ufs_file::FileHand;
 use ufs_joint::{Hand, HandTable, Naming, an_excuse_is_drawn};
-use ufs_model::{Actor, Ask, Entry, Excuse, PartName, Reply, a_file_goes_on_by_itself};
-use ufs_sound::Fresh;
+use ufs_model::{Actor, Ask, Excuse, PartName, Reply, a_file_goes_on_by_itself};
 use ufs_store::StoreFault;
 
 /// The excuse for what a turn of the store refused. The last number of the disk's count may be told twice, so it is no fault's.
@@ -43,6 +32,7 @@ pub fn excuse_of(fault: StoreFault) -> Excuse
     ensures read { IsTrue (is_own fault) → is_of_read result ≡ true }
     ensures used { told_list (fault_told (fault_of fault)) ≡ faults_of result }
     ensures stopped { (number : ℕ) → result ≡ excuse.Stopped number → fault ≡ refusal.Stopped number }
+    ensures halted { (number : ℕ) → fault ≡ refusal.Stopped number → result ≡ excuse.Stopped number }
 {
     match fault {
         StoreFault::Device { fault } if fault < u64::MAX => Excuse::Device { fault },
@@ -84,62 +74,13 @@ pub(crate) fn serve_excused<N: Naming>(
     ensures seen { result.guest.seen ≡ suc result.entry.ticket }
 {
     a_file_goes_on_by_itself();
+    an_excuse_is_drawn();
     right.join(table, guest);
     let desc = ask.desc;
-    let entry = draw_excused(table, right, ask, by, cause);
+    let entry = draw_reply(table, right, ask, by, Reply::Excused(cause));
     let own = right.split(table, PartName::File(file.file()));
     let guest = mem::replace(right, own);
     // For the prover alone.
     let _ = commits;
     Served { entry, desc, guest }
-}
-
-/// Draws the entry of a request on a file, with the excuse, by a hand that has the client, the file and the pool. All cells stay.
-pub fn draw_excused<N: Naming>(
-    table: &HandTable<N>,
-    right: &mut Hand<N>,
-    ask: Ask,
-    by: Actor,
-    cause: Excuse,
-) -> Entry
-    requires hand { (part : ClientPart) × (file : ℕ) × (cell : FileCell) × (n : ℕ) × (pool : BlockSet) × IsFileHand right.old ask.client part file cell n pool × Asks part ask × ((t : PosixTree) → IsFileOf cell.value.file t → IsAsk t ask → ExcuseFits t ask.client ask.op cause) }
-    requires device { (fault : ℕ) → cause ≡ excuse.Device fault → 1 ≤ times fault right.old.faults }
-    requires stopped { (fault : ℕ) → cause ≡ excuse.Stopped fault → right.old.stop ≡ Some fault }
-    ensures entry { IsEntryOf ask by result.ticket result }
-    ensures replied { result.reply ≡ reply.Excused cause }
-    ensures cells { right.new ≡ drawn result.ticket (fresh_of result) (kept_leaves right.old) right.old }
-    ensures later { right.old.seen ≤ result.ticket }
-{
-    an_excuse_is_drawn();
-    let Ask {
-        client,
-        seq,
-        op,
-        desc: _,
-        fd: _,
-        last: _,
-    } = ask;
-    let fresh = Fresh {
-        client,
-        seq,
-        by,
-        op,
-        reply: Reply::Excused(cause),
-    };
-    let ticket = draw_kept::<N, Brand>(table, right, &fresh);
-    let Fresh {
-        client,
-        seq,
-        by,
-        op,
-        reply,
-    } = fresh;
-    Entry {
-        ticket,
-        client,
-        seq,
-        by,
-        op,
-        reply,
-    }
 }

@@ -30,6 +30,7 @@ ghost use Rattle.ufs_held.specs.Births.{HasStill};
 ghost use Rattle.ufs_held.specs.Committed.{HasSameCells};
 ghost use Rattle.ufs_held.specs.Held.{HasFileAlone, IsHeld, first_cell};
 ghost use Rattle.ufs_held.specs.Serving.{IsReadFor, IsServeCause, read_as};
+ghost use Rattle.ufs_held.specs.Stopping.{ExcusesByStop, StopsByReply};
 ghost use Rattle.ufs_held.specs.Together.{AreApartFrom, HasDrawnStill, HasThemToo, still_of};
 
 use crate::births::tell_lent;
@@ -236,6 +237,8 @@ impl<N: Naming> HeldFile<N> {
         ensures freed { result.entry.reply ≡ reply.Done → AreTold (T.tells door.old) (T.tells door.new) (λ had has. has ≡ set.union had (set_of self.old.value.dropped)) }
         ensures unfreed { is_excused result.entry.reply ≡ true → AreTold (T.tells door.old) (T.tells door.new) (λ had has. has ≡ had) }
         ensures telling { is_some (T.tells door.new) ≡ is_some (T.tells door.old) }
+        ensures halts { StopsByReply (T.tells door.old) (T.tells door.new) result.entry.reply }
+        ensures halted { ExcusesByStop (T.tells door.old) result.entry.reply }
         ensures later { guest.seen ≤ result.entry.ticket }
         ensures seen { result.guest.seen ≡ suc result.entry.ticket }
     {

@@ -6,10 +6,11 @@ mod commits;
 mod draws;
 mod excuses;
 mod held;
+mod replies;
 mod serving;
 mod still;
 mod syncs;
 
-pub use excuses::{draw_excused, excuse_of};
+pub use excuses::excuse_of;
 pub use held::{Dropped, HeldFile, Served, draw_with_files};
-pub use still::draw_still;
+pub use replies::{draw_reply, entry_at, reply_to};

@@ -8,8 +8,8 @@ use std::marker::Brand;
 use ufs_joint::{Hand, HandTable, Leaving, Naming};
 use ufs_sound::Fresh;
 
-/// Draws an entry. All cells of the hand stay, the names' too.
-pub fn draw_still<N: Naming>(table: &HandTable<N>, hand: &mut Hand<N>, fresh: &Fresh) -> u64
+// Draws an entry. All cells of the hand stay, the names' too.
+pub(crate) fn draw_still<N: Naming>(table: &HandTable<N>, hand: &mut Hand<N>, fresh: &Fresh) -> u64
     requires may { MayDrawAny N.start hand.old fresh.now (λ n. still_of hand.old) }
     ensures cells { hand.new ≡ drawn result fresh.now (still_of hand.old) hand.old }
     ensures later { hand.old.seen ≤ result }

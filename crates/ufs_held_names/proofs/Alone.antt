@@ -1,5 +1,5 @@
 -- A request of the names that touches no live file, once its entry is drawn and the hands are parted.
-use Rattle.std.proofs.Common.{◌≡◌, ◌≢◌, ◌≤◌, ◌++◌, ◌⊎◌, ℕ, Bool, true, false, cond, List, [], ◌∷◌, Option, Some, None, sym, refl, ap, ◌∙◌, subst}
+use Rattle.std.proofs.Common.{◌≡◌, ◌≢◌, ◌≤◌, ◌+◌, ◌++◌, ◌⊎◌, ℕ, Bool, true, false, cond, List, [], ◌∷◌, Option, Some, None, is_some, sym, refl, ap, ◌∙◌, subst}
 use Rattle.std.specs.Prelude.{IfSome, IsSome}
 use Rattle.std.specs.FinMap as map
 use Rattle.ufs_bitmap.specs.Blocks.{BlockSet}
@@ -38,6 +38,7 @@ pub record HasDrawnAlone (ask : Ask) (by : Actor) (x y : Noted) (pool left : Blo
   pub served : is_excused e.reply ≡ false → HasServedWith ask x y map.empty (one_file x.names.next file) map.empty map.empty pool left None e.reply d
   pub young : IfSome file (λ s. s ≡ no_bytes x.names.next s.inode)
   pub lives : (f : ℕ) → IsSome (map.get y.names.held f) → IsSome (map.get x.names.held f) ⊎ (made_number file ≡ Some f)
+  pub next : y.names.next ≡ cond (is_some file) (x.names.next + 1) x.names.next
   pub cause : (q : Excuse) → e.reply ≡ reply.Excused q → (lent : BlockSet) × MayLack pool lent q × IsCause x.names.tree.dirs lent ask.op q
   pub unchanged : is_excused e.reply ≡ true → y ≡ x
   pub untaken : is_excused e.reply ≡ true → left ≡ pool
@@ -138,6 +139,7 @@ module _ (ask : Ask) (by : Actor) (x y : Noted) (pool left : BlockSet) (file : O
     names = λ is. names_served is;
     file = λ is. tt;
     lives = lives;
+    next = next_then;
     gone = λ is none. tt;
     made = subst (λ (k : ℕ). IfSome (made_in file z) (λ c. c ≡ new_cell (no_bytes k c.value.file.inode) e.ticket)) (sym next) (made_is part n came off);
     cause = λ q is. let why = drew.cause q is in (why.0, why.1, subst (λ (k : Noted). IsCause k.names.tree.dirs why.0 ask.op q) (sym held.value) why.2);
@@ -164,6 +166,14 @@ module _ (ask : Ask) (by : Actor) (x y : Noted) (pool left : BlockSet) (file : O
       lives : (f : ℕ) → IsSome (map.get cell_then.value.held f) → IsSome (map.get held.cell.value.held f) ⊎ (number_of (made_in file z) ≡ Some f)
       lives f live =
           subst (λ (q : Noted × Option ℕ). IsSome (map.get q.0.names.held f) ⊎ (q.1 ≡ Some f)) (λ i. (sym held.value i, numbers i)) (drew.lives f (subst (λ (q : Noted). IsSome (map.get q.names.held f)) now_noted live))
+
+      some_in : (o : Option FileState) → is_some o ≡ is_some (made_in o z)
+      some_in None = refl
+      some_in (Some s) = refl
+
+      next_then : cell_then.value.next ≡ cond (is_some (made_in file z)) (held.cell.value.next + 1) held.cell.value.next
+      next_then =
+          subst (λ (q : Noted × Noted × Bool). q.0.names.next ≡ cond q.2 (q.1.names.next + 1) q.1.names.next) (λ i. (sym now_noted i, sym held.value i, some_in file i)) drew.next
 
       next : held.cell.value.next ≡ x.names.next
       next = ap (λ (q : Noted). q.names.next) held.value

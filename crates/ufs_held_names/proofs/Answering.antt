@@ -124,20 +124,6 @@ module _ (own guest : View) (x : Noted) (held : HoldsNames x own) where
 
 -- and go back
 
-pub answered_still : (client : ℕ) (part : ClientPart) (cell : NamesCell) (n : ℕ) (pool : BlockSet) (v z : View) (e : Entry) → IsNamesGuest client part cell n pool v → e.client ≡ client → z ≡ drawn e.ticket (fresh_of e) (still_of v) v
-    → IsNamesGuest client (answered part e) cell n pool z
-answered_still client part cell n pool v z e has of_client is = record {
-  clients =
-      ap (λ (q : View). q.clients) is
-      ∙ (λ i. each (client_after e (first_fds (has.clients i))) (has.clients i))
-      ∙ ap (λ (b : Bool). (client, cond b (answered part e) part) ∷ []) (ap (λ (c : ℕ). eqb c client) of_client ∙ itself client);
-  asked = ap (λ (q : View). q.asked) is ∙ has.asked;
-  files = ap (λ (q : View). q.files) is ∙ has.files;
-  pools = ap (λ (q : View). q.pools) is ∙ has.pools;
-  names = ap (λ (q : View). q.names) is ∙ has.names;
-  store = ap (λ (q : View). q.store) is ∙ has.store;
-}
-
 pub names_in : (client : ℕ) (part : ClientPart) (cell : NamesCell) (n : ℕ) (pool : BlockSet) (z : View) → IsNamesGuest client part cell n pool z → AreNamesIn cell z
 names_in client part cell n pool z has = record { files = has.files; names = has.names }
 

@@ -119,16 +119,3 @@ all_apart client part names n pool files v has all none j =
 pub may_joined_all : (own guest : View) (x : Noted) (held : HoldsNames x own) (visible : Bool) (files : List FileCell) (r : Reply) → MayAnswerAll visible held.cell files guest r → MayAnswerAll visible held.cell files (both_of guest (given_of name.Names own)) r
 may_joined_all own guest x held visible files r (AllDone is known each_known) = AllDone is known each_known
 may_joined_all own guest x held visible files r (AllRefused q is kind rest faults stopped) = AllRefused q is kind rest (append-nil guest.faults ∙ faults) (λ fault same. stop_joined guest.stop own.stop fault (stopped fault same))
-
-pub drawn_all : (client : ℕ) (part : ClientPart) (cell : NamesCell) (n : ℕ) (pool : BlockSet) (v z : View) (e : Entry) → IsNamesGuest client part cell n pool v → e.client ≡ client → HasDrawnStill e.ticket (fresh_of e) v z → IsNamesGuest client (answered part e) cell n pool z
-drawn_all client part cell n pool v z e has of_client drew = record {
-  clients =
-      drew.clients
-      ∙ (λ i. each (client_after e (first_fds (has.clients i))) (has.clients i))
-      ∙ ap (λ (b : Bool). (client, cond b (answered part e) part) ∷ []) (ap (λ (c : ℕ). eqb c client) of_client ∙ itself client);
-  asked = drew.asked ∙ has.asked;
-  files = drew.files ∙ has.files;
-  pools = drew.pools ∙ has.pools;
-  names = drew.names ∙ has.names;
-  store = drew.store ∙ has.store;
-}

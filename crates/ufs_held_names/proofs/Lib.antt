@@ -11,3 +11,6 @@ mod Answering
 mod Faultless
 mod SyncedAll
 mod AnsweringAll
+mod Looking
+mod Births
+mod Answered

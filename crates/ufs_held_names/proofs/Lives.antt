@@ -1,5 +1,5 @@
 -- Which files are live once the names have served a request.
-use Rattle.std.proofs.Common.{◌≡◌, ◌≢◌, ℕ, ◌⊎◌, inl, inr, eqb, true, false, ◌&&◌, ◌||◌, Option, Some, None, is_some, sym, refl, ap, ◌∙◌}
+use Rattle.std.proofs.Common.{◌≡◌, ◌≢◌, ◌<◌, ℕ, ◌+◌, ◌⊎◌, inl, inr, eqb, Bool, true, false, cond, ◌&&◌, ◌||◌, Option, Some, None, is_some, sym, refl, ap, ◌∙◌, arith}
 use Rattle.std.specs.Prelude.{IfSome, IsSome}
 use Rattle.std.specs.Ordering.{nat_cmp}
 use Rattle.std.specs.FinMap as map
@@ -18,7 +18,9 @@ use Rattle.ufs_stored.specs.Parts.{Commits}
 use Rattle.ufs_noted.specs.Known.{file_in}
 use Rattle.ufs_noted.specs.Noted.{HasServedWith, Noted, one_file}
 use Rattle.ufs_noted.specs.declared.known.KnownFile.{KnownFile}
-use Rattle.ufs_noted.proofs.Maps.{file_here, none_some, only_file}
+use Rattle.ufs_joint.proofs.Blocks.{or_right}
+use Rattle.ufs_noted.proofs.Maps.{file_else, file_here, none_some, only_file}
+use Rattle.ufs_noted.proofs.Numbers.{next_then}
 use Rattle.ufs_held_names.specs.Drawn.{made_number}
 
 none_of : {A : Type 0} (o : Option A) → is_some o ≡ false → o ≡ None
@@ -53,7 +55,20 @@ module _ (t : PosixTree) (ask : Ask) (x y : Noted) (files left_files : Files) (c
       none_of (map.get y.names.held f)
       (served.goes_on.told f ∙ sym (sym (ap is_some none) ∙ served.go_on.here f ∙ (λ i. ((is_some (was i) || eqb f t.next) && is_some (map.get u.bytes f)))))
 
+  -- the next number is one more exactly where a file has it then
+  next_on : y.names.next ≡ cond (is_some (map.get left_files x.names.next)) (x.names.next + 1) x.names.next
+  next_on =
+      let next = asked.part.next in
+      let there : is_some (map.get left_files x.names.next) ≡ is_some (map.get u.bytes x.names.next) =
+      served.go_on.here x.names.next ∙ ap (λ (b : Bool). b && is_some (map.get u.bytes x.names.next)) (or_right (is_some (map.get files x.names.next)) (eqb x.names.next t.next) (ap (λ (m : ℕ). eqb m t.next) next ∙ itself t.next)) in
+      served.goes_on.next ∙ next_then t ask.client ask.op served.goes_on.tree ∙ (λ i. cond (is_some (map.get u.bytes (sym next i))) (sym next i + 1) (sym next i)) ∙ ap (λ (b : Bool). cond b (x.names.next + 1) x.names.next) (sym there)
+
 -- where none is touched,
+pub next_alone : (t : PosixTree) (ask : Ask) (x y : Noted) (made : Option FileState) (pool left : BlockSet) (r : Reply) (d : Option Desc) → IsAsked t x.names ask map.empty → HasServedWith ask x y map.empty (one_file x.names.next made) map.empty map.empty pool left None r d
+    → y.names.next ≡ cond (is_some made) (x.names.next + 1) x.names.next
+next_alone t ask x y made pool left r d asked came =
+    next_on t ask x y map.empty (one_file x.names.next made) map.empty map.empty pool left None r d asked came ∙ ap (λ (o : Option FileState). cond (is_some o) (x.names.next + 1) x.names.next) (file_here x.names.next made)
+
 pub lives_alone : (t : PosixTree) (ask : Ask) (x y : Noted) (made : Option FileState) (pool left : BlockSet) (r : Reply) (d : Option Desc) → IsAsked t x.names ask map.empty → HasServedWith ask x y map.empty (one_file x.names.next made) map.empty map.empty pool left None r d
     → IfSome made (λ s. s ≡ no_bytes x.names.next s.inode) → (f : ℕ) → IsSome (map.get y.names.held f) → IsSome (map.get x.names.held f) ⊎ (made_number made ≡ Some f)
 lives_alone t ask x y made pool left r d asked came young f live = by (lives_on t ask x y map.empty (one_file x.names.next made) map.empty map.empty pool left None r d asked came f live)
@@ -84,3 +99,11 @@ module _ (t : PosixTree) (ask : Ask) (x y : Noted) (file : KnownFile) (then : Op
   gone_with none =
       goes t ask x y (one_file file.hand.file (Some file.hand)) (one_file file.hand.file (file_in then)) commits left_commits pool left (Some file.hand.file) r d asked came file.hand.file file.hand
       (file_here file.hand.file (Some file.hand)) (file_here file.hand.file (file_in then) ∙ ap file_in none)
+
+  -- the touched file has a lower number, so none is made
+  pub next_with : y.names.next ≡ x.names.next
+  next_with =
+      let low = asked.part.tree.numbered file.hand.file (ap is_some (asked.files file.hand.file file.hand (file_here file.hand.file (Some file.hand))).here) in
+      let next = asked.part.next in
+      next_on t ask x y (one_file file.hand.file (Some file.hand)) (one_file file.hand.file (file_in then)) commits left_commits pool left (Some file.hand.file) r d asked came
+      ∙ ap (λ (o : Option FileState). cond (is_some o) (x.names.next + 1) x.names.next) (file_else file.hand.file (file_in then) x.names.next (λ is. absurd (omega (arith, low, next, is))))

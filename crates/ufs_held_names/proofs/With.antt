@@ -39,6 +39,7 @@ pub record HasDrawnWith (ask : Ask) (by : Actor) (x y : Noted) (pool left : Bloc
       → HasServedWith ask x y (one_file file.hand.file (Some file.hand)) (one_file file.hand.file (file_in then)) (one_known file.hand.file (Some file.commits)) (one_known file.hand.file (commits_in then)) pool left (Some file.hand.file) e.reply d
   pub number : IfSome then (λ k. k.hand.file ≡ file.hand.file)
   pub lives : (f : ℕ) → IsSome (map.get y.names.held f) → IsSome (map.get x.names.held f)
+  pub next : y.names.next ≡ x.names.next
   pub gone : is_excused e.reply ≡ false → then ≡ None → map.get y.names.held file.hand.file ≡ None
   pub cause : (q : Excuse) → e.reply ≡ reply.Excused q → (lent : BlockSet) × MayLack pool lent q × IsCause x.names.tree.dirs lent ask.op q
   pub unchanged : is_excused e.reply ≡ true → y ≡ x
@@ -196,6 +197,7 @@ module _ (ask : Ask) (by : Actor) (x y : Noted) (pool left : BlockSet) (file : K
     file = still_there part n came off;
     made = tt;
     lives = λ f live. inl (subst (λ (q : Noted). IsSome (map.get q.names.held f)) (sym held.value) (drew.lives f (subst (λ (q : Noted). IsSome (map.get q.names.held f)) (noted_after x y e held.cell held.value drew.unchanged) live)));
+    next = ap (λ (q : Noted). q.names.next) (noted_after x y e held.cell held.value drew.unchanged) ∙ drew.next ∙ sym (ap (λ (q : Noted). q.names.next) held.value);
     gone = gone;
     cause = λ q is. let why = drew.cause q is in (why.0, why.1, subst (λ (k : Noted). IsCause k.names.tree.dirs why.0 ask.op q) (sym held.value) why.2);
     kept = λ is. ap (λ (b : Bool). cond b held.cell (names_then y e.ticket held.cell)) is;

@@ -1,5 +1,5 @@
 -- What a request of the names comes to, at a server that holds them.
-use Rattle.std.specs.Prelude.{ℕ, suc, ◌≡◌, ◌≤◌, ◌⊎◌, IfSome, IsSome, Option, Some, None, true, false}
+use Rattle.std.specs.Prelude.{ℕ, suc, ◌≡◌, ◌≤◌, ◌+◌, ◌⊎◌, cond, is_some, IfSome, IsSome, Option, Some, None, true, false}
 use Rattle.std.specs.FinMap as map
 use Rattle.ufs_bitmap.specs.Blocks.{BlockSet}
 use Rattle.ufs_file.specs.Hand.{IsEntryOf}
@@ -61,6 +61,8 @@ pub record HasCome (ask : Ask) (by : Actor) (was now : NamesCell) (old new : Blo
   pub made : IfSome young (IsNewborn was.value.next e.ticket)
   -- each live file was live before, or is the one that was made; and the touched one is live no more where it isn't still there
   pub lives : (f : ℕ) → IsSome (map.get now.value.held f) → IsSome (map.get was.value.held f) ⊎ (number_of young ≡ Some f)
+  -- the next file number is one more where a file was made
+  pub next : now.value.next ≡ cond (is_some young) (was.value.next + 1) was.value.next
   pub gone : is_excused e.reply ≡ false → still ≡ None → IfSome touched (λ c. map.get now.value.held c.value.file.file ≡ None)
   pub cause : (x : Excuse) → e.reply ≡ reply.Excused x → (lent : BlockSet) × MayLack old lent x × IsCause was.value.tree.dirs lent ask.op x
   pub kept : is_excused e.reply ≡ true → now ≡ was

@@ -19,6 +19,7 @@ use Rattle.ufs_sound.specs.Parts.{ClientPart}
 use Rattle.ufs_joint.specs.Cells.{NamesCell, View}
 use Rattle.ufs_turns.specs.Lent.{AreTold}
 use Rattle.ufs_held.specs.Asking.{IsGuest, IsSyncReply, faults_of, is_of_turn}
+use Rattle.ufs_held.specs.Stopping.{ExcusesByStop, StopsByReply}
 use Rattle.ufs_held_names.specs.HeldNames.{AreCommitted}
 
 -- The client asked for an `fsync` of a directory, and what is told with it is so in each tree that has the client's descriptors.
@@ -74,5 +75,7 @@ pub record HasSyncedDir (visible : Bool) (ask : Ask) (by : Actor) (old new : Nam
   pub stop : (fault : ℕ) → e.reply ≡ reply.Excused (excuse.Stopped fault) → back.stop ≡ Some fault
   pub free : AreTold tells told (λ had has. has ≡ had)
   pub telling : is_some told ≡ is_some tells
+  pub halts : StopsByReply tells told e.reply
+  pub halted : ExcusesByStop tells e.reply
   pub later : before.seen ≤ e.ticket
   pub seen : back.seen ≡ suc e.ticket

@@ -6,3 +6,4 @@ pub mod Come
 pub mod Synced
 pub mod Dirs
 pub mod SyncAll
+pub mod Births

@@ -22,6 +22,7 @@ use Rattle.ufs_joint.specs.Cells.{FileCell, NamesCell, View}
 use Rattle.ufs_turns.specs.Lent.{AreTold}
 use Rattle.ufs_held.specs.Asking.{IsGuest, IsSyncReply, faults_of, is_of_turn}
 use Rattle.ufs_held.specs.Together.{under_numbers}
+use Rattle.ufs_held.specs.Stopping.{ExcusesByStop, StopsByReply}
 use Rattle.ufs_held_names.specs.Dirs.{answered}
 use Rattle.ufs_held_names.specs.HeldNames.{AreCommitted}
 
@@ -89,5 +90,7 @@ pub record HasSyncedAll (visible : Bool) (ask : Ask) (by : Actor) (old new : Nam
   pub faults : back.faults ≡ before.faults
   pub stop : (fault : ℕ) → e.reply ≡ reply.Excused (excuse.Stopped fault) → back.stop ≡ Some fault
   pub telling : is_some told ≡ is_some tells
+  pub halts : StopsByReply tells told e.reply
+  pub halted : ExcusesByStop tells e.reply
   pub later : before.seen ≤ e.ticket
   pub seen : back.seen ≡ suc e.ticket

@@ -17,6 +17,7 @@ use Rattle.ufs_sound.specs.Parts.{ClientPart}
 use Rattle.ufs_joint.specs.Cells.{FileCell, NamesCell, View}
 use Rattle.ufs_turns.specs.Lent.{AreTold}
 use Rattle.ufs_held.specs.Asking.{IsAnswered, IsGuest, IsSyncReply, faults_of}
+use Rattle.ufs_held.specs.Stopping.{ExcusesByStop, StopsByReply}
 use Rattle.ufs_held_names.specs.HeldNames.{AreCommitted}
 
 -- The guest goes back with one more entry, and its pool.
@@ -51,6 +52,7 @@ pub record HasTried (visible : Bool) (ask : Ask) (by : Actor) (tells told : Opti
   pub freed : e.reply ≡ reply.Done → AreTold tells told (λ had has. has ≡ set.union had (set_of was.value.dropped))
   pub unfreed : is_excused e.reply ≡ true → AreTold tells told (λ had has. has ≡ had)
   pub telling : is_some told ≡ is_some tells
+  pub halts : StopsByReply tells told e.reply
   pub later : before.seen ≤ e.ticket
   pub seen : back.seen ≡ suc e.ticket
 
@@ -72,5 +74,7 @@ pub record HasSynced (visible : Bool) (ask : Ask) (by : Actor) (old new : NamesC
   pub freed : e.reply ≡ reply.Done → AreTold tells told (λ had has. has ≡ set.union had (set_of was.value.dropped))
   pub unfreed : is_excused e.reply ≡ true → AreTold tells told (λ had has. has ≡ had)
   pub telling : is_some told ≡ is_some tells
+  pub halts : StopsByReply tells told e.reply
+  pub halted : ExcusesByStop tells e.reply
   pub later : before.seen ≤ e.ticket
   pub seen : back.seen ≡ suc e.ticket

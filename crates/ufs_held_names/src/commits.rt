@@ -8,8 +8,10 @@ ghost use Rattle.ufs_store.specs.Refusals.{fault_in, is_no_space};
 ghost use Rattle.ufs_store.specs.declared.fault.StoreFault.TheVariants as refusal;
 ghost use Rattle.ufs_turns.specs.Lent.{AreTold, IsBare, IsBeside, StopsByFault, TellsStop};
 ghost use Rattle.ufs_turns.specs.Told.{fault_told, told_list};
+ghost use Rattle.ufs_held_names.specs.Births.{KnowsBirths};
 ghost use Rattle.ufs_held_names.specs.HeldNames.{AreCommitted, HoldsNames, first_names};
 
+use crate::seeing::see_numbers;
 use ufs_held::HeldFile;
 use ufs_joint::{Hand, HandTable, Naming};
 use ufs_layout::Geometry;
@@ -18,8 +20,54 @@ use ufs_noted::NotedNames;
 use ufs_store::StoreFault;
 use ufs_turns::Turns;
 
-// Commits the names. The hand that comes has their cell meanwhile, and is told the fault.
+// Commits the names. The hand that comes has their cell meanwhile, and is told the fault. Behind a commit that passes each birth so far
+// is known.
 pub(crate) fn commit_lent<N: Naming, T: Turns<N>>(
+    table: &HandTable<N>,
+    right: &mut Hand<N>,
+    noted: &mut NotedNames,
+    reached: &mut u32,
+    guest: &mut Hand<N>,
+    door: &mut T,
+) -> Result<(), StoreFault>
+    requires held { HoldsNames noted.old right.old }
+    requires calm { right.old.faults ≡ [] }
+    requires births { KnowsBirths reached.old (first_names noted.old right.old.names) }
+    requires bare { IsBare guest.old }
+    ensures held { HoldsNames noted.new right.new }
+    ensures calm { right.new.faults ≡ [] }
+    ensures births { KnowsBirths reached.new (first_names noted.new right.new.names) }
+    ensures bare { IsBare guest.new }
+    ensures beside { IsBeside guest.old guest.new }
+    ensures ok { OnOk result (AreCommitted N.start.is_visible (first_names noted.old right.old.names) (first_names noted.new right.new.names)) }
+    ensures err { OnErr result (first_names noted.new right.new.names ≡ first_names noted.old right.old.names) }
+    ensures faults { guest.new.faults ≡ told_list (fault_told (fault_in result)) ++ guest.old.faults }
+    ensures stop { (fault : ℕ) → result ≡ Err (refusal.Stopped fault) → guest.new.stop ≡ Some fault }
+    ensures free { AreTold (T.tells door.old) (T.tells door.new) (λ had has. has ≡ had) }
+    ensures telling { is_some (T.tells door.new) ≡ is_some (T.tells door.old) }
+    ensures halts { StopsByFault (T.tells door.old) (T.tells door.new) (fault_in result) }
+    ensures halted { TellsStop (T.tells door.old) result }
+    ensures refused { IfErr result (λ fault. is_no_space fault ≡ false) }
+{
+    let done = commit_told(table, right, noted, guest, door);
+    see_numbers(table, right, noted);
+    reach(reached, noted, &done);
+    done
+}
+
+// Where the commit passed, no file has a number that isn't reached yet.
+fn reach(reached: &mut u32, noted: &NotedNames, done: &Result<(), StoreFault>)
+    ensures up { OnOk done.now (reached.new ≡ noted.now.names.next) }
+    ensures stays { OnErr done.now (reached.new ≡ reached.old) }
+{
+    match done {
+        Ok(()) => *reached = noted.next_number(),
+        Err(_) => {}
+    }
+}
+
+// The commit itself.
+fn commit_told<N: Naming, T: Turns<N>>(
     table: &HandTable<N>,
     right: &mut Hand<N>,
     noted: &mut NotedNames,

@@ -1,29 +1,25 @@
 // An `fsync` of a directory: the names are committed, and it is acknowledged or excused.
-ghost use Rattle.std.specs.Prelude.{ℕ, ◌≡◌, ◌≤◌, []};
+ghost use Rattle.std.specs.Prelude.{ℕ, ◌≡◌, []};
 ghost use Rattle.ufs_bitmap.specs.Blocks.{BlockSet};
-ghost use Rattle.ufs_file.specs.Hand.{IsEntryOf};
 ghost use Rattle.ufs_sound.specs.Parts.{ClientPart};
-ghost use Rattle.ufs_joint.specs.Cells.{NamesCell};
-ghost use Rattle.ufs_joint.specs.Draws.{drawn};
 ghost use Rattle.ufs_held.specs.Asking.{IsGuest};
-ghost use Rattle.ufs_held.specs.Drawn.{fresh_of};
-ghost use Rattle.ufs_held.specs.Together.{still_of};
-ghost use Rattle.ufs_held_names.specs.Dirs.{AsksDir, HasSyncedDir, IsAnsweredBy, IsNamesGuest, MayAnswer};
+ghost use Rattle.ufs_held_names.specs.Dirs.{AsksDir, HasSyncedDir, IsAnsweredBy, MayAnswer};
+ghost use Rattle.ufs_held_names.specs.Births.{KnowsBirths};
 ghost use Rattle.ufs_held_names.specs.HeldNames.{HoldsNames, first_names};
 
 use crate::commits::commit_lent;
 use crate::held_names::NamesSynced;
-use ufs_held::{draw_still, excuse_of};
+use ufs_held::{draw_reply, excuse_of};
 use ufs_joint::{Hand, HandTable, Naming, a_directory_is_acknowledged, a_names_excuse_is_drawn};
-use ufs_model::{Actor, Ask, Entry, PartName, Reply};
+use ufs_model::{Actor, Ask, PartName, Reply};
 use ufs_noted::NotedNames;
-use ufs_sound::Fresh;
 use ufs_turns::Turns;
 
 pub(crate) fn fsync_dir_lent<N: Naming, T: Turns<N>>(
     table: &HandTable<N>,
     right: &mut Hand<N>,
     noted: &mut NotedNames,
+    reached: &mut u32,
     ask: Ask,
     mut guest: Hand<N>,
     by: Actor,
@@ -31,12 +27,14 @@ pub(crate) fn fsync_dir_lent<N: Naming, T: Turns<N>>(
 ) -> NamesSynced<N>
     requires held { HoldsNames noted.old right.old }
     requires calm { right.old.faults ≡ [] }
+    requires births { KnowsBirths reached.old (first_names noted.old right.old.names) }
     requires guest { (part : ClientPart) × (n : ℕ) × (pool : BlockSet) × IsGuest ask.client part n pool guest × AsksDir part ask }
     ensures held { HoldsNames noted.new right.new }
     ensures calm { right.new.faults ≡ [] }
+    ensures births { KnowsBirths reached.new (first_names noted.new right.new.names) }
     ensures synced { HasSyncedDir N.start.is_visible ask by (first_names noted.old right.old.names) (first_names noted.new right.new.names) (T.tells door.old) (T.tells door.new) result.entry guest result.guest }
 {
-    match commit_lent(table, right, noted, &mut guest, door) {
+    match commit_lent(table, right, noted, reached, &mut guest, door) {
         Ok(()) => answer(table, right, noted, ask, guest, by, Reply::Done),
         Err(fault) => {
             let cause = excuse_of(fault);
@@ -66,58 +64,12 @@ fn answer<N: Naming>(
 {
     // For the prover alone.
     let _ = noted;
+    a_directory_is_acknowledged();
+    a_names_excuse_is_drawn();
     let own = right.split(table, PartName::Names);
     guest.join(table, own);
-    let entry = draw_answer(table, &mut guest, ask, by, reply);
+    let entry = draw_reply(table, &mut guest, ask, by, reply);
     let own = guest.split(table, PartName::Names);
     right.join(table, own);
     NamesSynced { entry, guest }
-}
-
-fn draw_answer<N: Naming>(
-    table: &HandTable<N>,
-    hand: &mut Hand<N>,
-    ask: Ask,
-    by: Actor,
-    reply: Reply,
-) -> Entry
-    requires hand { (part : ClientPart) × (names : NamesCell) × (n : ℕ) × (pool : BlockSet) × IsNamesGuest ask.client part names n pool hand.old × AsksDir part ask × MayAnswer N.start.is_visible names hand.old reply }
-    ensures entry { IsEntryOf ask by result.ticket result }
-    ensures replied { result.reply ≡ reply }
-    ensures cells { hand.new ≡ drawn result.ticket (fresh_of result) (still_of hand.old) hand.old }
-    ensures later { hand.old.seen ≤ result.ticket }
-{
-    a_directory_is_acknowledged();
-    a_names_excuse_is_drawn();
-    let Ask {
-        client,
-        seq,
-        op,
-        desc: _,
-        fd: _,
-        last: _,
-    } = ask;
-    let fresh = Fresh {
-        client,
-        seq,
-        by,
-        op,
-        reply,
-    };
-    let ticket = draw_still(table, hand, &fresh);
-    let Fresh {
-        client,
-        seq,
-        by,
-        op,
-        reply,
-    } = fresh;
-    Entry {
-        ticket,
-        client,
-        seq,
-        by,
-        op,
-        reply,
-    }
 }

@@ -1,5 +1,5 @@
 // A request of the names is applied and drawn, by a hand that has its client, the names, a pool and the file that it touches.
-ghost use Rattle.std.specs.Prelude.{ℕ, ◌≡◌, ◌<◌, ◌≤◌, ◌^◌, ◌⊎◌, [], ◌∷◌, true, false, None, Some, IfSome, IsSome};
+ghost use Rattle.std.specs.Prelude.{ℕ, ◌≡◌, ◌<◌, ◌≤◌, ◌+◌, ◌^◌, ◌⊎◌, [], ◌∷◌, true, false, cond, is_some, None, Some, IfSome, IsSome};
 ghost use Rattle.std.specs.FinMap as map;
 ghost use Rattle.ufs_bitmap.specs.Blocks.{BlockSet};
 ghost use Rattle.ufs_durable.specs.State.{state_of};
@@ -56,6 +56,7 @@ pub(crate) fn draw_alone<N: Naming>(
     ensures served { is_excused result.applied.entry.reply ≡ false → HasServedWith ask noted.old noted.new map.empty (one_file noted.old.names.next result.file) map.empty map.empty pool.old pool.new None result.applied.entry.reply result.applied.desc }
     ensures young { IfSome result.file (λ file. file ≡ no_bytes noted.old.names.next file.inode) }
     ensures lives { (f : ℕ) → IsSome (map.get noted.new.names.held f) → IsSome (map.get noted.old.names.held f) ⊎ (made_number result.file ≡ Some f) }
+    ensures next { noted.new.names.next ≡ cond (is_some result.file) (noted.old.names.next + 1) noted.old.names.next }
     ensures cause { (x : Excuse) → result.applied.entry.reply ≡ reply.Excused x → (lent : BlockSet) × MayLack pool.old lent x × IsCause noted.old.names.tree.dirs lent ask.op x }
     ensures unchanged { is_excused result.applied.entry.reply ≡ true → noted.new ≡ noted.old }
     ensures untaken { is_excused result.applied.entry.reply ≡ true → pool.new ≡ pool.old }
@@ -129,6 +130,7 @@ pub(crate) fn draw_with<N: Naming>(
     ensures served { is_excused result.applied.entry.reply ≡ false → HasServedWith ask noted.old noted.new (one_file file.hand.file (Some file.hand)) (one_file file.hand.file (file_in result.file)) (one_known file.hand.file (Some file.commits)) (one_known file.hand.file (commits_in result.file)) pool.old pool.new (Some file.hand.file) result.applied.entry.reply result.applied.desc }
     ensures number { IfSome result.file (λ kept. kept.hand.file ≡ file.hand.file) }
     ensures lives { (f : ℕ) → IsSome (map.get noted.new.names.held f) → IsSome (map.get noted.old.names.held f) }
+    ensures next { noted.new.names.next ≡ noted.old.names.next }
     ensures gone { is_excused result.applied.entry.reply ≡ false → result.file ≡ None → map.get noted.new.names.held file.hand.file ≡ None }
     ensures cause { (x : Excuse) → result.applied.entry.reply ≡ reply.Excused x → (lent : BlockSet) × MayLack pool.old lent x × IsCause noted.old.names.tree.dirs lent ask.op x }
     ensures unchanged { is_excused result.applied.entry.reply ≡ true → noted.new ≡ noted.old }

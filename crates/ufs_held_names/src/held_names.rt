@@ -1,5 +1,5 @@
 // The names, what was noted of them, and the right to their cell.
-ghost use Rattle.std.specs.Prelude.{ℕ, ◌≡◌, ◌≢◌, ◌<◌, ◌≤◌, ◌^◌, ◌++◌, ◌||◌, ◌⊎◌, suc, [], true, false, Err, Some, None, IfErr, IfOk, IfSome, OnErr, OnOk, IsSome, eqb, is_some, length};
+ghost use Rattle.std.specs.Prelude.{ℕ, ◌≡◌, ◌≢◌, ◌<◌, ◌≤◌, ◌+◌, ◌^◌, ◌++◌, ◌||◌, ◌⊎◌, cond, suc, [], true, false, Err, Some, None, IfErr, IfOk, IfSome, OnErr, OnOk, IsSome, eqb, is_some, length};
 ghost use Rattle.std.specs.FinMap as fin;
 ghost use Rattle.std.specs.FinSet as set;
 ghost use Rattle.ufs_bitmap.specs.Blocks.{BlockSet};
@@ -11,17 +11,19 @@ ghost use Rattle.ufs_model.specs.declared.data.Excuse.{Excuse};
 ghost use Rattle.ufs_model.specs.declared.data.Excuse.TheVariants as excuse;
 ghost use Rattle.ufs_model.specs.declared.data.Op.TheVariants as op;
 ghost use Rattle.ufs_model.specs.declared.data.Reply.TheVariants as reply;
-ghost use Rattle.ufs_names.specs.Calls.{IsOfNames};
 ghost use Rattle.ufs_names.specs.Space.{IsCause};
 ghost use Rattle.ufs_sound.specs.Owned.{count};
 ghost use Rattle.ufs_sound.specs.Parts.{ClientPart};
 ghost use Rattle.ufs_durable.specs.State.{file_committed};
+ghost use Rattle.ufs_joint.specs.NamesTurns.{live_files};
 ghost use Rattle.ufs_store.specs.Refusals.{fault_in, is_no_space};
 ghost use Rattle.ufs_store.specs.declared.fault.StoreFault.TheVariants as refusal;
 ghost use Rattle.ufs_turns.specs.Lent.{AreTold, IsBare, IsBeside, StopsByFault, TellsStop};
 ghost use Rattle.ufs_turns.specs.Told.{fault_told, told_list};
 ghost use Rattle.ufs_noted.specs.Noted.{HasServedWith, MayLack};
 ghost use Rattle.ufs_held.specs.Asking.{Asks, IsAnswered, IsGuest, IsSyncReply};
+ghost use Rattle.ufs_held.specs.Births.{HasStill};
+ghost use Rattle.ufs_held.specs.Stopping.{ExcusesByStop, StopsByReply};
 ghost use Rattle.ufs_held.specs.Together.{under_numbers};
 ghost use Rattle.ufs_held_names.specs.Asked.{IsNamedApart, IsNeeded, number_of};
 ghost use Rattle.ufs_held_names.specs.Asking.{AsksNames, IsAnsweredNames};
@@ -34,6 +36,7 @@ ghost use Rattle.ufs_held_names.specs.SyncAll.{AreAllLive, AreSynced, AsksSync, 
 use crate::commits::{commit_lent, tell_lent};
 use crate::dirs::fsync_dir_lent;
 use crate::newborn::Newborn;
+use crate::seeing::{see_live, see_numbers};
 use crate::serving::serve_any;
 use crate::sync_all::sync_lent;
 use crate::syncs::fsync_lent;
@@ -53,12 +56,15 @@ use ufs_turns::Turns;
 pub struct HeldNames<N: Naming> {
     noted: NotedNames,
     right: Hand<N>,
+    /// The next file number as it was at the last commit.
+    reached: u32,
 }
 
 impl<N: Naming> Model for HeldNames<N> {
     ghost use Rattle.std.specs.Prelude.{◌≡◌, []};
     ghost use Rattle.ufs_joint.specs.Cells.{NamesCell};
     ghost use Rattle.ufs_joint.specs.Codes.{names_code};
+    ghost use Rattle.ufs_held_names.specs.Births.{KnowsBirths};
     ghost use Rattle.ufs_held_names.specs.HeldNames.{HoldsNames, first_names};
 
     ghost Value = { NamesCell };
@@ -67,7 +73,7 @@ impl<N: Naming> Model for HeldNames<N> {
 
     ghost view = { λ h. first_names h.noted h.right.names };
 
-    ghost invariant = { λ h. HoldsNames h.noted h.right × (h.right.faults ≡ []) };
+    ghost invariant = { λ h. HoldsNames h.noted h.right × (h.right.faults ≡ []) × KnowsBirths h.reached (first_names h.noted h.right.names) };
 }
 
 /// What a request of the names was answered, the hand that came with it, and the file that it touched, if that is still there, or the
@@ -100,12 +106,21 @@ pub struct NamesSynced<N: Naming> {
 }
 
 impl<N: Naming> HeldNames<N> {
-    pub fn new(noted: NotedNames, right: Hand<N>) -> HeldNames<N>
+    /// The names as they are at a commit: they tell of each live file.
+    pub fn new(table: &HandTable<N>, noted: NotedNames, right: Hand<N>) -> HeldNames<N>
         requires held { HoldsNames noted right }
         requires calm { right.faults ≡ [] }
+        requires all { (first_names noted right.names).named ≡ live_files noted.names }
         ensures { result ≡ first_names noted right.names }
     {
-        HeldNames { noted, right }
+        let mut right = right;
+        see_numbers(table, &mut right, &noted);
+        let reached = noted.next_number();
+        HeldNames {
+            noted,
+            right,
+            reached,
+        }
     }
 
     pub fn into_parts(self) -> (NotedNames, Hand<N>)
@@ -113,7 +128,7 @@ impl<N: Naming> HeldNames<N> {
         ensures hand { HasNamesAlone self result.1 }
         ensures calm { result.1.faults ≡ [] }
     {
-        let HeldNames { noted, right } = self;
+        let HeldNames { noted, right, .. } = self;
         (noted, right)
     }
 
@@ -124,14 +139,31 @@ impl<N: Naming> HeldNames<N> {
         self.noted.next_number()
     }
 
-    /// The one live file that a request touches, if it does one: `serve` wants it. A `sync` touches all, and isn't asked for here.
-    pub fn needed(&self, ask: &Ask) -> Result<Option<u32>, Memory>
-        requires client { ask.now.client < 16 }
-        requires kind { IsOfNames ask.now }
-        requires one { ask.now.op ≢ op.Sync }
-        ensures { IfOk result (IsNeeded self.now.value ask.now) }
+    /// Whether the birth of a file, if it is live, is known as committed: so of each that was live at the last commit.
+    pub fn knows_birth(&self, file: u32) -> bool
+        ensures known { result ≡ true → IsSome (fin.get self.now.value.held file) → set.contains self.now.named file ≡ true }
+        ensures unknown { result ≡ false → set.contains self.now.named file ≡ false }
     {
-        self.noted.needed(ask)
+        file < self.reached
+    }
+
+    /// The one live file that a request touches, if it does one: `serve` wants it. A `sync` touches all, and isn't asked for here. The
+    /// hand that comes with the request has its client and a pool, and stays as it was.
+    pub fn needed(
+        &mut self,
+        table: &HandTable<N>,
+        ask: &Ask,
+        guest: &mut Hand<N>,
+    ) -> Result<Option<u32>, Memory>
+        requires guest { (part : ClientPart) × (n : ℕ) × (pool : BlockSet) × IsGuest ask.now.client part n pool guest.old × AsksNames part ask.now }
+        ensures same { self.new ≡ self.old }
+        ensures still { HasStill guest.old guest.new }
+        ensures needed { IfOk result (IsNeeded self.old.value ask.now) }
+        ensures live { IfOk result (λ needed. IfSome needed (λ file. IsSome (fin.get self.old.value.held file))) }
+    {
+        let HeldNames { noted, right, .. } = self;
+        see_live(table, right, noted, ask, guest);
+        noted.needed(ask)
     }
 
     /// Serves a request of the names that commits nothing, with the one live file that it touches, if it does one: draws its entry, and
@@ -161,6 +193,7 @@ impl<N: Naming> HeldNames<N> {
         // each live file was live before, or is the one that was made; the touched one is live no more where it isn't given back
         ensures lives { (f : ℕ) → IsSome (fin.get self.new.value.held f) → IsSome (fin.get self.old.value.held f) ⊎ (number_of result.made ≡ Some f) }
         ensures gone { is_excused result.entry.reply ≡ false → result.file ≡ None → IfSome file (λ c. fin.get self.new.value.held c.value.file.file ≡ None) }
+        ensures next { self.new.value.next ≡ cond (is_some result.made) (self.old.value.next + 1) self.old.value.next }
         ensures cause { (x : Excuse) → result.entry.reply ≡ reply.Excused x → (lent : BlockSet) × MayLack pool.old lent x × IsCause self.old.value.tree.dirs lent ask.op x }
         ensures kept { is_excused result.entry.reply ≡ true → self.new ≡ self.old }
         ensures kept_file { is_excused result.entry.reply ≡ true → result.file ≡ file }
@@ -172,7 +205,7 @@ impl<N: Naming> HeldNames<N> {
         ensures later { guest.seen ≤ result.entry.ticket }
         ensures seen { result.guest.seen ≡ suc result.entry.ticket }
     {
-        let HeldNames { noted, right } = self;
+        let HeldNames { noted, right, .. } = self;
         serve_any(table, right, noted, ask, guest, by, pool, file, geometry)
     }
 
@@ -197,8 +230,12 @@ impl<N: Naming> HeldNames<N> {
         ensures halted { TellsStop (T.tells door.old) result }
         ensures refused { IfErr result (λ fault. is_no_space fault ≡ false) }
     {
-        let HeldNames { noted, right } = self;
-        commit_lent(table, right, noted, guest, door)
+        let HeldNames {
+            noted,
+            right,
+            reached,
+        } = self;
+        commit_lent(table, right, noted, reached, guest, door)
     }
 
     /// Tells a file its birth, where the names know it as committed. A file that is held is live. Takes no memory.
@@ -209,7 +246,7 @@ impl<N: Naming> HeldNames<N> {
         ensures told { file.new ≡ record file.old { born = file.old.born || set.contains self.old.named file.old.value.file.file } }
         ensures live { IsSome (fin.get self.old.value.held file.old.value.file.file) }
     {
-        let HeldNames { noted, right } = self;
+        let HeldNames { noted, right, .. } = self;
         tell_lent(table, right, noted, file, geometry)
     }
 
@@ -248,11 +285,19 @@ impl<N: Naming> HeldNames<N> {
         ensures freed { result.entry.reply ≡ reply.Done → AreTold (T.tells door.old) (T.tells door.new) (λ had has. has ≡ set.union had (set_of file.value.dropped)) }
         ensures unfreed { is_excused result.entry.reply ≡ true → AreTold (T.tells door.old) (T.tells door.new) (λ had has. has ≡ had) }
         ensures telling { is_some (T.tells door.new) ≡ is_some (T.tells door.old) }
+        ensures halts { StopsByReply (T.tells door.old) (T.tells door.new) result.entry.reply }
+        ensures halted { ExcusesByStop (T.tells door.old) result.entry.reply }
         ensures later { guest.seen ≤ result.entry.ticket }
         ensures seen { result.guest.seen ≡ suc result.entry.ticket }
     {
-        let HeldNames { noted, right } = self;
-        fsync_lent(table, right, noted, ask, guest, by, file, door, geometry)
+        let HeldNames {
+            noted,
+            right,
+            reached,
+        } = self;
+        fsync_lent(
+            table, right, noted, reached, ask, guest, by, file, door, geometry,
+        )
     }
 
     /// Serves an `fsync` of a directory: commits the names in one turn of the store, and acknowledges. Where that fails, the request is
@@ -276,11 +321,17 @@ impl<N: Naming> HeldNames<N> {
         ensures stop { (fault : ℕ) → result.entry.reply ≡ reply.Excused (excuse.Stopped fault) → result.guest.stop ≡ Some fault }
         ensures free { AreTold (T.tells door.old) (T.tells door.new) (λ had has. has ≡ had) }
         ensures telling { is_some (T.tells door.new) ≡ is_some (T.tells door.old) }
+        ensures halts { StopsByReply (T.tells door.old) (T.tells door.new) result.entry.reply }
+        ensures halted { ExcusesByStop (T.tells door.old) result.entry.reply }
         ensures later { guest.seen ≤ result.entry.ticket }
         ensures seen { result.guest.seen ≡ suc result.entry.ticket }
     {
-        let HeldNames { noted, right } = self;
-        fsync_dir_lent(table, right, noted, ask, guest, by, door)
+        let HeldNames {
+            noted,
+            right,
+            reached,
+        } = self;
+        fsync_dir_lent(table, right, noted, reached, ask, guest, by, door)
     }
 
     /// Serves a `sync`, with every live file: commits the names, and then each file in the order of the list, each in a turn of the
@@ -311,10 +362,18 @@ impl<N: Naming> HeldNames<N> {
         ensures faults { result.guest.faults ≡ guest.faults }
         ensures stop { (fault : ℕ) → result.entry.reply ≡ reply.Excused (excuse.Stopped fault) → result.guest.stop ≡ Some fault }
         ensures telling { is_some (T.tells door.new) ≡ is_some (T.tells door.old) }
+        ensures halts { StopsByReply (T.tells door.old) (T.tells door.new) result.entry.reply }
+        ensures halted { ExcusesByStop (T.tells door.old) result.entry.reply }
         ensures later { guest.seen ≤ result.entry.ticket }
         ensures seen { result.guest.seen ≡ suc result.entry.ticket }
     {
-        let HeldNames { noted, right } = self;
-        sync_lent(table, right, noted, ask, guest, by, files, door, geometry)
+        let HeldNames {
+            noted,
+            right,
+            reached,
+        } = self;
+        sync_lent(
+            table, right, noted, reached, ask, guest, by, files, door, geometry,
+        )
     }
 }

@@ -7,6 +7,7 @@ mod dirs;
 mod draws;
 mod held_names;
 mod newborn;
+mod seeing;
 mod serving;
 mod sync_all;
 mod sync_answers;

@@ -6,6 +6,7 @@ ghost use Rattle.ufs_held.specs.Held.{IsHeld, first_cell};
 
 use std::alloc::Global;
 use std::marker::Model;
+use ufs_base::Memory;
 use ufs_durable::FileCommits;
 use ufs_file::FileHand;
 use ufs_held::HeldFile;
@@ -45,17 +46,18 @@ impl<N: Naming> Newborn<N> {
         Newborn { hand, right }
     }
 
-    /// The same file, with room for what is known of its commits. Where there is no memory for that it is as it was.
-    pub fn hold(self, alloc: Global) -> Result<HeldFile<N>, Newborn<N>>
+    /// The same file, with room for what is known of its commits. Where there is no memory for that it is as it was, and comes back
+    /// with what was wanting.
+    pub fn hold(self, alloc: Global) -> Result<HeldFile<N>, (Memory, Newborn<N>)>
         ensures ok { IfOk result (λ file. file ≡ self) }
-        ensures err { IfErr result (λ file. file ≡ self) }
+        ensures err { IfErr result (λ refused. refused.1 ≡ self) }
     {
         match FileCommits::make(alloc, &self.hand) {
             Ok(commits) => {
                 let Newborn { hand, right } = self;
                 Ok(HeldFile::new(hand, commits, right))
             }
-            Err(_) => Err(self),
+            Err(memory) => Err((memory, self)),
         }
     }
 }

@@ -11,11 +11,12 @@ ghost use Rattle.ufs_sound.specs.Parts.{ClientPart};
 ghost use Rattle.ufs_joint.specs.NamesTurns.{live_files};
 ghost use Rattle.ufs_store.specs.Refusals.{fault_in, is_no_space};
 ghost use Rattle.ufs_store.specs.declared.fault.StoreFault.TheVariants as refusal;
-ghost use Rattle.ufs_turns.specs.Lent.{AreTold, IsBare, IsBeside};
+ghost use Rattle.ufs_turns.specs.Lent.{AreTold, IsBare, IsBeside, StopsByFault, TellsStop};
 ghost use Rattle.ufs_turns.specs.Told.{fault_told, told_list};
 ghost use Rattle.ufs_held.specs.Asking.{IsGuest};
 ghost use Rattle.ufs_held.specs.Committed.{HasSameCells};
 ghost use Rattle.ufs_held.specs.Together.{under_numbers};
+ghost use Rattle.ufs_held_names.specs.Births.{KnowsBirths};
 ghost use Rattle.ufs_held_names.specs.HeldNames.{AreCommitted, HoldsNames, first_names};
 ghost use Rattle.ufs_held_names.specs.SyncAll.{AreAllLive, AreSynced, AsksSync, HasSyncedAll, IsFileCommitted, StopsShort, freed_by};
 
@@ -34,6 +35,7 @@ pub(crate) fn sync_lent<N: Naming, T: Turns<N>>(
     table: &HandTable<N>,
     right: &mut Hand<N>,
     noted: &mut NotedNames,
+    reached: &mut u32,
     ask: Ask,
     mut guest: Hand<N>,
     by: Actor,
@@ -45,13 +47,17 @@ pub(crate) fn sync_lent<N: Naming, T: Turns<N>>(
     requires its { geometry.now ≡ N.start.geometry }
     requires held { HoldsNames noted.old right.old }
     requires calm { right.old.faults ≡ [] }
+    requires births { KnowsBirths reached.old (first_names noted.old right.old.names) }
     requires guest { (part : ClientPart) × (n : ℕ) × (pool : BlockSet) × IsGuest ask.client part n pool guest × AsksSync part ask × (count eqb n (under_numbers files.old) ≡ 0) }
     requires all { AreAllLive noted.old.names files.old }
     ensures held { HoldsNames noted.new right.new }
     ensures calm { right.new.faults ≡ [] }
+    ensures births { KnowsBirths reached.new (first_names noted.new right.new.names) }
     ensures synced { HasSyncedAll N.start.is_visible ask by (first_names noted.old right.old.names) (first_names noted.new right.new.names) files.old files.new (T.tells door.old) (T.tells door.new) result.entry guest result.guest }
 {
-    match commit_all(table, right, noted, files, &mut guest, door, geometry) {
+    match commit_all(
+        table, right, noted, reached, files, &mut guest, door, geometry,
+    ) {
         Ok(()) => answer_all(
             table,
             right,
@@ -85,6 +91,7 @@ fn commit_all<N: Naming, T: Turns<N>>(
     table: &HandTable<N>,
     right: &mut Hand<N>,
     noted: &mut NotedNames,
+    reached: &mut u32,
     files: &mut [HeldFile<N>],
     guest: &mut Hand<N>,
     door: &mut T,
@@ -94,9 +101,11 @@ fn commit_all<N: Naming, T: Turns<N>>(
     requires its { geometry.now ≡ N.start.geometry }
     requires held { HoldsNames noted.old right.old }
     requires calm { right.old.faults ≡ [] }
+    requires births { KnowsBirths reached.old (first_names noted.old right.old.names) }
     requires bare { IsBare guest.old }
     ensures held { HoldsNames noted.new right.new }
     ensures calm { right.new.faults ≡ [] }
+    ensures births { KnowsBirths reached.new (first_names noted.new right.new.names) }
     ensures bare { IsBare guest.new }
     ensures beside { IsBeside guest.old guest.new }
     ensures names { OnOk result (AreCommitted N.start.is_visible (first_names noted.old right.old.names) (first_names noted.new right.new.names)) }
@@ -106,9 +115,11 @@ fn commit_all<N: Naming, T: Turns<N>>(
     ensures faults { guest.new.faults ≡ told_list (fault_told (fault_in result)) ++ guest.old.faults }
     ensures stop { (fault : ℕ) → result ≡ Err (refusal.Stopped fault) → guest.new.stop ≡ Some fault }
     ensures telling { is_some (T.tells door.new) ≡ is_some (T.tells door.old) }
+    ensures halts { StopsByFault (T.tells door.old) (T.tells door.new) (fault_in result) }
+    ensures halted { TellsStop (T.tells door.old) result }
     ensures refused { IfErr result (λ fault. is_no_space fault ≡ false) }
 {
-    match commit_lent(table, right, noted, guest, door) {
+    match commit_lent(table, right, noted, reached, guest, door) {
         Ok(()) => commit_files(table, right, noted, files, guest, door, geometry),
         Err(fault) => Err(fault),
     }
@@ -139,6 +150,7 @@ fn commit_files<N: Naming, T: Turns<N>>(
     ensures faults { guest.new.faults ≡ told_list (fault_told (fault_in result)) ++ guest.old.faults }
     ensures stop { (fault : ℕ) → result ≡ Err (refusal.Stopped fault) → guest.new.stop ≡ Some fault }
     ensures telling { is_some (T.tells door.new) ≡ is_some (T.tells door.old) }
+    ensures halts { StopsByFault (T.tells door.old) (T.tells door.new) (fault_in result) }
     ensures refused { IfErr result (λ fault. is_no_space fault ≡ false) }
 {
     for place in 0..files.len() {
@@ -174,6 +186,7 @@ fn commit_born<N: Naming, T: Turns<N>>(
     ensures faults { guest.new.faults ≡ told_list (fault_told (fault_in result)) ++ guest.old.faults }
     ensures stop { (fault : ℕ) → result ≡ Err (refusal.Stopped fault) → guest.new.stop ≡ Some fault }
     ensures telling { is_some (T.tells door.new) ≡ is_some (T.tells door.old) }
+    ensures halts { StopsByFault (T.tells door.old) (T.tells door.new) (fault_in result) }
     ensures refused { IfErr result (λ fault. is_no_space fault ≡ false) }
 {
     tell_committed(table, right, noted, file, geometry);

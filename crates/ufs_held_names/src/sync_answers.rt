@@ -1,26 +1,22 @@
 // A `sync` is answered, by a guest that has the names and every live file meanwhile.
 ghost use Rattle.std.specs.Prelude.{ℕ, ◌≡◌, eqb, []};
 ghost use Rattle.ufs_bitmap.specs.Blocks.{BlockSet};
-ghost use Rattle.ufs_file.specs.Hand.{IsEntryOf};
 ghost use Rattle.ufs_layout.specs.Areas.{IsGeometry};
 ghost use Rattle.ufs_sound.specs.Owned.{count};
 ghost use Rattle.ufs_sound.specs.Parts.{ClientPart};
-ghost use Rattle.ufs_joint.specs.Cells.{NamesCell};
 ghost use Rattle.ufs_held.specs.Asking.{IsGuest};
-ghost use Rattle.ufs_held.specs.Drawn.{fresh_of};
-ghost use Rattle.ufs_held.specs.Together.{HasDrawnStill, under_numbers};
-ghost use Rattle.ufs_held_names.specs.Dirs.{IsAnsweredBy, IsNamesGuest};
+ghost use Rattle.ufs_held.specs.Together.{under_numbers};
+ghost use Rattle.ufs_held_names.specs.Dirs.{IsAnsweredBy};
 ghost use Rattle.ufs_held_names.specs.HeldNames.{HoldsNames, first_names};
 ghost use Rattle.ufs_held_names.specs.SyncAll.{AreAllLive, AsksSync, MayAnswerAll};
 
 use crate::held_names::NamesSynced;
-use ufs_held::{HeldFile, draw_with_files};
+use ufs_held::{HeldFile, draw_with_files, entry_at, reply_to};
 use ufs_joint::{Hand, HandTable, Naming, a_sync_is_acknowledged};
 use ufs_kept::draw_law;
 use ufs_layout::Geometry;
-use ufs_model::{Actor, Ask, Entry, PartName, Reply};
+use ufs_model::{Actor, Ask, PartName, Reply};
 use ufs_noted::NotedNames;
-use ufs_sound::Fresh;
 
 // Draws the entry, with this reply.
 pub(crate) fn answer_all<N: Naming>(
@@ -49,62 +45,14 @@ pub(crate) fn answer_all<N: Naming>(
 {
     // For the prover alone.
     let _ = noted;
+    a_sync_is_acknowledged(geometry);
+    draw_law();
     let own = right.split(table, PartName::Names);
     guest.join(table, own);
-    let entry = draw_all(table, &mut guest, files, ask, by, reply, geometry);
+    let fresh = reply_to(ask, by, reply);
+    let ticket = draw_with_files(table, files, &mut guest, &fresh);
+    let entry = entry_at(ticket, fresh);
     let own = guest.split(table, PartName::Names);
     right.join(table, own);
     NamesSynced { entry, guest }
-}
-
-fn draw_all<N: Naming>(
-    table: &HandTable<N>,
-    hand: &mut Hand<N>,
-    files: &mut [HeldFile<N>],
-    ask: Ask,
-    by: Actor,
-    reply: Reply,
-    geometry: &Geometry,
-) -> Entry
-    requires formed { IsGeometry geometry.now }
-    requires its { geometry.now ≡ N.start.geometry }
-    requires hand { (part : ClientPart) × (names : NamesCell) × (n : ℕ) × (pool : BlockSet) × IsNamesGuest ask.client part names n pool hand.old × AsksSync part ask × (count eqb n (under_numbers files.old) ≡ 0) × AreAllLive names.value files.old × MayAnswerAll N.start.is_visible names files.old hand.old reply }
-    ensures files { files.new ≡ files.old }
-    ensures entry { IsEntryOf ask by result.ticket result }
-    ensures replied { result.reply ≡ reply }
-    ensures drawn { HasDrawnStill result.ticket (fresh_of result) hand.old hand.new }
-{
-    a_sync_is_acknowledged(geometry);
-    draw_law();
-    let Ask {
-        client,
-        seq,
-        op,
-        desc: _,
-        fd: _,
-        last: _,
-    } = ask;
-    let fresh = Fresh {
-        client,
-        seq,
-        by,
-        op,
-        reply,
-    };
-    let ticket = draw_with_files(table, files, hand, &fresh);
-    let Fresh {
-        client,
-        seq,
-        by,
-        op,
-        reply,
-    } = fresh;
-    Entry {
-        ticket,
-        client,
-        seq,
-        by,
-        op,
-        reply,
-    }
 }

@@ -8,15 +8,16 @@ ghost use Rattle.ufs_model.specs.declared.data.Op.TheVariants as op;
 ghost use Rattle.ufs_sound.specs.Parts.{ClientPart};
 ghost use Rattle.ufs_joint.specs.NamesTurns.{live_files};
 ghost use Rattle.ufs_held.specs.Asking.{Asks, IsGuest, faults_of, is_of_turn};
+ghost use Rattle.ufs_held_names.specs.Births.{KnowsBirths};
 ghost use Rattle.ufs_held_names.specs.HeldNames.{HoldsNames, first_names};
 ghost use Rattle.ufs_held_names.specs.Synced.{HasSynced, HasTried, IsExcusedBy};
 
 use crate::commits::{commit_lent, tell_committed};
 use crate::held_names::FileSynced;
-use ufs_held::{HeldFile, Served, draw_excused, excuse_of};
-use ufs_joint::{Hand, HandTable, Naming};
+use ufs_held::{HeldFile, Served, draw_reply, excuse_of};
+use ufs_joint::{Hand, HandTable, Naming, an_excuse_is_drawn};
 use ufs_layout::Geometry;
-use ufs_model::{Actor, Ask, Excuse, PartName, a_file_goes_on_by_itself};
+use ufs_model::{Actor, Ask, Excuse, PartName, Reply, a_file_goes_on_by_itself};
 use ufs_noted::NotedNames;
 use ufs_turns::Turns;
 
@@ -24,6 +25,7 @@ pub(crate) fn fsync_lent<N: Naming, T: Turns<N>>(
     table: &HandTable<N>,
     right: &mut Hand<N>,
     noted: &mut NotedNames,
+    reached: &mut u32,
     ask: Ask,
     mut guest: Hand<N>,
     by: Actor,
@@ -35,14 +37,16 @@ pub(crate) fn fsync_lent<N: Naming, T: Turns<N>>(
     requires its { geometry.now ≡ N.start.geometry }
     requires held { HoldsNames noted.old right.old }
     requires calm { right.old.faults ≡ [] }
+    requires births { KnowsBirths reached.old (first_names noted.old right.old.names) }
     requires guest { (part : ClientPart) × (n : ℕ) × (pool : BlockSet) × IsGuest ask.client part n pool guest × Asks part ask × (n ≢ file.value.file.file) }
     requires fsync { (fd : ℕ) × (ask.op ≡ op.Fsync fd) }
     requires named { IsOf ask.desc file.value.file.file }
     ensures held { HoldsNames noted.new right.new }
     ensures calm { right.new.faults ≡ [] }
+    ensures births { KnowsBirths reached.new (first_names noted.new right.new.names) }
     ensures synced { HasSynced N.start.is_visible ask by (first_names noted.old right.old.names) (first_names noted.new right.new.names) (T.tells door.old) (T.tells door.new) file result.file result.entry result.desc guest result.guest }
 {
-    match commit_lent(table, right, noted, &mut guest, door) {
+    match commit_lent(table, right, noted, reached, &mut guest, door) {
         Ok(()) => sync_born(table, right, noted, ask, guest, by, file, door, geometry),
         Err(fault) => {
             let cause = excuse_of(fault);
@@ -104,10 +108,11 @@ fn excuse_file<N: Naming>(
     ensures excused { IsExcusedBy cause ask by file result.file result.entry result.desc guest result.guest }
 {
     a_file_goes_on_by_itself();
+    an_excuse_is_drawn();
     let (hand, commits, own) = file.into_parts();
     guest.join(table, own);
     let desc = ask.desc;
-    let entry = draw_excused(table, &mut guest, ask, by, cause);
+    let entry = draw_reply(table, &mut guest, ask, by, Reply::Excused(cause));
     let right = guest.split(table, PartName::File(hand.file()));
     let file = HeldFile::new(hand, commits, right);
     FileSynced {

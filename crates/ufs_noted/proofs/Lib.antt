@@ -1,5 +1,5 @@
 mod Reached
-mod Numbers
+pub mod Numbers
 pub mod Maps
 mod Left
 mod Causes

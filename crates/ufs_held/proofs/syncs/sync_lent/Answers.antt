@@ -16,19 +16,20 @@ use Rattle.ufs_sound.specs.Draws.{left_faults}
 use Rattle.ufs_sound.specs.Parts.{ClientPart}
 use Rattle.ufs_store.specs.declared.fault.StoreFault.{StoreFault}
 use Rattle.ufs_store.specs.Refusals.{fault_in, fault_of}
+use Rattle.ufs_turns.specs.Lent.{StopsByFault}
 use Rattle.ufs_turns.specs.Told.{fault_told, told_list}
 use Rattle.ufs_held.specs.Asking.{Asks, IsGuest, IsSyncReply}
-use Rattle.ufs_held.specs.Drawn.{fresh_of, kept_leaves}
+use Rattle.ufs_held.specs.Drawn.{fresh_of}
 use Rattle.ufs_held.specs.Held.{IsHeld, first_cell}
+use Rattle.ufs_held.specs.Together.{still_of}
 use Rattle.ufs_held.proofs.After.{acknowledged, answered_still, came_below, failed_first, first_held, guest_still, held_failed, held_still, held_synced, joined_hand, kept_value, lends, same_part, still_first}
-use Rattle.ufs_held.proofs.Excusing.{one_excuse}
+use Rattle.ufs_held.proofs.Excusing.{not_done, one_excuse}
+use Rattle.ufs_held.proofs.Replying.{may_acknowledge}
+use Rattle.ufs_held.proofs.Stopping.{done_stops, failed_halted, failed_stops, passed_going}
 use Rattle.ufs_held.proofs.syncs.sync_lent.Goals as goal
 
-not_done : (r : Reply) (x : Excuse) → r ≡ reply.Excused x → r ≡ reply.Done → ⊥
-not_done r x is done = (let clash : true ≡ false = sym (ap is_excused is) ∙ ap is_excused done in absurd cc)
-
-pub draw_done-entry-requires-clause-hand : goal.draw_done-entry-requires-clause-hand
-draw_done-entry-requires-clause-hand g c =
+pub draw_reply-entry-requires : goal.draw_reply-entry-requires
+draw_reply-entry-requires g c =
     let f = c.requires.guest in
     let held = c.requires.held in
     let x = state_of c.args.file.now c.args.commits.now in
@@ -38,18 +39,11 @@ draw_done-entry-requires-clause-hand g c =
     let visible = g.N.Naming.start.is_visible in
     let done = c.in-Ok.ensures.ok x.file.file held.cell (lends visible own synced x y held) in
     let then = held_synced visible own synced x y held c.sync_file.ensures.beside c.sync_file.ensures.away done in
-    let hand = joined_hand synced c.args.guest y c.args.ask.client f.0 f.1 f.2 then f.3 in (
-      f.0,
-      y.file.file,
-      then.cell,
-      f.1,
-      f.2,
-      subst (λ (v : View). IsFileHand v c.args.ask.client f.0 y.file.file then.cell f.1 f.2) (sym c.join.ensures) hand,
-      f.4,
-      subst (IsOf c.args.ask.desc) (sym done.file.number) c.requires.named,
-      ap (λ (q : FileCell). q.born) (sym (first_held x own held)) ∙ c.requires.born,
-      done.all,
-    )
+    let hand = subst (λ (v : View). IsFileHand v c.args.ask.client f.0 y.file.file then.cell f.1 f.2) (sym c.join.ensures) (joined_hand synced c.args.guest y c.args.ask.client f.0 f.1 f.2 then f.3) in
+    record {
+      may = λ ticket. may_acknowledge g.N.Naming.start c.join.new.self f.0 y.file.file then.cell f.1 f.2 c.args.ask c.args.by ticket hand f.4 c.an_acknowledgement_is_drawn.ensures c.requires.fsync.0 c.requires.fsync.1
+          (subst (IsOf c.args.ask.desc) (sym done.file.number) c.requires.named) (ap (λ (q : FileCell). q.born) (sym (first_held x own held)) ∙ c.requires.born) done.all;
+    }
 
 pub returns-in-Ok-clause-held : goal.returns-in-Ok-clause-held
 returns-in-Ok-clause-held g c =
@@ -62,11 +56,11 @@ returns-in-Ok-clause-held g c =
     let visible = g.N.Naming.start.is_visible in
     let done = c.in-Ok.ensures.ok x.file.file held.cell (lends visible own synced x y held) in
     let then = held_synced visible own synced x y held c.sync_file.ensures.beside c.sync_file.ensures.away done in
-    let entry = c.draw_done-entry.result in
-    let z = c.draw_done-entry.new.right in
-    let is = c.draw_done-entry.ensures.cells ∙ ap (λ (v : View). drawn entry.ticket (fresh_of entry) (kept_leaves v) v) c.join.ensures in
+    let entry = c.draw_reply-entry.result in
+    let z = c.draw_reply-entry.new.hand in
+    let is = c.draw_reply-entry.ensures.cells ∙ ap (λ (v : View). drawn entry.ticket (fresh_of entry) (still_of v) v) c.join.ensures in
     subst (IsHeld y) (sym (c.replace-guest.ensures.after ∙ c.split-own.ensures.given ∙ ap (λ (m : ℕ). given_of (File m) z) c.file.ensures))
-    (held_still synced c.args.guest y c.args.ask.client f.0 f.1 f.2 then f.3 entry c.draw_done-entry.ensures.entry.client z is (λ e. f.5 (e ∙ done.file.number)))
+    (held_still synced c.args.guest y c.args.ask.client f.0 f.1 f.2 then f.3 entry c.draw_reply-entry.ensures.entry.client z is (λ e. f.5 (e ∙ done.file.number)))
 
 pub returns-in-Ok-clause-guest : goal.returns-in-Ok-clause-guest
 returns-in-Ok-clause-guest g c = λ part n pool came off.
@@ -79,16 +73,16 @@ returns-in-Ok-clause-guest g c = λ part n pool came off.
     let visible = g.N.Naming.start.is_visible in
     let done = c.in-Ok.ensures.ok x.file.file held.cell (lends visible own synced x y held) in
     let then = held_synced visible own synced x y held c.sync_file.ensures.beside c.sync_file.ensures.away done in
-    let entry = c.draw_done-entry.result in
-    let z = c.draw_done-entry.new.right in
-    let is = c.draw_done-entry.ensures.cells ∙ ap (λ (v : View). drawn entry.ticket (fresh_of entry) (kept_leaves v) v) c.join.ensures in
+    let entry = c.draw_reply-entry.result in
+    let z = c.draw_reply-entry.new.hand in
+    let is = c.draw_reply-entry.ensures.cells ∙ ap (λ (v : View). drawn entry.ticket (fresh_of entry) (still_of v) v) c.join.ensures in
     let off_it = λ (e : n ≡ y.file.file). off (e ∙ done.file.number) in
     let asks = subst (λ (p : ClientPart). Asks p c.args.ask) (same_part c.args.ask.client f.0 part f.1 n f.2 pool c.args.guest f.3 came) f.4 in (
-      acknowledged synced c.args.guest y c.args.ask.client part n pool then came entry c.draw_done-entry.ensures.entry.client z is off_it,
-      answered_still synced c.args.guest y c.args.ask.client part n pool then came entry c.draw_done-entry.ensures.entry.client z is off_it c.args.ask asks c.draw_done-entry.ensures.entry.asked,
-      subst (IsGuest c.args.ask.client (acknowledged synced c.args.guest y c.args.ask.client part n pool then came entry c.draw_done-entry.ensures.entry.client z is off_it) n pool)
+      acknowledged synced c.args.guest y c.args.ask.client part n pool then came entry c.draw_reply-entry.ensures.entry.client z is off_it,
+      answered_still synced c.args.guest y c.args.ask.client part n pool then came entry c.draw_reply-entry.ensures.entry.client z is off_it c.args.ask asks c.draw_reply-entry.ensures.entry.asked,
+      subst (IsGuest c.args.ask.client (acknowledged synced c.args.guest y c.args.ask.client part n pool then came entry c.draw_reply-entry.ensures.entry.client z is off_it) n pool)
           (sym (c.replace-guest.ensures.value ∙ c.split-own.ensures.kept ∙ ap (λ (m : ℕ). kept_of (File m) z) c.file.ensures))
-          (guest_still synced c.args.guest y c.args.ask.client part n pool then came entry c.draw_done-entry.ensures.entry.client z is off_it),
+          (guest_still synced c.args.guest y c.args.ask.client part n pool then came entry c.draw_reply-entry.ensures.entry.client z is off_it),
     )
 
 pub returns-in-Ok-clause-known : goal.returns-in-Ok-clause-known
@@ -102,12 +96,12 @@ returns-in-Ok-clause-known g c = λ replied seen.
     let visible = g.N.Naming.start.is_visible in
     let done = c.in-Ok.ensures.ok x.file.file held.cell (lends visible own synced x y held) in
     let then = held_synced visible own synced x y held c.sync_file.ensures.beside c.sync_file.ensures.away done in
-    let entry = c.draw_done-entry.result in
-    let z = c.draw_done-entry.new.right in
-    let is = c.draw_done-entry.ensures.cells ∙ ap (λ (v : View). drawn entry.ticket (fresh_of entry) (kept_leaves v) v) c.join.ensures in
+    let entry = c.draw_reply-entry.result in
+    let z = c.draw_reply-entry.new.hand in
+    let is = c.draw_reply-entry.ensures.cells ∙ ap (λ (v : View). drawn entry.ticket (fresh_of entry) (still_of v) v) c.join.ensures in
     subst (λ (q : FileCell). q.changed ≤ q.known)
     (sym (ap (λ (v : View). first_cell y v.files) (c.replace-guest.ensures.after ∙ c.split-own.ensures.given ∙ ap (λ (m : ℕ). given_of (File m) z) c.file.ensures)
-    ∙ still_first synced c.args.guest y c.args.ask.client f.0 f.1 f.2 then f.3 entry c.draw_done-entry.ensures.entry.client z is (λ e. f.5 (e ∙ done.file.number)))) (done.all seen)
+    ∙ still_first synced c.args.guest y c.args.ask.client f.0 f.1 f.2 then f.3 entry c.draw_reply-entry.ensures.entry.client z is (λ e. f.5 (e ∙ done.file.number)))) (done.all seen)
 
 pub returns-in-Ok-clause-cell : goal.returns-in-Ok-clause-cell
 returns-in-Ok-clause-cell g c =
@@ -120,12 +114,12 @@ returns-in-Ok-clause-cell g c =
     let visible = g.N.Naming.start.is_visible in
     let done = c.in-Ok.ensures.ok x.file.file held.cell (lends visible own synced x y held) in
     let then = held_synced visible own synced x y held c.sync_file.ensures.beside c.sync_file.ensures.away done in
-    let entry = c.draw_done-entry.result in
-    let z = c.draw_done-entry.new.right in
-    let is = c.draw_done-entry.ensures.cells ∙ ap (λ (v : View). drawn entry.ticket (fresh_of entry) (kept_leaves v) v) c.join.ensures in
+    let entry = c.draw_reply-entry.result in
+    let z = c.draw_reply-entry.new.hand in
+    let is = c.draw_reply-entry.ensures.cells ∙ ap (λ (v : View). drawn entry.ticket (fresh_of entry) (still_of v) v) c.join.ensures in
     let first : first_cell y c.replace-guest.new.dest.files ≡ record held.cell { value = y; known = done.known } =
     ap (λ (v : View). first_cell y v.files) (c.replace-guest.ensures.after ∙ c.split-own.ensures.given ∙ ap (λ (m : ℕ). given_of (File m) z) c.file.ensures)
-    ∙ still_first synced c.args.guest y c.args.ask.client f.0 f.1 f.2 then f.3 entry c.draw_done-entry.ensures.entry.client z is (λ e. f.5 (e ∙ done.file.number)) in
+    ∙ still_first synced c.args.guest y c.args.ask.client f.0 f.1 f.2 then f.3 entry c.draw_reply-entry.ensures.entry.client z is (λ e. f.5 (e ∙ done.file.number)) in
     first ∙ (λ i. record ((sym (first_held x own held)) i) { value = y; known = (sym (ap (λ (q : FileCell). q.known) first)) i })
 
 pub returns-in-Ok-clause-calm : goal.returns-in-Ok-clause-calm
@@ -134,32 +128,43 @@ returns-in-Ok-clause-calm g c = ap (λ (v : View). v.faults) (c.replace-guest.en
 pub returns-in-Ok-clause-faults : goal.returns-in-Ok-clause-faults
 returns-in-Ok-clause-faults g c =
     ap (λ (v : View). v.faults) (c.replace-guest.ensures.value ∙ c.split-own.ensures.kept)
-    ∙ ap (λ (v : View). v.faults) c.draw_done-entry.ensures.cells
-    ∙ ap (λ (r : Reply). left_faults r c.join.new.self.faults) c.draw_done-entry.ensures.done
+    ∙ ap (λ (v : View). v.faults) c.draw_reply-entry.ensures.cells
+    ∙ ap (λ (r : Reply). left_faults r c.join.new.self.faults) c.draw_reply-entry.ensures.replied
     ∙ ap (λ (v : View). v.faults) c.join.ensures
     ∙ ap (λ (faults : List ℕ). faults ++ c.args.guest.faults)
     (c.sync_file.ensures.faults ∙ ap (λ (r : Result ℕ StoreFault). told_list (fault_told (fault_in r)) ++ c.args.right.now.faults) c.in-Ok.is ∙ c.requires.calm)
 
 pub returns-in-Ok-clause-stop : goal.returns-in-Ok-clause-stop
-returns-in-Ok-clause-stop g c fault is = absurd (not_done c.draw_done-entry.result.reply (excuse.Stopped fault) is c.draw_done-entry.ensures.done)
+returns-in-Ok-clause-stop g c fault is = absurd (not_done c.draw_reply-entry.result.reply (excuse.Stopped fault) is c.draw_reply-entry.ensures.replied)
 
 pub returns-in-Ok-clause-freed : goal.returns-in-Ok-clause-freed
 returns-in-Ok-clause-freed g c done = c.in-Ok.ensures.freed
 
 pub returns-in-Ok-clause-unfreed : goal.returns-in-Ok-clause-unfreed
-returns-in-Ok-clause-unfreed g c excused = absurd (let clash : false ≡ true = sym (ap is_excused c.draw_done-entry.ensures.done) ∙ excused in cc)
+returns-in-Ok-clause-unfreed g c excused = absurd (let clash : false ≡ true = sym (ap is_excused c.draw_reply-entry.ensures.replied) ∙ excused in cc)
 
 pub returns-in-Ok-clause-later : goal.returns-in-Ok-clause-later
-returns-in-Ok-clause-later g c = came_below c.sync_file.new.hand c.args.guest c.join.new.self c.draw_done-entry.result.ticket c.join.ensures c.draw_done-entry.ensures.later
+returns-in-Ok-clause-later g c = came_below c.sync_file.new.hand c.args.guest c.join.new.self c.draw_reply-entry.result.ticket c.join.ensures c.draw_reply-entry.ensures.later
 
 pub returns-in-Ok-clause-seen : goal.returns-in-Ok-clause-seen
-returns-in-Ok-clause-seen g c = ap (λ (v : View). v.seen) (c.replace-guest.ensures.value ∙ c.split-own.ensures.kept) ∙ ap (λ (v : View). v.seen) c.draw_done-entry.ensures.cells
+returns-in-Ok-clause-seen g c = ap (λ (v : View). v.seen) (c.replace-guest.ensures.value ∙ c.split-own.ensures.kept) ∙ ap (λ (v : View). v.seen) c.draw_reply-entry.ensures.cells
 
 pub returns-in-Ok-clause-replied : goal.returns-in-Ok-clause-replied
-returns-in-Ok-clause-replied g c = subst IsSyncReply (sym c.draw_done-entry.ensures.done) tt
+returns-in-Ok-clause-replied g c = subst IsSyncReply (sym c.draw_reply-entry.ensures.replied) tt
 
 pub returns-in-Ok-clause-kept : goal.returns-in-Ok-clause-kept
-returns-in-Ok-clause-kept g c excused = (let clash : false ≡ true = sym (ap is_excused c.draw_done-entry.ensures.done) ∙ excused in absurd cc)
+returns-in-Ok-clause-kept g c excused = (let clash : false ≡ true = sym (ap is_excused c.draw_reply-entry.ensures.replied) ∙ excused in absurd cc)
+
+pub returns-in-Ok-clause-halts : goal.returns-in-Ok-clause-halts
+returns-in-Ok-clause-halts g c =
+    let tells = g.T.Turns.tells c.args.door.now in
+    let told = g.T.Turns.tells c.sync_file.new.self in
+    done_stops tells told c.draw_reply-entry.result.reply c.draw_reply-entry.ensures.replied (subst (λ (q : Result ℕ StoreFault). StopsByFault tells told (fault_in q)) c.in-Ok.is c.sync_file.ensures.halts)
+
+pub returns-in-Ok-clause-halted : goal.returns-in-Ok-clause-halted
+returns-in-Ok-clause-halted g c =
+    let tells = g.T.Turns.tells c.args.door.now in
+    passed_going ℕ tells c.sync_file.result _ c.draw_reply-entry.result.reply c.in-Ok.is c.sync_file.ensures.halted
 
 -- ---- where it fails
 
@@ -242,3 +247,15 @@ returns-in-Err-clause-freed g c done = absurd (not_done c.serve_excused.result.e
 
 pub returns-in-Err-clause-unfreed : goal.returns-in-Err-clause-unfreed
 returns-in-Err-clause-unfreed g c excused = c.in-Err.ensures.unfreed
+
+pub returns-in-Err-clause-halts : goal.returns-in-Err-clause-halts
+returns-in-Err-clause-halts g c =
+    let tells = g.T.Turns.tells c.args.door.now in
+    let told = g.T.Turns.tells c.sync_file.new.self in
+    failed_stops tells told c.serve_excused.result.entry.reply c.excuse_of-cause.result (fault_of c.in-Err.fault) c.serve_excused.ensures.replied c.excuse_of-cause.ensures.used
+    (subst (λ (q : Result ℕ StoreFault). StopsByFault tells told (fault_in q)) c.in-Err.is c.sync_file.ensures.halts)
+
+pub returns-in-Err-clause-halted : goal.returns-in-Err-clause-halted
+returns-in-Err-clause-halted g c =
+    let tells = g.T.Turns.tells c.args.door.now in
+    failed_halted ℕ tells c.sync_file.result c.in-Err.fault c.excuse_of-cause.result c.serve_excused.result.entry.reply c.in-Err.is c.sync_file.ensures.halted c.excuse_of-cause.ensures.halted c.serve_excused.ensures.replied

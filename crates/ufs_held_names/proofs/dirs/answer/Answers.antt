@@ -1,106 +1,43 @@
-use Rattle.std.proofs.Common.{◌≡◌, ◌≤◌, ◌++◌, [], ℕ, List, ap, refl, sym, subst, ◌∙◌, arith}
-use Rattle.std.proofs.lemmas.List.{append-nil}
+use Rattle.std.proofs.Common.{◌≡◌, ℕ, ap, sym, subst, ◌∙◌}
 use Rattle.ufs_joint.specs.Cells.{NamesCell, View, both_of, given_of, kept_of}
 use Rattle.ufs_model.specs.declared.data.PartName.TheVariants.{Names}
-use Rattle.ufs_model.specs.declared.data.Reply.{Reply}
-use Rattle.ufs_model.specs.declared.data.Reply.TheVariants.{Excused}
-use Rattle.ufs_sound.specs.Draws.{left_faults}
-use Rattle.ufs_turns.proofs.Hands.{later_left}
-use Rattle.ufs_held.specs.Asking.{IsGuest}
-use Rattle.ufs_held.proofs.Excusing.{stop_joined, used_by}
-use Rattle.ufs_held_names.specs.Dirs.{IsNamesGuest, MayAnswer, answered}
-use Rattle.ufs_held_names.specs.HeldNames.{HoldsNames, first_names}
+use Rattle.ufs_held.specs.Drawn.{fresh_of}
+use Rattle.ufs_held.specs.Together.{HasDrawnStill}
+use Rattle.ufs_held.proofs.Together.{drawn_still}
+use Rattle.ufs_held_names.specs.Dirs.{IsNamesGuest, MayAnswer}
 use Rattle.ufs_held_names.proofs.After.{first_held}
-use Rattle.ufs_held_names.proofs.Committed.{back_held, back_names}
-use Rattle.ufs_held_names.proofs.Answering.{answered_still, guest_left, joined_guest, may_joined, names_in}
+use Rattle.ufs_held_names.proofs.Answered.{HaveAnswered, have_answered}
+use Rattle.ufs_held_names.proofs.Answering.{joined_guest, may_answer, may_joined}
 use Rattle.ufs_held_names.proofs.dirs.answer.Goals as goal
 
-pub draw_answer-entry-requires : goal.draw_answer-entry-requires
-draw_answer-entry-requires g c =
+pub draw_reply-entry-requires : goal.draw_reply-entry-requires
+draw_reply-entry-requires g c =
     let f = c.requires.guest in
     let held = c.requires.held in
     let own = c.args.right.now in
     let x = c.args.noted.now in
-    let visible = g.N.Naming.start.is_visible in
+    let k = g.N.Naming.start in
     let joined = c.join.ensures ∙ ap (both_of c.args.guest) c.split-own.ensures.given in
-    let may = may_joined own c.args.guest x held visible c.args.reply (subst (λ (q : NamesCell). MayAnswer visible q c.args.guest c.args.reply) (first_held x own held) c.requires.may) in
+    let may = may_joined own c.args.guest x held k.is_visible c.args.reply (subst (λ (q : NamesCell). MayAnswer k.is_visible q c.args.guest c.args.reply) (first_held x own held) c.requires.may) in
     record {
-      hand = (
-        f.0,
-        held.cell,
-        f.1,
-        f.2,
-        subst (IsNamesGuest c.args.ask.client f.0 held.cell f.1 f.2) (sym joined) (joined_guest own c.args.guest x held c.args.ask.client f.0 f.1 f.2 f.3),
-        f.4,
-        subst (λ (v : View). MayAnswer visible held.cell v c.args.reply) (sym joined) may,
-      );
+      may = λ ticket. may_answer k c.join.new.self f.0 held.cell f.1 f.2 c.args.ask c.args.by c.args.reply ticket
+          (subst (IsNamesGuest c.args.ask.client f.0 held.cell f.1 f.2) (sym joined) (joined_guest own c.args.guest x held c.args.ask.client f.0 f.1 f.2 f.3)) f.4
+          c.a_directory_is_acknowledged.ensures c.a_names_excuse_is_drawn.ensures (subst (λ (v : View). MayAnswer k.is_visible held.cell v c.args.reply) (sym joined) may);
     }
 
-pub returns-clause-held : goal.returns-clause-held
-returns-clause-held g c =
+pub returns : goal.returns
+returns g c =
     let f = c.requires.guest in
-    let held = c.requires.held in
     let own = c.args.right.now in
     let x = c.args.noted.now in
-    let entry = c.draw_answer-entry.result in
-    let z = c.draw_answer-entry.new.hand in
-    let t = c.draw_answer-entry.ensures in
+    let entry = c.draw_reply-entry.result in
+    let z = c.draw_reply-entry.new.hand in
+    let t = c.draw_reply-entry.ensures in
     let joined = c.join.ensures ∙ ap (both_of c.args.guest) c.split-own.ensures.given in
-    let has = subst (IsNamesGuest c.args.ask.client f.0 held.cell f.1 f.2) (sym joined) (joined_guest own c.args.guest x held c.args.ask.client f.0 f.1 f.2 f.3) in
-    let after = answered_still c.args.ask.client f.0 held.cell f.1 f.2 c.join.new.self z entry has t.entry.client t.cells in
-    let there = names_in c.args.ask.client (answered f.0 entry) held.cell f.1 f.2 z after in
-    let back = c.join-2.ensures ∙ (λ i. both_of (c.split-own.ensures.kept i) (c.split-own-2.ensures.given i)) in
-    subst (HoldsNames x) (sym back) (back_held own z x held held.cell there x held.value)
-
-pub returns-clause-calm : goal.returns-clause-calm
-returns-clause-calm g c = ap (λ (v : View). v.faults) (c.join-2.ensures ∙ (λ i. both_of (c.split-own.ensures.kept i) (c.split-own-2.ensures.given i))) ∙ ap (λ (fs : List ℕ). fs ++ []) c.requires.calm
-
-pub returns-clause-same : goal.returns-clause-same
-returns-clause-same g c =
-    let f = c.requires.guest in
-    let held = c.requires.held in
-    let own = c.args.right.now in
-    let x = c.args.noted.now in
-    let entry = c.draw_answer-entry.result in
-    let z = c.draw_answer-entry.new.hand in
-    let t = c.draw_answer-entry.ensures in
-    let joined = c.join.ensures ∙ ap (both_of c.args.guest) c.split-own.ensures.given in
-    let has = subst (IsNamesGuest c.args.ask.client f.0 held.cell f.1 f.2) (sym joined) (joined_guest own c.args.guest x held c.args.ask.client f.0 f.1 f.2 f.3) in
-    let after = answered_still c.args.ask.client f.0 held.cell f.1 f.2 c.join.new.self z entry has t.entry.client t.cells in
-    let there = names_in c.args.ask.client (answered f.0 entry) held.cell f.1 f.2 z after in
-    let back = c.join-2.ensures ∙ (λ i. both_of (c.split-own.ensures.kept i) (c.split-own-2.ensures.given i)) in
-    ap (λ (v : View). first_names x v.names) back ∙ ap (first_names x) (back_names own z x held held.cell there) ∙ sym (first_held x own held)
-
-pub returns-clause-answered : goal.returns-clause-answered
-returns-clause-answered g c =
-    let f = c.requires.guest in
-    let held = c.requires.held in
-    let own = c.args.right.now in
-    let x = c.args.noted.now in
-    let entry = c.draw_answer-entry.result in
-    let z = c.draw_answer-entry.new.hand in
-    let t = c.draw_answer-entry.ensures in
-    let joined = c.join.ensures ∙ ap (both_of c.args.guest) c.split-own.ensures.given in
-    let has = subst (IsNamesGuest c.args.ask.client f.0 held.cell f.1 f.2) (sym joined) (joined_guest own c.args.guest x held c.args.ask.client f.0 f.1 f.2 f.3) in
-    let after = answered_still c.args.ask.client f.0 held.cell f.1 f.2 c.join.new.self z entry has t.entry.client t.cells in
-    let there = names_in c.args.ask.client (answered f.0 entry) held.cell f.1 f.2 z after in
+    let drew = subst (λ (v : View). HasDrawnStill entry.ticket (fresh_of entry) v z) joined (drawn_still entry.ticket (fresh_of entry) c.join.new.self z t.cells t.later) in
     let back = c.join-2.ensures ∙ (λ i. both_of (c.split-own.ensures.kept i) (c.split-own-2.ensures.given i)) in
     let left = c.split-own-2.ensures.kept in
-    let faults = ap (λ (v : View). v.faults) left ∙ ap (λ (v : View). v.faults) t.cells ∙ ap (λ (v : View). left_faults entry.reply v.faults) joined
-    ∙ (λ i. left_faults (t.replied i) (append-nil c.args.guest.faults i)) in
-    record {
-      entry = t.entry;
-      replied = t.replied;
-      guest = λ part n pool came.
-          let all = subst (IsNamesGuest c.args.ask.client part held.cell n pool) (sym joined) (joined_guest own c.args.guest x held c.args.ask.client part n pool came) in
-          subst (IsGuest c.args.ask.client (answered part entry) n pool) (sym left)
-          (guest_left c.args.ask.client (answered part entry) held.cell n pool z (answered_still c.args.ask.client part held.cell n pool c.join.new.self z entry all t.entry.client t.cells));
-      done = λ is. faults ∙ ap (λ (r : Reply). left_faults r c.args.guest.faults) is;
-      used = λ q rest is told. faults ∙ (λ i. left_faults (is i) (told i)) ∙ used_by q rest;
-      stop = λ fault is. ap (λ (v : View). v.stop) left ∙ ap (λ (v : View). v.stop) t.cells ∙ ap (λ (v : View). v.stop) joined ∙ stop_joined c.args.guest.stop own.stop fault is;
-      later =
-          let l : c.args.guest.seen ≤ c.join.new.self.seen = subst (λ (v : View). c.args.guest.seen ≤ v.seen) (sym joined) (later_left c.args.guest.seen own.seen) in
-          let m = t.later in
-          omega (arith, l, m);
-      seen = ap (λ (v : View). v.seen) left ∙ ap (λ (v : View). v.seen) t.cells;
-    }
+    let a : HaveAnswered x own c.join-2.new.self c.args.reply c.args.ask c.args.by entry c.args.guest c.split-own-2.new.self =
+    subst (λ (q : View × View). HaveAnswered x own q.0 c.args.reply c.args.ask c.args.by entry c.args.guest q.1) (λ i. (sym back i, sym left i))
+    (have_answered own c.args.guest x c.requires.held c.requires.calm c.args.ask c.args.by c.args.reply entry t.entry t.replied f.0 f.1 f.2 f.3 z drew) in
+    record { held = a.held; calm = a.calm; same = a.same; answered = a.answered_by }

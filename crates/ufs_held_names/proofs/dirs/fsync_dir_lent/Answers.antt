@@ -5,21 +5,18 @@ use Rattle.ufs_model.specs.declared.data.Excuse.{Excuse}
 use Rattle.ufs_model.specs.declared.data.Excuse.TheVariants as excuse
 use Rattle.ufs_model.specs.declared.data.Reply.{Reply}
 use Rattle.ufs_model.specs.declared.data.Reply.TheVariants as reply
-use Rattle.ufs_store.specs.Refusals.{fault_in}
+use Rattle.ufs_store.specs.Refusals.{fault_in, fault_of}
 use Rattle.ufs_store.specs.declared.fault.StoreFault.{StoreFault}
+use Rattle.ufs_turns.specs.Lent.{StopsByFault}
 use Rattle.ufs_turns.specs.Told.{fault_told, told_list}
 use Rattle.ufs_held.specs.Asking.{IsSyncReply}
-use Rattle.ufs_held.proofs.Excusing.{one_excuse}
+use Rattle.ufs_held.proofs.Excusing.{not_done, not_excused, one_excuse}
+use Rattle.ufs_held.proofs.Stopping.{done_stops, failed_halted, failed_stops, passed_going}
 use Rattle.ufs_held_names.specs.Dirs.{IsDone, IsRefused}
 use Rattle.ufs_held_names.specs.HeldNames.{AreCommitted, first_names}
 use Rattle.ufs_held_names.proofs.Tried.{came_still}
+use Rattle.ufs_held_names.proofs.Births.{births_same}
 use Rattle.ufs_held_names.proofs.dirs.fsync_dir_lent.Goals as goal
-
-not_done : (r : Reply) (x : Excuse) → r ≡ reply.Excused x → r ≡ reply.Done → ⊥
-not_done r x is done = (let clash : true ≡ false = sym (ap is_excused is) ∙ ap is_excused done in cc)
-
-not_excused : (r : Reply) → r ≡ reply.Done → is_excused r ≡ true → ⊥
-not_excused r done is = (let clash : false ≡ true = sym (ap is_excused done) ∙ is in cc)
 
 pub commit_lent-requires-clause-bare : goal.commit_lent-requires-clause-bare
 commit_lent-requires-clause-bare g c = (let came = c.requires.guest.3 in record { files = came.files; names = came.names; away = came.store })
@@ -42,6 +39,8 @@ returns-in-Ok-clause-synced g c =
     let a = c.answer.ensures.answered in
     let m = c.commit_lent.ensures in
     let r = c.answer.result.entry.reply in
+    let tells = g.T.Turns.tells c.args.door.now in
+    let told = g.T.Turns.tells c.commit_lent.new.door in
     record {
       entry = a.entry;
       replied = subst IsSyncReply (sym a.replied) tt;
@@ -52,6 +51,8 @@ returns-in-Ok-clause-synced g c =
       stop = λ fault is. absurd (not_done r (excuse.Stopped fault) is a.replied);
       free = m.free;
       telling = m.telling;
+      halts = done_stops tells told r a.replied (subst (λ (q : Result (Unit {0}) StoreFault). StopsByFault tells told (fault_in q)) c.in-Ok.is m.halts);
+      halted = passed_going (Unit {0}) tells c.commit_lent.result tt r c.in-Ok.is m.halted;
       later = let p = m.beside.seen in let q = a.later in omega (arith, p, q);
       seen = a.seen;
     }
@@ -78,6 +79,8 @@ returns-in-Err-clause-synced g c =
     let e = c.excuse_of-cause.ensures in
     let cause = c.excuse_of-cause.result in
     let r = c.answer-in-Err.result.entry.reply in
+    let tells = g.T.Turns.tells c.args.door.now in
+    let told = g.T.Turns.tells c.commit_lent.new.door in
     record {
       entry = a.entry;
       replied = subst IsSyncReply (sym a.replied) e.kind;
@@ -89,6 +92,18 @@ returns-in-Err-clause-synced g c =
       stop = λ fault is. a.stop fault (m.stop fault (c.in-Err.is ∙ ap Err (e.stopped fault (one_excuse r cause (excuse.Stopped fault) a.replied is))));
       free = m.free;
       telling = m.telling;
+      halts = failed_stops tells told r cause (fault_of c.in-Err.fault) a.replied e.used (subst (λ (q : Result (Unit {0}) StoreFault). StopsByFault tells told (fault_in q)) c.in-Err.is m.halts);
+      halted = failed_halted (Unit {0}) tells c.commit_lent.result c.in-Err.fault cause r c.in-Err.is m.halted e.halted a.replied;
       later = let p = m.beside.seen in let q = a.later in omega (arith, p, q);
       seen = a.seen;
     }
+
+pub returns-in-Ok-clause-births : goal.returns-in-Ok-clause-births
+returns-in-Ok-clause-births g c =
+    let y = c.commit_lent.new.noted in
+    births_same (first_names y c.commit_lent.new.right.names) (first_names y c.answer.new.right.names) c.commit_lent.new.reached c.answer.ensures.same c.commit_lent.ensures.births
+
+pub returns-in-Err-clause-births : goal.returns-in-Err-clause-births
+returns-in-Err-clause-births g c =
+    let y = c.commit_lent.new.noted in
+    births_same (first_names y c.commit_lent.new.right.names) (first_names y c.answer-in-Err.new.right.names) c.commit_lent.new.reached c.answer-in-Err.ensures.same c.commit_lent.ensures.births

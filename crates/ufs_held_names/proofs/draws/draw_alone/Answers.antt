@@ -1,6 +1,7 @@
-use Rattle.std.proofs.Common.{◌≡◌, inl, Bool, true, false, None, ap, sym, refl, subst, ◌∙◌, arith}
+use Rattle.std.proofs.Common.{◌≡◌, ◌+◌, inl, Bool, true, false, cond, is_some, None, Option, ap, sym, refl, subst, ◌∙◌, arith}
 use Rattle.std.specs.Prelude.{IsSome}
 use Rattle.std.specs.FinMap as map
+use Rattle.ufs_file.specs.Hand.{FileState}
 use Rattle.ufs_joint.specs.Cells.{View}
 use Rattle.ufs_joint.specs.Draws.{MayDraw}
 use Rattle.ufs_joint.specs.NamesHands.{NamesRequestsMayDraw}
@@ -12,7 +13,7 @@ use Rattle.ufs_held_names.specs.Drawn.{names_left, new_cells}
 use Rattle.ufs_held_names.proofs.Drawing.{apart_with, asked_of, asked_with, gathered_none, may_excused, may_served, none_some_of, part_of}
 use Rattle.ufs_held_names.proofs.Faultless.{calm, no_fault}
 use Rattle.ufs_held_names.proofs.Files.{files_none, new_files, new_next, new_once}
-use Rattle.ufs_held_names.proofs.Lives.{lives_alone}
+use Rattle.ufs_held_names.proofs.Lives.{lives_alone, next_alone}
 use Rattle.ufs_held_names.proofs.draws.draw_alone.Goals as goal
 
 by_reply : (b : Bool) (P : Type 0) → (b ≡ false → P) → (b ≡ true → P) → P
@@ -109,3 +110,21 @@ returns-clause-lives g c f live =
     by_reply (is_excused entry.reply) _
     (λ served. lives_alone t c.args.ask x c.apply_alone-applied.new.self c.apply_alone-applied.result.file c.args.pool.now c.apply_alone-applied.new.pool entry.reply c.apply_alone-applied.result.applied.desc asked (e.served served) e.young f live)
     (λ excused. inl (subst (λ (q : Noted). IsSome (map.get q.names.held f)) (e.unchanged excused) live))
+
+pub returns-clause-next : goal.returns-clause-next
+returns-clause-next g c =
+    let h = c.requires.hand in
+    let k = g.N.Naming.start in
+    let know = c.look.ensures.knows in
+    let v = c.args.right.now in
+    let x = c.args.noted.now in
+    let e = c.apply_alone-applied.ensures in
+    let entry = c.apply_alone-applied.result.applied.entry in
+    let gathered = gathered_none x.names c.args.ask c.requires.needed in
+    let t = tree_after know.start know.history in
+    let part = part_of k c.look.result v know h.0 h.1 h.2 c.args.pool.now c.args.ask h.3 x h.5 h.6 in
+    let asked = asked_with k c.look.result v know h.0 h.1 h.2 c.args.pool.now c.args.ask h.3 x h.5 h.6 map.empty (none_some_of k c.look.result v know h.0 h.1 h.2 c.args.pool.now c.args.ask h.3 x h.5 h.6)
+    (gathered t part (asked_of k c.look.result v know h.0 h.1 h.2 c.args.pool.now c.args.ask h.3 x h.5 h.6)) in
+    by_reply (is_excused entry.reply) _
+    (λ served. next_alone t c.args.ask x c.apply_alone-applied.new.self c.apply_alone-applied.result.file c.args.pool.now c.apply_alone-applied.new.pool entry.reply c.apply_alone-applied.result.applied.desc asked (e.served served))
+    (λ excused. ap (λ (q : Noted). q.names.next) (e.unchanged excused) ∙ sym (ap (λ (o : Option FileState). cond (is_some o) (x.names.next + 1) x.names.next) (e.none excused)))

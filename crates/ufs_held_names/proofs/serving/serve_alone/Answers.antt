@@ -30,11 +30,11 @@ part_made-made-requires g c =
     let z = c.draw_alone-applied.new.right in
     let t = c.draw_alone-applied.ensures in
     let drew : HasDrawnAlone c.args.ask c.args.by x y c.args.pool.now left file e d j z =
-    record { entry = t.entry; cells = t.cells; served = t.served; young = t.young; lives = t.lives; cause = t.cause; unchanged = t.unchanged; untaken = t.untaken; none = t.none; desc = t.desc; faults = t.faults; later = t.later } in
+    record { entry = t.entry; cells = t.cells; served = t.served; young = t.young; lives = t.lives; next = t.next; cause = t.cause; unchanged = t.unchanged; untaken = t.untaken; none = t.none; desc = t.desc; faults = t.faults; later = t.later } in
     made_held c.args.ask c.args.by x y c.args.pool.now left file e d own c.args.guest j z drew held c.join.ensures f.0 f.1 f.2 f.4.new
 
-pub returns-clause-held : goal.returns-clause-held
-returns-clause-held g c =
+pub returns : goal.returns
+returns g c =
     let f = c.requires.guest in
     let held = c.requires.held in
     let own = c.args.right.now in
@@ -48,34 +48,15 @@ returns-clause-held g c =
     let z = c.draw_alone-applied.new.right in
     let t = c.draw_alone-applied.ensures in
     let drew : HasDrawnAlone c.args.ask c.args.by x y c.args.pool.now left file e d j z =
-    record { entry = t.entry; cells = t.cells; served = t.served; young = t.young; lives = t.lives; cause = t.cause; unchanged = t.unchanged; untaken = t.untaken; none = t.none; desc = t.desc; faults = t.faults; later = t.later } in
-    let has : j.names ≡ (tt, held.cell) ∷ [] = ap (λ (v : View). v.names) c.join.ensures ∙ (λ i. held.alone.names i ++ f.2.names i) in
-    let to = c.replace-guest.ensures.after ∙ c.split-own.ensures.given ∙ ap (given_of Names) c.part_made-made.ensures.kept in
-    subst (HoldsNames y) (sym to) (held_alone c.args.ask c.args.by x y c.args.pool.now left file e d own c.args.guest j z drew held c.join.ensures has)
-
-pub returns-clause-calm : goal.returns-clause-calm
-returns-clause-calm g c = ap (λ (v : View). v.faults) (c.replace-guest.ensures.after ∙ c.split-own.ensures.given)
-
-pub returns-clause-came : goal.returns-clause-came
-returns-clause-came g c =
-    let f = c.requires.guest in
-    let held = c.requires.held in
-    let own = c.args.right.now in
-    let x = c.args.noted.now in
-    let y = c.draw_alone-applied.new.noted in
-    let left = c.draw_alone-applied.new.pool in
-    let file = c.draw_alone-applied.result.file in
-    let e = c.draw_alone-applied.result.applied.entry in
-    let d = c.draw_alone-applied.result.applied.desc in
-    let j = c.join.new.self in
-    let z = c.draw_alone-applied.new.right in
-    let t = c.draw_alone-applied.ensures in
-    let drew : HasDrawnAlone c.args.ask c.args.by x y c.args.pool.now left file e d j z =
-    record { entry = t.entry; cells = t.cells; served = t.served; young = t.young; lives = t.lives; cause = t.cause; unchanged = t.unchanged; untaken = t.untaken; none = t.none; desc = t.desc; faults = t.faults; later = t.later } in
+    record { entry = t.entry; cells = t.cells; served = t.served; young = t.young; lives = t.lives; next = t.next; cause = t.cause; unchanged = t.unchanged; untaken = t.untaken; none = t.none; desc = t.desc; faults = t.faults; later = t.later } in
     let has : j.names ≡ (tt, held.cell) ∷ [] = ap (λ (v : View). v.names) c.join.ensures ∙ (λ i. held.alone.names i ++ f.2.names i) in
     let to = c.replace-guest.ensures.after ∙ c.split-own.ensures.given ∙ ap (given_of Names) c.part_made-made.ensures.kept in
     let back = c.replace-guest.ensures.value ∙ c.split-own.ensures.kept ∙ ap (kept_of Names) c.part_made-made.ensures.kept in
     let now = ap (λ (v : View). first_names y v.names) to ∙ first_alone c.args.ask c.args.by x y c.args.pool.now left file e d own c.args.guest j z drew held c.join.ensures has in
-    subst (λ (q : NamesCell × NamesCell × Option FileCell × View). HasCome c.args.ask c.args.by q.0 q.1 c.args.pool.now left None None q.2 e d c.args.guest q.3)
-    (λ i. (sym (first_held x own held) i, sym now i, sym c.part_made-made.ensures.cell i, sym back i))
-    (come_alone c.args.ask c.args.by x y c.args.pool.now left file e d own c.args.guest j z drew held c.join.ensures f.0 f.1 f.2 f.4.new c.requires.calm)
+    record {
+      held = subst (HoldsNames y) (sym to) (held_alone c.args.ask c.args.by x y c.args.pool.now left file e d own c.args.guest j z drew held c.join.ensures has);
+      calm = ap (λ (v : View). v.faults) (c.replace-guest.ensures.after ∙ c.split-own.ensures.given);
+      came = subst (λ (q : NamesCell × NamesCell × Option FileCell × View). HasCome c.args.ask c.args.by q.0 q.1 c.args.pool.now left None None q.2 e d c.args.guest q.3)
+          (λ i. (sym (first_held x own held) i, sym now i, sym c.part_made-made.ensures.cell i, sym back i))
+          (come_alone c.args.ask c.args.by x y c.args.pool.now left file e d own c.args.guest j z drew held c.join.ensures f.0 f.1 f.2 f.4.new c.requires.calm);
+    }

@@ -5,12 +5,15 @@ use Rattle.ufs_joint.specs.Cells.{NamesCell}
 use Rattle.ufs_joint.specs.NamesTurns.{live_files}
 use Rattle.ufs_store.specs.Refusals.{fault_in}
 use Rattle.ufs_store.specs.declared.fault.StoreFault.{StoreFault}
+use Rattle.ufs_turns.specs.Lent.{StopsByFault, TellsStop}
 use Rattle.ufs_turns.specs.Told.{fault_told, told_list}
+use Rattle.ufs_held.proofs.Stopping.{passed_so, stops_twice}
 use Rattle.ufs_noted.specs.Noted.{Noted}
 use Rattle.ufs_held_names.specs.HeldNames.{AreCommitted, first_names}
 use Rattle.ufs_held_names.specs.SyncAll.{AtFile, AtNames, freed_by}
 use Rattle.ufs_held_names.proofs.After.{kept_noted}
 use Rattle.ufs_held_names.proofs.Tried.{told_twice}
+use Rattle.ufs_held_names.proofs.Births.{births_same}
 use Rattle.ufs_held_names.proofs.sync_all.commit_all.Goals as goal
 
 in_any_case : {A : Type 0} (r : Result (Unit {0}) StoreFault) → A → OnOk r A
@@ -67,6 +70,17 @@ returns-in-Ok-clause-faults g c =
 pub returns-in-Ok-clause-telling : goal.returns-in-Ok-clause-telling
 returns-in-Ok-clause-telling g c = c.commit_files.ensures.telling ∙ c.commit_lent.ensures.telling
 
+pub returns-in-Ok-clause-halts : goal.returns-in-Ok-clause-halts
+returns-in-Ok-clause-halts g c =
+    let m = c.commit_lent.ensures in
+    let tells = g.T.Turns.tells c.args.door.now in
+    let mid = g.T.Turns.tells c.commit_lent.new.door in
+    let told = g.T.Turns.tells c.commit_files.new.door in
+    stops_twice tells mid told (fault_in c.commit_files.result) m.telling (subst (λ (q : Result (Unit {0}) StoreFault). StopsByFault tells mid (fault_in q)) c.in-Ok.is m.halts) c.commit_files.ensures.halts
+
+pub returns-in-Ok-clause-halted : goal.returns-in-Ok-clause-halted
+returns-in-Ok-clause-halted g c = passed_so (Unit {0}) (Unit {0}) (g.T.Turns.tells c.args.door.now) c.commit_lent.result tt c.commit_files.result c.in-Ok.is c.commit_lent.ensures.halted
+
 -- ---- where it fails
 
 pub returns-in-Err-clause-short : goal.returns-in-Err-clause-short
@@ -77,3 +91,14 @@ returns-in-Err-clause-faults g c = c.commit_lent.ensures.faults ∙ ap (λ (r : 
 
 pub returns-in-Err-clause-stop : goal.returns-in-Err-clause-stop
 returns-in-Err-clause-stop g c fault is = c.commit_lent.ensures.stop fault (c.in-Err.is ∙ is)
+
+pub returns-in-Err-clause-halts : goal.returns-in-Err-clause-halts
+returns-in-Err-clause-halts g c = subst (λ (q : Result (Unit {0}) StoreFault). StopsByFault (g.T.Turns.tells c.args.door.now) (g.T.Turns.tells c.commit_lent.new.door) (fault_in q)) c.in-Err.is c.commit_lent.ensures.halts
+
+pub returns-in-Err-clause-halted : goal.returns-in-Err-clause-halted
+returns-in-Err-clause-halted g c = subst (λ (q : Result (Unit {0}) StoreFault). TellsStop (g.T.Turns.tells c.args.door.now) q) c.in-Err.is c.commit_lent.ensures.halted
+
+pub returns-in-Ok-clause-births : goal.returns-in-Ok-clause-births
+returns-in-Ok-clause-births g c =
+    let y = c.commit_lent.new.noted in
+    births_same (first_names y c.commit_lent.new.right.names) (first_names y c.commit_files.new.right.names) c.commit_lent.new.reached c.commit_files.ensures.same c.commit_lent.ensures.births

@@ -1,13 +1,15 @@
-use Rattle.std.proofs.Common.{◌≡◌, ◌<◌, ◌+◌, ◌++◌, ℕ, suc, Result, Ok, Err, get_or, length, set, refl, ap, sym, subst, ◌∙◌, arith}
+use Rattle.std.proofs.Common.{◌≡◌, ◌<◌, ◌+◌, ◌++◌, ℕ, suc, None, Result, Ok, Err, get_or, length, set, refl, ap, sym, subst, ◌∙◌, arith}
 use Rattle.std.specs.Prelude.{OnErr}
 use Rattle.std.specs.FinSet as fset
+use Rattle.std.proofs.lemmas.Result.{err_from_is_err_and}
 use Rattle.ufs_bitmap.specs.Blocks.{BlockSet}
 use Rattle.ufs_bitmap.specs.Taking.{set_of}
 use Rattle.ufs_store.specs.Refusals.{fault_in}
 use Rattle.ufs_store.specs.declared.fault.StoreFault.{StoreFault}
-use Rattle.ufs_turns.specs.Lent.{AreTold}
+use Rattle.ufs_turns.specs.Lent.{AreTold, StopsByFault}
 use Rattle.ufs_turns.specs.Told.{fault_told, told_list}
 use Rattle.ufs_held.proofs.Excusing.{same_told}
+use Rattle.ufs_held.proofs.Stopping.{stops_still, stops_twice}
 use Rattle.ufs_held_names.specs.SyncAll.{AreSynced, freed_by}
 use Rattle.ufs_held_names.proofs.SyncedAll.{failed_synced, freed_next, next_synced, none_synced}
 use Rattle.ufs_held_names.proofs.Tried.{same_cells, same_twice, told_chain, told_so}
@@ -23,6 +25,7 @@ loop-place-init g c = record {
   freed = same_told (g.T.Turns.tells c.args.door.now);
   faults = refl;
   telling = refl;
+  halts = stops_still (g.T.Turns.tells c.args.door.now);
   within = omega arith;
 }
 
@@ -54,6 +57,7 @@ loop-place-preserved g c =
           (told_chain had mid has (freed_by k olds) (λ (a : BlockSet). fset.union a (set_of cur.value.dropped)) i.telling i.freed ok.freed);
       faults = e.faults ∙ ap (λ (r : Result (Unit {0}) StoreFault). told_list (fault_told (fault_in r)) ++ c.loop-place.guest.faults) c.in_ok-commit_born.was ∙ i.faults;
       telling = e.telling ∙ i.telling;
+      halts = stops_twice had mid has None i.telling i.halts (subst (λ (r : Result (Unit {0}) StoreFault). StopsByFault mid has (fault_in r)) c.in_ok-commit_born.was e.halts);
       within = omega (arith, c.loop-place-test.true);
     }
 
@@ -81,6 +85,16 @@ returns-in_err-commit_born-clause-short g c =
       failed_synced visible cur c.commit_born.new.file olds nows k i.synced less at err.kept,
       told_chain had mid has (freed_by k olds) (λ (a : BlockSet). a) i.telling i.freed err.unfreed,
     )
+
+pub returns-in_err-commit_born-clause-halts : goal.returns-in_err-commit_born-clause-halts
+returns-in_err-commit_born-clause-halts g c =
+    let i = c.loop-place.invariant in
+    let had = g.T.Turns.tells c.args.door.now in
+    let mid = g.T.Turns.tells c.loop-place.door in
+    let has = g.T.Turns.tells c.commit_born.new.door in
+    let p = err_from_is_err_and c.from_residual.result c.from_residual.ensures.1 in
+    let same : c.commit_born.result ≡ c.from_residual.result = c.in_err-commit_born.was ∙ sym (p.1 ∙ ap Err p.2) in
+    stops_twice had mid has (fault_in c.from_residual.result) i.telling i.halts (subst (λ (r : Result (Unit {0}) StoreFault). StopsByFault mid has (fault_in r)) same c.commit_born.ensures.halts)
 
 pub returns-clause-files : goal.returns-clause-files
 returns-clause-files g c =

@@ -1,5 +1,5 @@
-use Rattle.std.proofs.Common.{◌≡◌, ◌≤◌, [], is_some, length}
-use Rattle.ufs_turns.specs.Lent.{AreTold}
+use Rattle.std.proofs.Common.{◌≡◌, ◌≤◌, [], None, is_some, length}
+use Rattle.ufs_turns.specs.Lent.{AreTold, StopsByFault}
 use Rattle.ufs_held.specs.Committed.{HasSameCells}
 use Rattle.ufs_held_names.specs.HeldNames.{HoldsNames, first_names}
 use Rattle.ufs_held_names.specs.SyncAll.{AreSynced, freed_by}
@@ -15,5 +15,6 @@ invariant-loop-place g l = record {
   freed : AreTold (g.T.Turns.tells l.fn.door) (g.T.Turns.tells l.door) (λ had has. has ≡ freed_by l.place l.fn.files had);
   faults : l.guest.faults ≡ l.fn.guest.faults;
   telling : is_some (g.T.Turns.tells l.door) ≡ is_some (g.T.Turns.tells l.fn.door);
+  halts : StopsByFault (g.T.Turns.tells l.fn.door) (g.T.Turns.tells l.door) None;
   within : l.place ≤ length l.fn.files;
 }

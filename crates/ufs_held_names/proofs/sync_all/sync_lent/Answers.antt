@@ -5,24 +5,21 @@ use Rattle.ufs_model.specs.declared.data.Excuse.{Excuse}
 use Rattle.ufs_model.specs.declared.data.Excuse.TheVariants as excuse
 use Rattle.ufs_model.specs.declared.data.Reply.{Reply}
 use Rattle.ufs_model.specs.declared.data.Reply.TheVariants as reply
-use Rattle.ufs_store.specs.Refusals.{fault_in}
+use Rattle.ufs_store.specs.Refusals.{fault_in, fault_of}
 use Rattle.ufs_store.specs.declared.fault.StoreFault.{StoreFault}
+use Rattle.ufs_turns.specs.Lent.{StopsByFault}
 use Rattle.ufs_turns.specs.Told.{fault_told, told_list}
 use Rattle.ufs_held.specs.Asking.{IsSyncReply}
-use Rattle.ufs_held.proofs.Excusing.{one_excuse}
+use Rattle.ufs_held.proofs.Excusing.{not_done, not_excused, one_excuse}
+use Rattle.ufs_held.proofs.Stopping.{done_stops, failed_halted, failed_stops, passed_going}
 use Rattle.ufs_noted.specs.Noted.{Noted}
 use Rattle.ufs_held_names.specs.HeldNames.{AreCommitted, first_names}
 use Rattle.ufs_held_names.specs.SyncAll.{AllDone, AllRefused, AreAllLive, AreSynced, StopsShort}
 use Rattle.ufs_held_names.proofs.After.{kept_noted}
 use Rattle.ufs_held_names.proofs.SyncedAll.{all_known, same_counts, short_counts, short_live, synced_live}
 use Rattle.ufs_held_names.proofs.Tried.{came_still}
+use Rattle.ufs_held_names.proofs.Births.{births_same}
 use Rattle.ufs_held_names.proofs.sync_all.sync_lent.Goals as goal
-
-not_done : (r : Reply) (x : Excuse) → r ≡ reply.Excused x → r ≡ reply.Done → ⊥
-not_done r x is done = (let clash : true ≡ false = sym (ap is_excused is) ∙ ap is_excused done in cc)
-
-not_excused : (r : Reply) → r ≡ reply.Done → is_excused r ≡ true → ⊥
-not_excused r done is = (let clash : false ≡ true = sym (ap is_excused done) ∙ is in cc)
 
 pub commit_all-requires-clause-bare : goal.commit_all-requires-clause-bare
 commit_all-requires-clause-bare g c = (let came = c.requires.guest.3 in record { files = came.files; names = came.names; away = came.store })
@@ -62,6 +59,8 @@ returns-in-Ok-clause-synced g c =
     let m = c.commit_all.ensures in
     let r = c.answer_all.result.entry.reply in
     let visible = g.N.Naming.start.is_visible in
+    let tells = g.T.Turns.tells c.args.door.now in
+    let told = g.T.Turns.tells c.commit_all.new.door in
     record {
       entry = a.entry;
       replied = subst IsSyncReply (sym a.replied) tt;
@@ -73,6 +72,8 @@ returns-in-Ok-clause-synced g c =
       faults = a.done refl ∙ m.faults ∙ ap (λ (q : Result (Unit {0}) StoreFault). told_list (fault_told (fault_in q)) ++ c.args.guest.faults) c.in-Ok.is;
       stop = λ fault is. absurd (not_done r (excuse.Stopped fault) is a.replied);
       telling = m.telling;
+      halts = done_stops tells told r a.replied (subst (λ (q : Result (Unit {0}) StoreFault). StopsByFault tells told (fault_in q)) c.in-Ok.is m.halts);
+      halted = passed_going (Unit {0}) tells c.commit_all.result tt r c.in-Ok.is m.halted;
       later = let p = m.beside.seen in let q = a.later in omega (arith, p, q);
       seen = a.seen;
     }
@@ -114,6 +115,8 @@ returns-in-Err-clause-synced g c =
     let cause = c.excuse_of-cause.result in
     let r = c.answer_all-in-Err.result.entry.reply in
     let visible = g.N.Naming.start.is_visible in
+    let tells = g.T.Turns.tells c.args.door.now in
+    let told = g.T.Turns.tells c.commit_all.new.door in
     record {
       entry = a.entry;
       replied = subst IsSyncReply (sym a.replied) e.kind;
@@ -127,6 +130,18 @@ returns-in-Err-clause-synced g c =
           (m.faults ∙ ap (λ (q : Result (Unit {0}) StoreFault). told_list (fault_told (fault_in q)) ++ c.args.guest.faults) c.in-Err.is ∙ ap (λ (fs : List ℕ). fs ++ c.args.guest.faults) e.used);
       stop = λ fault is. a.stop fault (m.stop fault (c.in-Err.is ∙ ap Err (e.stopped fault (one_excuse r cause (excuse.Stopped fault) a.replied is))));
       telling = m.telling;
+      halts = failed_stops tells told r cause (fault_of c.in-Err.fault) a.replied e.used (subst (λ (q : Result (Unit {0}) StoreFault). StopsByFault tells told (fault_in q)) c.in-Err.is m.halts);
+      halted = failed_halted (Unit {0}) tells c.commit_all.result c.in-Err.fault cause r c.in-Err.is m.halted e.halted a.replied;
       later = let p = m.beside.seen in let q = a.later in omega (arith, p, q);
       seen = a.seen;
     }
+
+pub returns-in-Ok-clause-births : goal.returns-in-Ok-clause-births
+returns-in-Ok-clause-births g c =
+    let y = c.commit_all.new.noted in
+    births_same (first_names y c.commit_all.new.right.names) (first_names y c.answer_all.new.right.names) c.commit_all.new.reached c.answer_all.ensures.same c.commit_all.ensures.births
+
+pub returns-in-Err-clause-births : goal.returns-in-Err-clause-births
+returns-in-Err-clause-births g c =
+    let y = c.commit_all.new.noted in
+    births_same (first_names y c.commit_all.new.right.names) (first_names y c.answer_all-in-Err.new.right.names) c.commit_all.new.reached c.answer_all-in-Err.ensures.same c.commit_all.ensures.births

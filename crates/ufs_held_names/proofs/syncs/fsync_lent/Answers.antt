@@ -11,17 +11,17 @@ use Rattle.ufs_model.specs.declared.data.Reply.{Reply}
 use Rattle.ufs_model.specs.declared.data.Reply.TheVariants as reply
 use Rattle.ufs_store.specs.Refusals.{fault_in, fault_of}
 use Rattle.ufs_store.specs.declared.fault.StoreFault.{StoreFault}
+use Rattle.ufs_turns.specs.Lent.{StopsByFault}
 use Rattle.ufs_turns.specs.Told.{fault_told, told_list}
 use Rattle.ufs_held.specs.Asking.{IsGuest, IsSyncReply}
-use Rattle.ufs_held.proofs.Excusing.{one_excuse}
+use Rattle.ufs_held.proofs.Excusing.{not_done, one_excuse}
+use Rattle.ufs_held.proofs.Stopping.{failed_halted, failed_stops, passed_going, reply_twice}
 use Rattle.ufs_noted.specs.Noted.{Noted}
 use Rattle.ufs_held_names.specs.HeldNames.{AreCommitted, first_names}
 use Rattle.ufs_held_names.proofs.After.{kept_noted}
 use Rattle.ufs_held_names.proofs.Tried.{came_still, told_twice}
+use Rattle.ufs_held_names.proofs.Births.{births_same}
 use Rattle.ufs_held_names.proofs.syncs.fsync_lent.Goals as goal
-
-not_done : (r : Reply) (x : Excuse) → r ≡ reply.Excused x → r ≡ reply.Done → ⊥
-not_done r x is done = (let clash : true ≡ false = sym (ap is_excused is) ∙ ap is_excused done in cc)
 
 -- ---- the commit of the names
 
@@ -47,6 +47,9 @@ returns-in-Ok-clause-synced g c =
     let t = c.sync_born.ensures.tried in
     let m = c.commit_lent.ensures in
     let done = subst (AreCommitted g.N.Naming.start.is_visible (first_names c.args.noted.now c.args.right.now.names)) (sym c.sync_born.ensures.same) c.in-Ok.ensures.ok in
+    let tells = g.T.Turns.tells c.args.door.now in
+    let mid = g.T.Turns.tells c.commit_lent.new.door in
+    let told = g.T.Turns.tells c.sync_born.new.door in
     record {
       entry = t.entry;
       replied = t.replied;
@@ -64,6 +67,8 @@ returns-in-Ok-clause-synced g c =
       freed = λ is. told_twice (g.T.Turns.tells c.args.door.now) (g.T.Turns.tells c.commit_lent.new.door) (g.T.Turns.tells c.sync_born.new.door) (λ had has. has ≡ set.union had (set_of c.args.file.value.dropped)) m.telling m.free (t.freed is);
       unfreed = λ is. told_twice (g.T.Turns.tells c.args.door.now) (g.T.Turns.tells c.commit_lent.new.door) (g.T.Turns.tells c.sync_born.new.door) (λ had has. has ≡ had) m.telling m.free (t.unfreed is);
       telling = t.telling ∙ m.telling;
+      halts = reply_twice tells mid told c.sync_born.result.entry.reply m.telling (subst (λ (q : Result (Unit {0}) StoreFault). StopsByFault tells mid (fault_in q)) c.in-Ok.is m.halts) t.halts;
+      halted = passed_going (Unit {0}) tells c.commit_lent.result tt c.sync_born.result.entry.reply c.in-Ok.is m.halted;
       later = let a = m.beside.seen in let b = t.later in omega (arith, a, b);
       seen = t.seen;
     }
@@ -91,6 +96,9 @@ returns-in-Err-clause-synced g c =
     let was = c.args.file in
     let r = c.excuse_file.result.entry.reply in
     let cause = c.excuse_of-cause.result in
+    let x = c.excuse_of-cause.ensures in
+    let tells = g.T.Turns.tells c.args.door.now in
+    let told = g.T.Turns.tells c.commit_lent.new.door in
     record {
       entry = e.entry;
       replied = subst IsSyncReply (sym e.replied) c.excuse_of-cause.ensures.kind;
@@ -108,6 +116,13 @@ returns-in-Err-clause-synced g c =
       freed = λ is. absurd (not_done r cause e.replied is);
       unfreed = λ is. m.free;
       telling = m.telling;
+      halts = failed_stops tells told r cause (fault_of c.in-Err.fault) e.replied x.used (subst (λ (q : Result (Unit {0}) StoreFault). StopsByFault tells told (fault_in q)) c.in-Err.is m.halts);
+      halted = failed_halted (Unit {0}) tells c.commit_lent.result c.in-Err.fault cause r c.in-Err.is m.halted x.halted e.replied;
       later = let a = m.beside.seen in let b = e.later in omega (arith, a, b);
       seen = e.seen;
     }
+
+pub returns-in-Ok-clause-births : goal.returns-in-Ok-clause-births
+returns-in-Ok-clause-births g c =
+    let y = c.commit_lent.new.noted in
+    births_same (first_names y c.commit_lent.new.right.names) (first_names y c.sync_born.new.right.names) c.commit_lent.new.reached c.sync_born.ensures.same c.commit_lent.ensures.births

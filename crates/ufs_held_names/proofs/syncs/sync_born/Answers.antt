@@ -44,6 +44,7 @@ returns-clause-tried g c =
       freed = λ done. subst (λ (q : DurableState). AreTold (g.T.Turns.tells c.args.door.now) (g.T.Turns.tells c.sync-entry.new.door) (λ had has. has ≡ set.union had (set_of q.dropped))) value (s.freed done);
       unfreed = s.unfreed;
       telling = s.telling;
+      halts = s.halts;
       later = s.later;
       seen = s.seen;
     }

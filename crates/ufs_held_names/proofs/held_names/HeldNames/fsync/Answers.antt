@@ -27,6 +27,8 @@ returns g c =
       freed = t.freed;
       unfreed = t.unfreed;
       telling = t.telling;
+      halts = t.halts;
+      halted = t.halted;
       later = t.later;
       seen = t.seen;
     }

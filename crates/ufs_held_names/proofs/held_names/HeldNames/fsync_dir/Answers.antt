@@ -20,6 +20,8 @@ returns g c =
       stop = t.stop;
       free = t.free;
       telling = t.telling;
+      halts = t.halts;
+      halted = t.halted;
       later = t.later;
       seen = t.seen;
     }

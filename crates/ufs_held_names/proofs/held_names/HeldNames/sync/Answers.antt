@@ -16,4 +16,4 @@ returns g c =
     let t : HasSyncedAll g.N.Naming.start.is_visible c.args.ask c.args.by c.args.self.now (first_names c.sync_lent.new.noted c.sync_lent.new.right.names) c.args.files.now c.sync_lent.new.files (g.T.Turns.tells c.args.door.now) (g.T.Turns.tells c.sync_lent.new.door) r.entry c.args.guest r.guest =
     subst (λ (q : NamesCell). HasSyncedAll g.N.Naming.start.is_visible c.args.ask c.args.by q (first_names c.sync_lent.new.noted c.sync_lent.new.right.names) c.args.files.now c.sync_lent.new.files (g.T.Turns.tells c.args.door.now) (g.T.Turns.tells c.sync_lent.new.door) r.entry c.args.guest r.guest)
     c.self.view_is c.sync_lent.ensures.synced in
-    record { entry = t.entry; replied = t.replied; guest = t.guest; names = t.names; files = t.files; freed = t.freed; short = t.short; faults = t.faults; stop = t.stop; telling = t.telling; later = t.later; seen = t.seen }
+    record { entry = t.entry; replied = t.replied; guest = t.guest; names = t.names; files = t.files; freed = t.freed; short = t.short; faults = t.faults; stop = t.stop; telling = t.telling; halts = t.halts; halted = t.halted; later = t.later; seen = t.seen }

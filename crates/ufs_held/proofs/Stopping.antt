@@ -1,0 +1,82 @@
+-- A stop of the store, through the turns of a request and its answer.
+use Rattle.std.proofs.Common.{◌≡◌, ℕ, List, [], ◌∷◌, true, false, is_some, Option, Some, None, Result, Ok, Err, subst, ap, sym, refl, ◌∙◌}
+use Rattle.ufs_joint.specs.Cells.{View}
+use Rattle.ufs_model.specs.declared.data.Excuse.{Excuse}
+use Rattle.ufs_model.specs.declared.data.Excuse.TheVariants as excuse
+use Rattle.ufs_model.specs.declared.data.Reply.{Reply}
+use Rattle.ufs_model.specs.declared.data.Reply.TheVariants as reply
+use Rattle.ufs_store.specs.Refusals.{stop_after}
+use Rattle.ufs_store.specs.declared.fault.StoreFault.{StoreFault}
+use Rattle.ufs_store.specs.declared.fault.StoreFault.TheVariants as refusal
+use Rattle.ufs_turns.specs.Lent.{StopsByFault, TellsStop, stop_in}
+use Rattle.ufs_turns.specs.Told.{fault_told, told_list}
+use Rattle.ufs_held.specs.Asking.{faults_of}
+use Rattle.ufs_held.specs.Stopping.{ExcusesByStop, StopsByReply, fault_by}
+
+-- ---- one turn
+
+abbrev err_or : {A : Type 0} → StoreFault → Result A StoreFault → StoreFault
+err_or e (Ok x) = e
+err_or e (Err f) = f
+
+-- A turn that passed wasn't one of a store that had stopped.
+pub passed_going : (A : Type 0) (tells : Option View) (q : Result A StoreFault) (x : A) (r : Reply) → q ≡ Ok x → TellsStop tells q → ExcusesByStop tells r
+passed_going A None q x r is halted = tt
+passed_going A (Some v) q x r is halted = λ fault stop. absurd (let clash : Ok x ≡ Err (refusal.Stopped fault) = sym is ∙ halted fault stop in cc)
+
+pub passed_so : (A B : Type 0) (tells : Option View) (q : Result A StoreFault) (x : A) (t : Result B StoreFault) → q ≡ Ok x → TellsStop tells q → TellsStop tells t
+passed_so A B None q x t is halted = tt
+passed_so A B (Some v) q x t is halted = λ fault stop. absurd (let clash : Ok x ≡ Err (refusal.Stopped fault) = sym is ∙ halted fault stop in cc)
+
+-- One that failed says the stop, and so does what it excuses.
+pub failed_halted : (A : Type 0) (tells : Option View) (q : Result A StoreFault) (e : StoreFault) (x : Excuse) (r : Reply) → q ≡ Err e → TellsStop tells q → ((n : ℕ) → e ≡ refusal.Stopped n → x ≡ excuse.Stopped n) → r ≡ reply.Excused x → ExcusesByStop tells r
+failed_halted A None q e x r failed halted same is = tt
+failed_halted A (Some v) q e x r failed halted same is = λ fault stop. is ∙ ap reply.Excused (same fault (ap (err_or e) (sym failed ∙ halted fault stop)))
+
+pub done_stops : (tells told : Option View) (r : Reply) → r ≡ reply.Done → StopsByFault tells told None → StopsByReply tells told r
+done_stops tells told r is stops = subst (λ (q : Reply). StopsByReply tells told q) (sym is) (None, refl, stops)
+
+abbrev first_in : List ℕ → Option ℕ
+first_in [] = None
+first_in (n ∷ ns) = Some n
+
+first_told : (o : Option ℕ) → first_in (told_list o) ≡ o
+first_told None = refl
+first_told (Some n) = refl
+
+first_fault : (x : Excuse) → first_in (faults_of x) ≡ fault_by (reply.Excused x)
+first_fault excuse.Memory = refl
+first_fault (excuse.Device fault) = refl
+first_fault (excuse.Stopped fault) = refl
+first_fault (excuse.Blocks need had) = refl
+first_fault excuse.Inodes = refl
+first_fault (excuse.Extents need) = refl
+
+-- an excuse uses the fault that its turn told
+pub failed_stops : (tells told : Option View) (r : Reply) (x : Excuse) (fault : Option ℕ) → r ≡ reply.Excused x → told_list (fault_told fault) ≡ faults_of x → StopsByFault tells told fault → StopsByReply tells told r
+failed_stops tells told r x fault is used stops =
+    subst (λ (q : Reply). StopsByReply tells told q) (sym is) (fault, sym (first_told (fault_told fault)) ∙ ap first_in used ∙ first_fault x, stops)
+
+-- ---- two turns, of which the first passed
+
+after_none : (stop told : Option ℕ) → stop_after (stop_after stop None) told ≡ stop_after stop told
+after_none None told = refl
+after_none (Some n) told = refl
+
+stays : (stop : Option ℕ) → stop ≡ stop_after stop None
+stays None = refl
+stays (Some n) = refl
+
+-- nothing is done
+pub stops_still : (o : Option View) → StopsByFault o o None
+stops_still None = tt
+stops_still (Some v) = stays (stop_in v.store)
+
+pub stops_twice : (had mid has : Option View) (told : Option ℕ) → is_some mid ≡ is_some had → StopsByFault had mid None → StopsByFault mid has told → StopsByFault had has told
+stops_twice None mid has told telling first second = tt
+stops_twice (Some v) None has told telling first second = (let clash : false ≡ true = telling in absurd cc)
+stops_twice (Some v) (Some u) None told telling first second = tt
+stops_twice (Some v) (Some u) (Some w) told telling first second = second ∙ ap (λ (s : Option ℕ). stop_after s told) first ∙ after_none (stop_in v.store) told
+
+pub reply_twice : (had mid has : Option View) (r : Reply) → is_some mid ≡ is_some had → StopsByFault had mid None → StopsByReply mid has r → StopsByReply had has r
+reply_twice had mid has r telling first second = (second.0, second.1, stops_twice had mid has second.0 telling first second.2)

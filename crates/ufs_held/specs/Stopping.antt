@@ -1,0 +1,23 @@
+-- What the answer to a request tells of the store's stop.
+use Rattle.std.specs.Prelude.{ℕ, ◌≡◌, Option, Some, None}
+use Rattle.ufs_joint.specs.Cells.{View}
+use Rattle.ufs_model.specs.declared.data.Excuse.TheVariants as excuse
+use Rattle.ufs_model.specs.declared.data.Reply.{Reply}
+use Rattle.ufs_model.specs.declared.data.Reply.TheVariants as reply
+use Rattle.ufs_turns.specs.Lent.{StopsByFault, stop_in}
+use Rattle.ufs_turns.specs.Told.{fault_told}
+
+-- A request that came once the store had stopped is excused by just that stop, where the store's cell is told.
+abbrev pub ExcusesByStop : Option View → Reply → Type 0
+ExcusesByStop (Some v) r = (fault : ℕ) → stop_in v.store ≡ Some fault → r ≡ reply.Excused (excuse.Stopped fault)
+ExcusesByStop None r = Unit {0}
+
+-- the fault of the device that an answer tells
+abbrev pub fault_by : Reply → Option ℕ
+fault_by (reply.Excused (excuse.Device fault)) = Some fault
+fault_by _ = None
+
+-- Behind a request that is answered so, the store has stopped where it had before, or at the fault by which a turn of the request failed.
+-- The answer tells that fault, but for the last number of the disk's count, which is no fault's.
+abbrev pub StopsByReply : Option View → Option View → Reply → Type 0
+StopsByReply tells told r = (fault : Option ℕ) × (fault_told fault ≡ fault_by r) × StopsByFault tells told fault
