@@ -1,0 +1,11 @@
+use Rattle.ufs_joint_tests.specs.Small.{small_start}
+use Rattle.ufs_held_tests.proofs.session.served_on.Given as goal
+
+abbrev pub ghosts-small_parts : goal.ghosts-small_parts
+ghosts-small_parts g a = record { opened = small_start a.names.now (g.D.Door.store a.store.now) }
+
+abbrev pub ghosts-run-N-Naming : goal.ghosts-run-N-Naming
+ghosts-run-N-Naming g a = record { table = a.opened.table; start = a.opened.start }
+
+abbrev pub ghosts-run-L-Ledger : goal.ghosts-run-L-Ledger
+ghosts-run-L-Ledger g a = record { name = a.blank.name; parts = a.blank.parts }
