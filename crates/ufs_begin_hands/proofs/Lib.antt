@@ -1,0 +1,6 @@
+mod Clean
+mod Readying
+mod Numbering
+mod Domains
+mod Knowing
+mod Explaining

@@ -1,0 +1,4 @@
+mod Cutting
+mod Hands
+pub mod Files
+mod First

@@ -1,0 +1,14 @@
+// Laws of the definitions, each the contract of a function that does nothing.
+ghost use Rattle.ufs_dealt.specs.First.{ClientsAreIdle, ClientsLeaveRest, FirstFilesAreHere, FirstIsApart, OthersStayIdle, PoolsAreThere, TakePart};
+
+/// Who takes part in a session over an image. What is left of its first hand, once names and store are dealt, may be dealt too: each
+/// client, each pool, and the files with what is known of their commits.
+pub fn dealt_law()
+    ensures counts { TakePart }
+    ensures clients { ClientsAreIdle }
+    ensures rest { ClientsLeaveRest }
+    ensures others { OthersStayIdle }
+    ensures pools { PoolsAreThere }
+    ensures apart { FirstIsApart }
+    ensures files { FirstFilesAreHere }
+{}
