@@ -83,8 +83,8 @@ impl OwnerTable {
         }
     }
 
-    // The worker that is to have a file once it has come, 0 for the primary.
-    fn note_of(&self, file: u32) -> u8
+    /// The worker that is to have the file once it has come, 0 for the primary and for a file that isn't coming.
+    pub fn note_of(&self, file: u32) -> u8
         ensures { result ≡ note_at self.now.files file }
     {
         match self.records.get(file) {
