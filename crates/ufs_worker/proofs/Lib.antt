@@ -1,13 +1,2 @@
-mod Again
-mod Counting
-mod Conserving
-mod Lending
-mod Filling
-mod Asked
-mod Told
-mod Sizes
-mod Answering
 mod Places
-mod Lacking
-mod Letters
 mod Turning

@@ -162,10 +162,6 @@ pub some_is : {A : Type 0} (o : Option A) → IsSome o → (x : A) × (o ≡ Som
 some_is None is = absurd cc
 some_is (Some x) is = (x, refl)
 
-pub some_of : (d o : Option Desc) (file : ℕ) → d ≡ o → IsOf o file → IsSome d
-some_of d None file is named = absurd named
-some_of d (Some x) file is named = subst IsSome (sym is) refl
-
 pub none_of_none : (es : Entries) → length es ≡ 0 → AreNumbered (filled es)
 none_of_none [] is = none_numbered
 none_of_none (e ∷ es) is = absurd (omega (arith, is))

@@ -8,9 +8,9 @@ use Rattle.ufs_msg.specs.Answers.{Told}
 use Rattle.ufs_msg.specs.Requests.{Asked}
 use Rattle.ufs_msg.specs.declared.answer.Answer.{Answer}
 use Rattle.ufs_msg.specs.declared.letter.Letter.{Letter}
-use Rattle.ufs_worker.specs.Posts.{AnswersGo, Said}
-use Rattle.ufs_worker.specs.Sending.{GoInOrder}
-use Rattle.ufs_worker.specs.Serving.{IsServedBy}
+use Rattle.ufs_serving.specs.Posts.{AnswersGo, Said}
+use Rattle.ufs_serving.specs.Sending.{GoInOrder}
+use Rattle.ufs_serving.specs.Serving.{IsServedBy}
 use Rattle.ufs_worker.specs.Turns.{IsFrontDone, IsNextDone, IsObeyed, IsRequestDone, IsTaken, KeptGoes}
 use Rattle.ufs_worker.specs.Worker.{ShelfState, WorkerState, worker_of}
 use Rattle.ufs_worker.specs.declared.turn.WorkerTurn.{WorkerTurn}
@@ -66,7 +66,7 @@ module _ {Q : Type 0} (sends : Q → FileCell → Q → Type 0) (same : Q → Q 
 
 module _ {N Q : Type 0} (answers : Q → ℕ → Answer N → Q → Type 0) (same : Q → Q → Type 0) (full : Q → ℕ → Type 0) (visible : Bool) (before after : Option View) where
   pub is_served : (o : Option FileCell) (number : ℕ) (shelf then : ShelfState) (coming : Option FileCell) (pool left : BlockSet) (old new : List Said) (r : Asked) (file : ℕ) (s : Said) (p q : Q) → is_some o ≡ true
-      → ((c : FileCell) → o ≡ Some c → (d : FileCell) × (told : Told) × (s ≡ inl told) × IsServedBy visible before after number c d pool left r.ask told × (then ≡ record shelf { files = fin.insert shelf.files file d }))
+      → ((c : FileCell) → o ≡ Some c → (d : FileCell) × (told : Told) × (s ≡ inl told) × IsServedBy visible before after (actor.Worker number) c d pool left r.ask told × (then ≡ record shelf { files = fin.insert shelf.files file d }))
       → AnswersGo answers same full (old ++ s ∷ []) new p q
       → IsRequestDone answers same full visible before after o (worker_of number shelf coming pool old) (worker_of number then coming left new) r file p q turn.Served
   is_served None number shelf then coming pool left old new r file s p q is served goes = absurd cc

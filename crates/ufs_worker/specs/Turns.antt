@@ -11,9 +11,9 @@ use Rattle.ufs_msg.specs.Requests.{Asked}
 use Rattle.ufs_msg.specs.declared.answer.Answer.{Answer}
 use Rattle.ufs_msg.specs.declared.letter.Letter.{Letter}
 use Rattle.ufs_msg.specs.declared.letter.Letter.TheVariants.{Parcel, Recall, Report}
-use Rattle.ufs_worker.specs.Posts.{AnswersGo}
-use Rattle.ufs_worker.specs.Sending.{GoInOrder}
-use Rattle.ufs_worker.specs.Serving.{IsServedBy}
+use Rattle.ufs_serving.specs.Posts.{AnswersGo}
+use Rattle.ufs_serving.specs.Sending.{GoInOrder}
+use Rattle.ufs_serving.specs.Serving.{IsServedBy}
 use Rattle.ufs_worker.specs.Worker.{WorkerState}
 use Rattle.ufs_worker.specs.declared.turn.WorkerTurn.{WorkerTurn}
 use Rattle.ufs_worker.specs.declared.turn.WorkerTurn.TheVariants as turn
@@ -57,7 +57,7 @@ module _ {N Q : Type 0} (answers : Q → ℕ → Answer N → Q → Type 0) (sam
   IsRequestDone visible before after None w v r file p q o =
       (o ≡ turn.Redirected file) × (v ≡ record w { answers = v.answers }) × AnswersGo answers same full (w.answers ++ inr (record { request = r; to = actor.Primary }) ∷ []) v.answers p q
   IsRequestDone visible before after (Some c) w v r file p q o =
-      (o ≡ turn.Served) × ((d : FileCell) × (told : Told) × IsServedBy visible before after w.number c d w.pool v.pool r.ask told
+      (o ≡ turn.Served) × ((d : FileCell) × (told : Told) × IsServedBy visible before after (actor.Worker w.number) c d w.pool v.pool r.ask told
       × (v ≡ record w { files = fin.insert w.files file d; pool = v.pool; answers = v.answers }) × AnswersGo answers same full (w.answers ++ inl told ∷ []) v.answers p q)
 
   module _ (gets : Q → Asked → Q → Type 0) (none : Q → Type 0) where

@@ -9,8 +9,9 @@ use Rattle.ufs_model.specs.declared.data.Actor.TheVariants as actor
 use Rattle.ufs_joint.specs.Cells.{FileCell, Start, View}
 use Rattle.ufs_joint.specs.Codes.{file_code}
 use Rattle.ufs_msg.specs.There.{IsServerThere}
-use Rattle.ufs_worker.specs.Pools.{HasPoolAlone, most_at_rest, pool_of}
-use Rattle.ufs_worker.specs.Posts.{Said, said_code}
+use Rattle.ufs_first_hand.specs.FirstHand.{pool_of}
+use Rattle.ufs_serving.specs.Pools.{HasPoolAlone, most_at_rest}
+use Rattle.ufs_serving.specs.Posts.{Said, said_code}
 
 -- files by their numbers
 abbrev pub Cells : Type 0

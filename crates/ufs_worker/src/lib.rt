@@ -2,15 +2,10 @@
 #![tactic(auto)]
 
 mod answers;
-mod asking;
-mod measure;
-mod pool;
 mod requests;
 mod room;
 mod sending;
-mod serving;
 mod shelf;
-mod syncing;
 mod turn;
 mod worker;
 

@@ -12,19 +12,17 @@ ghost use Rattle.ufs_msg.specs.There.{IsByHint, IsServerThere, is_by_hint};
 ghost use Rattle.ufs_msg.specs.declared.answer.Answer.TheVariants as answer;
 ghost use Rattle.ufs_prefix.specs.Changes.{asks_commit};
 ghost use Rattle.ufs_sound.specs.Parts.{ClientPart};
-ghost use Rattle.ufs_worker.specs.Pools.{HasPoolAlone, most_at_rest, pool_of};
-ghost use Rattle.ufs_worker.specs.Serving.{IsDoneAt, IsServedBy};
+ghost use Rattle.ufs_first_hand.specs.FirstHand.{pool_of};
+ghost use Rattle.ufs_serving.specs.Pools.{HasPoolAlone, most_at_rest};
+ghost use Rattle.ufs_serving.specs.Serving.{IsDoneAt, IsServedBy};
 
-use crate::answers::served_answer;
-use crate::asking::know;
-use crate::serving::serve_change;
-use crate::syncing::serve_sync;
 use ufs_bitmap::Pool;
 use ufs_held::{HeldFile, Served};
 use ufs_joint::{Hand, HandTable, Naming};
-use ufs_model::{Ask, Op};
+use ufs_model::{Actor, Ask, Op};
 use ufs_msg::{Answer, Request};
 use ufs_parcel::Parcel;
+use ufs_serving::{know, pool_number, serve_change, serve_sync, served_answer};
 use ufs_turns::Turns;
 
 // An `fsync` commits the file; any other request is applied to it.
@@ -55,10 +53,12 @@ fn serve_asked<N: Naming, T: Turns<N>>(
     ensures number { result.0.value.file.file ≡ held.value.file.file }
     ensures born { result.0.born ≡ held.born }
 {
+    let by = Actor::Worker(me);
+    let number = pool_number(me);
     if let Op::Fsync { .. } = &ask.op {
-        return serve_sync(table, held, ask, client, me, pool, right, door);
+        return serve_sync(table, held, ask, client, by, number, pool, right, door);
     }
-    serve_change(table, held, ask, client, me, pool, right, door)
+    serve_change(table, held, ask, client, by, number, pool, right, door)
 }
 
 /// Serves the request on the file, and says what its client is answered.
@@ -78,14 +78,17 @@ pub(crate) fn serve_request<N: Naming, T: Turns<N>>(
     requires named { IsOf request.ask.desc parcel.value.file.file }
     ensures pool { HasPoolAlone (pool_of me) pool.new right.new }
     ensures few { set.len pool.new ≤ most_at_rest }
-    ensures served { (told : Told) × (result.1 ≡ answer.Served told) × IsServedBy N.start.is_visible (T.tells door.old) (T.tells door.new) me parcel result.0 pool.old pool.new request.ask told }
+    ensures served { (told : Told) × (result.1 ≡ answer.Served told) × IsServedBy N.start.is_visible (T.tells door.old) (T.tells door.new) (Worker me) parcel result.0 pool.old pool.new request.ask told }
 {
     let (mut client, ask, _leases_back) = request.into_parts();
     know(table, &mut client, &ask);
     let held = parcel.into_held();
     let (held, served) = serve_asked(table, held, ask, client, me, pool, right, door);
     let Served { entry, desc, guest } = served;
-    (Parcel::new(held), served_answer(guest, entry, desc, me))
+    (
+        Parcel::new(held),
+        served_answer(guest, entry, desc, Actor::Worker(me)),
+    )
 }
 
 /// Serves the request on the file that is in this place.
@@ -106,7 +109,7 @@ pub(crate) fn serve_in<N: Naming, T: Turns<N>>(
     requires named { IfSome place.old (λ c. IsOf request.ask.desc c.value.file.file) }
     ensures pool { HasPoolAlone (pool_of me) pool.new right.new }
     ensures few { set.len pool.new ≤ most_at_rest }
-    ensures served { IfSome place.old (λ c. (d : FileCell) × (told : Told) × (result ≡ answer.Served told) × IsServedBy N.start.is_visible (T.tells door.old) (T.tells door.new) me c d pool.old pool.new request.ask told × (place.new ≡ Some d)) }
+    ensures served { IfSome place.old (λ c. (d : FileCell) × (told : Told) × (result ≡ answer.Served told) × IsServedBy N.start.is_visible (T.tells door.old) (T.tells door.new) (Worker me) c d pool.old pool.new request.ask told × (place.new ≡ Some d)) }
 {
     let Some(parcel) = place.take() else {
         unreachable!()

@@ -4,7 +4,7 @@ ghost use Rattle.std.specs.VecDeque.{deque_capacity, deque_len};
 ghost use Rattle.ufs_joint.specs.Cells.{FileCell};
 ghost use Rattle.ufs_model.specs.declared.data.Actor.TheVariants.{Primary};
 ghost use Rattle.ufs_msg.specs.declared.letter.Letter.TheVariants as letter;
-ghost use Rattle.ufs_worker.specs.Sending.{GoInOrder};
+ghost use Rattle.ufs_serving.specs.Sending.{GoInOrder};
 
 use std::collections::VecDeque;
 use ufs_joint::Naming;

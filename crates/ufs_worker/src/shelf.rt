@@ -48,9 +48,10 @@ impl<N: Naming> Shelf<N> {
     ghost use Rattle.ufs_msg.specs.There.{IsByHint, IsServerThere};
     ghost use Rattle.ufs_msg.specs.declared.answer.Answer.TheVariants as answer;
     ghost use Rattle.ufs_msg.specs.declared.letter.Letter.TheVariants as letter;
-    ghost use Rattle.ufs_worker.specs.Pools.{HasPoolAlone, most_at_rest, pool_of};
-    ghost use Rattle.ufs_worker.specs.Sending.{GoInOrder};
-    ghost use Rattle.ufs_worker.specs.Serving.{IsServedBy};
+    ghost use Rattle.ufs_first_hand.specs.FirstHand.{pool_of};
+    ghost use Rattle.ufs_serving.specs.Pools.{HasPoolAlone, most_at_rest};
+    ghost use Rattle.ufs_serving.specs.Sending.{GoInOrder};
+    ghost use Rattle.ufs_serving.specs.Serving.{IsServedBy};
 
     /// No file, and no letter. Takes no memory.
     pub(crate) fn new(alloc: Global) -> Shelf<N>
@@ -125,7 +126,7 @@ impl<N: Naming> Shelf<N> {
         ensures pool { HasPoolAlone (pool_of me) pool.new right.new }
         ensures few { set.len pool.new ≤ most_at_rest }
         ensures served { (c : FileCell) → fin.get self.old.files file ≡ Some c → (d : FileCell) × (told : Told) × (result ≡ answer.Served told)
-            × IsServedBy N.start.is_visible (T.tells door.old) (T.tells door.new) me c d pool.old pool.new request.ask told × (self.new ≡ record self.old { files = fin.insert self.old.files file d }) }
+            × IsServedBy N.start.is_visible (T.tells door.old) (T.tells door.new) (Worker me) c d pool.old pool.new request.ask told × (self.new ≡ record self.old { files = fin.insert self.old.files file d }) }
     {
         match self.places.get_mut(&file) {
             Some(place) => serve_in(table, place, request, me, pool, right, door),

@@ -1,7 +1,6 @@
 // A worker and its turn.
 
-use crate::answers::{redirect, send_answers};
-use crate::asking::file_asked;
+use crate::answers::redirect;
 use crate::shelf::Shelf;
 use crate::turn::WorkerTurn;
 use std::alloc::Global;
@@ -12,6 +11,7 @@ use ufs_bitmap::Pool;
 use ufs_joint::{Hand, HandTable, Naming};
 use ufs_msg::{Answer, Letter, ServerPost};
 use ufs_parcel::Parcel;
+use ufs_serving::{file_asked, send_answers};
 use ufs_turns::Turns;
 
 /// Worker `number` of session `N`: the files that it holds, each with the right to its cell, its pool with its own, and what found no
@@ -29,7 +29,7 @@ pub struct Worker<N: Naming> {
 impl<N: Naming> Model for Worker<N> {
     ghost use Rattle.std.specs.Prelude.{◌≤◌};
     ghost use Rattle.std.specs.VecDeque.{deque_capacity, deque_len};
-    ghost use Rattle.ufs_worker.specs.Posts.{all_said};
+    ghost use Rattle.ufs_serving.specs.Posts.{all_said};
     ghost use Rattle.ufs_worker.specs.Worker.{IsWorker, WorkerState, worker_code, worker_of};
 
     ghost Value = { WorkerState };
@@ -48,7 +48,8 @@ impl<N: Naming> Worker<N> {
     ghost use Rattle.ufs_model.specs.declared.data.Actor.TheVariants.{Primary, Worker as worker};
     ghost use Rattle.ufs_msg.specs.There.{IsServerThere};
     ghost use Rattle.ufs_msg.specs.declared.letter.Letter.TheVariants as letter;
-    ghost use Rattle.ufs_worker.specs.Pools.{HasPoolAlone, most_at_rest, pool_of};
+    ghost use Rattle.ufs_first_hand.specs.FirstHand.{pool_of};
+    ghost use Rattle.ufs_serving.specs.Pools.{HasPoolAlone, most_at_rest};
     ghost use Rattle.ufs_worker.specs.Turns.{IsAskDone, IsFrontDone, IsLetterDone, IsNextDone, IsObeyed, IsTaken, IsTurn, KeptGoes};
     ghost use Rattle.ufs_worker.specs.declared.turn.WorkerTurn.TheVariants as turn;
 

@@ -1,10 +1,31 @@
-use Rattle.std.proofs.Common.{ap, sym, subst}
+use Rattle.std.proofs.Common.{◌≢◌, ℕ, ap, sym, subst}
 use Rattle.ufs_joint.specs.Cells.{FileCell}
 use Rattle.ufs_prefix.specs.Changes.{asks_commit}
-use Rattle.ufs_worker.specs.Serving.{IsDoneAt}
-use Rattle.ufs_worker.proofs.Asked.{commits_none}
-use Rattle.ufs_worker.proofs.Places.{some_of}
+use Rattle.ufs_serving.specs.Pools.{HasPoolAlone}
+use Rattle.ufs_serving.specs.Serving.{IsDoneAt}
+use Rattle.ufs_serving.proofs.Asked.{commits_none}
+use Rattle.ufs_serving.proofs.Lacking.{off_pool, some_of}
 use Rattle.ufs_worker.proofs.requests.serve_asked.Goals as goal
+
+pub serve_sync-requires-clause-pool : goal.serve_sync-requires-clause-pool
+serve_sync-requires-clause-pool g c = subst (λ (n : ℕ). HasPoolAlone n c.args.pool.now c.args.right.now) (sym c.pool_number-number.ensures) c.requires.pool
+
+pub serve_sync-requires-clause-apart : goal.serve_sync-requires-clause-apart
+serve_sync-requires-clause-apart g c =
+    subst (λ (n : ℕ). n ≢ c.args.held.value.file.file) (sym c.pool_number-number.ensures) (off_pool c.args.me c.args.held.value.file.file c.ranges.me.fits c.requires.low)
+
+pub returns-in-Fsync-clause-pool : goal.returns-in-Fsync-clause-pool
+returns-in-Fsync-clause-pool g c = subst (λ (n : ℕ). HasPoolAlone n c.args.pool.now c.serve_sync.new.right) c.pool_number-number.ensures c.serve_sync.ensures.pool
+
+pub serve_change-requires-clause-pool : goal.serve_change-requires-clause-pool
+serve_change-requires-clause-pool g c = subst (λ (n : ℕ). HasPoolAlone n c.args.pool.now c.args.right.now) (sym c.pool_number-number.ensures) c.requires.pool
+
+pub serve_change-requires-clause-apart : goal.serve_change-requires-clause-apart
+serve_change-requires-clause-apart g c =
+    subst (λ (n : ℕ). n ≢ c.args.held.value.file.file) (sym c.pool_number-number.ensures) (off_pool c.args.me c.args.held.value.file.file c.ranges.me.fits c.requires.low)
+
+pub returns-clause-pool : goal.returns-clause-pool
+returns-clause-pool g c = subst (λ (n : ℕ). HasPoolAlone n c.serve_change.new.pool c.serve_change.new.right) c.pool_number-number.ensures c.serve_change.ensures.pool
 
 pub returns-in-Fsync-clause-done : goal.returns-in-Fsync-clause-done
 returns-in-Fsync-clause-done g c =

@@ -6,8 +6,8 @@ use Rattle.ufs_model.specs.declared.data.Actor.TheVariants.{Worker}
 use Rattle.ufs_msg.specs.Answers.{Told}
 use Rattle.ufs_msg.specs.Requests.{Asked}
 use Rattle.ufs_msg.specs.There.{IsByHint}
-use Rattle.ufs_worker.specs.Serving.{IsServedBy}
-use Rattle.ufs_worker.proofs.Told.{told}
+use Rattle.ufs_serving.specs.Serving.{IsServedBy}
+use Rattle.ufs_serving.proofs.Told.{told}
 use Rattle.ufs_worker.proofs.requests.serve_request.Goals as goal
 
 pub know-requires-clause-hinted : goal.know-requires-clause-hinted
@@ -45,7 +45,7 @@ served_answer-requires g c =
     let a = c.know.ensures.asked in
     let hinted = subst (λ (r : Asked). IsByHint r.ask) (sym c.into_parts-client.ensures.same) c.requires.hinted in
     let then = c.serve_asked-held.ensures.client a.self a.alone in
-    told g.N.Naming.start c.into_parts-client.result.1 c.know.new.hand a hinted c.args.me c.requires.there c.serve_asked-held.result.1.entry c.serve_asked-held.result.1.desc c.serve_asked-held.ensures.desc
+    told g.N.Naming.start c.into_parts-client.result.1 c.know.new.hand a hinted (Worker c.args.me) c.requires.there c.serve_asked-held.result.1.entry c.serve_asked-held.result.1.desc c.serve_asked-held.ensures.desc
     c.serve_asked-held.ensures.entry then.0 then.1 c.serve_asked-held.result.1.guest then.2
 
 pub returns-clause-served : goal.returns-clause-served
@@ -56,7 +56,7 @@ returns-clause-served g c =
     let told : Told = record { hand = r.guest; entry = r.entry; desc = r.desc; owner = Some (Worker c.args.me); lease = None } in (
       told,
       c.served_answer.ensures,
-      subst (λ (q : FileCell × FileCell × Ask). IsServedBy g.N.Naming.start.is_visible (g.T.Turns.tells c.args.door.now) (g.T.Turns.tells c.serve_asked-held.new.door) c.args.me q.0 q.1 c.args.pool.now c.serve_asked-held.new.pool q.2 told)
+      subst (λ (q : FileCell × FileCell × Ask). IsServedBy g.N.Naming.start.is_visible (g.T.Turns.tells c.args.door.now) (g.T.Turns.tells c.serve_asked-held.new.door) (Worker c.args.me) q.0 q.1 c.args.pool.now c.serve_asked-held.new.pool q.2 told)
           (λ i. (c.into_held-held.ensures.same i, sym c.new.ensures i, ask i))
           (record { of_ask = s.entry; done = s.done; owner = refl; lease = refl; number = s.number; born = s.born }),
     )

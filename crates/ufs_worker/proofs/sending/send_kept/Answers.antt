@@ -1,7 +1,7 @@
 use Rattle.std.proofs.Common.{arith, ◌∙◌}
 use Rattle.ufs_model.specs.declared.data.Actor.TheVariants.{Primary}
 use Rattle.ufs_msg.specs.declared.letter.Letter.TheVariants as letter
-use Rattle.ufs_worker.proofs.Letters.{goes_on}
+use Rattle.ufs_serving.proofs.Letters.{goes_on}
 use Rattle.ufs_worker.proofs.sending.send_kept.Goals as goal
 
 pub loop-parcel-preserved : goal.loop-parcel-preserved

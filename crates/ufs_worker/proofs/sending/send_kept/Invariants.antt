@@ -2,7 +2,7 @@ use Rattle.std.proofs.Common.{◌≡◌, ◌≤◌}
 use Rattle.std.specs.VecDeque.{deque_capacity, deque_len}
 use Rattle.ufs_model.specs.declared.data.Actor.TheVariants.{Primary}
 use Rattle.ufs_msg.specs.declared.letter.Letter.TheVariants as letter
-use Rattle.ufs_worker.proofs.Letters.{HaveGone}
+use Rattle.ufs_serving.proofs.Letters.{HaveGone}
 use Rattle.ufs_worker.proofs.sending.send_kept.Given as goal
 
 abbrev pub invariant-loop-parcel : goal.invariant-loop-parcel

@@ -1,9 +1,10 @@
 use Rattle.std.proofs.Common.{◌≡◌, Option, Some, ap, arith, is_some, refl, sym, subst, ◌∙◌}
 use Rattle.std.specs.Prelude.{IfSome, IsSome}
 use Rattle.ufs_joint.specs.Cells.{FileCell}
+use Rattle.ufs_model.specs.declared.data.Actor.TheVariants.{Worker}
 use Rattle.ufs_msg.specs.Answers.{Told}
 use Rattle.ufs_msg.specs.declared.answer.Answer.TheVariants as answer
-use Rattle.ufs_worker.specs.Serving.{IsServedBy}
+use Rattle.ufs_serving.specs.Serving.{IsServedBy}
 use Rattle.ufs_worker.specs.Worker.{filled, placed}
 use Rattle.ufs_worker.proofs.Places.{flat, get-filled, numbered_set, of_cell, set-filled, some_is, told, written}
 use Rattle.ufs_worker.proofs.shelf.Shelf.serve.Goals as goal
@@ -31,7 +32,7 @@ returns-clause-served g c = λ x at.
     let q = c.serve_in.new.place in
     let here : c.in-Some.place.now ≡ Some x = ap flat c.in-Some.ensures.value ∙ sym (told a letters es c.self.view_is c.args.file) ∙ at in
     let s = subst (λ (o : Option FileCell). IfSome o (λ k. (d : FileCell) × (t : Told) × (c.serve_in.result ≡ answer.Served t)
-    × IsServedBy g.N.Naming.start.is_visible (g.T.Turns.tells c.args.door.now) (g.T.Turns.tells c.serve_in.new.door) c.args.me k d c.args.pool.now c.serve_in.new.pool c.args.request.ask t × (q ≡ Some d))) here c.serve_in.ensures.served in (
+    × IsServedBy g.N.Naming.start.is_visible (g.T.Turns.tells c.args.door.now) (g.T.Turns.tells c.serve_in.new.door) (Worker c.args.me) k d c.args.pool.now c.serve_in.new.pool c.args.request.ask t × (q ≡ Some d))) here c.serve_in.ensures.served in (
       s.0,
       s.1,
       s.2,
@@ -45,7 +46,7 @@ invariant_of-self g c =
     let q = c.serve_in.new.place in
     let p = some_is c.in-Some.place.now (subst IsSome (told c.args.self.now c.self.inside.leaving.items c.self.inside.places c.self.view_is c.args.file ∙ ap flat (sym c.in-Some.ensures.value)) c.requires.here) in
     let s = subst (λ (o : Option FileCell). IfSome o (λ k. (d : FileCell) × (t : Told) × (c.serve_in.result ≡ answer.Served t)
-    × IsServedBy g.N.Naming.start.is_visible (g.T.Turns.tells c.args.door.now) (g.T.Turns.tells c.serve_in.new.door) c.args.me k d c.args.pool.now c.serve_in.new.pool c.args.request.ask t × (q ≡ Some d))) p.1 c.serve_in.ensures.served in
+    × IsServedBy g.N.Naming.start.is_visible (g.T.Turns.tells c.args.door.now) (g.T.Turns.tells c.serve_in.new.door) (Worker c.args.me) k d c.args.pool.now c.serve_in.new.pool c.args.request.ask t × (q ≡ Some d))) p.1 c.serve_in.ensures.served in
     let number = c.self.invariant.0 c.args.file p.0 (get-filled es c.args.file ∙ ap flat (sym c.in-Some.ensures.value) ∙ p.1) in
     let put = ap filled (c.get_mut.follows.holds q).0 ∙ set-filled es c.args.file q (subst IsSome c.in-Some.ensures.value refl) ∙ ap (placed (filled es) c.args.file) s.4 in
     let r = c.self.invariant.1 in

@@ -1,5 +1,5 @@
 use Rattle.std.proofs.Common.{None}
-use Rattle.ufs_worker.specs.Posts.{all_said}
+use Rattle.ufs_serving.specs.Posts.{all_said}
 use Rattle.ufs_worker.specs.Worker.{worker_of}
 use Rattle.ufs_worker.proofs.worker.Worker.new.Goals as goal
 

@@ -3,10 +3,10 @@ use Rattle.std.specs.FinMap as fin
 use Rattle.ufs_joint.specs.Cells.{FileCell}
 use Rattle.ufs_model.specs.declared.data.Actor.TheVariants.{Primary}
 use Rattle.ufs_msg.specs.declared.letter.Letter.TheVariants as letter
-use Rattle.ufs_worker.specs.Posts.{all_said}
+use Rattle.ufs_serving.specs.Posts.{all_said}
 use Rattle.ufs_worker.specs.Worker.{ShelfState, WorkerState, worker_of}
 use Rattle.ufs_worker.specs.declared.turn.WorkerTurn.TheVariants as turn
-use Rattle.ufs_worker.specs.Sending.{GoInOrder}
+use Rattle.ufs_serving.specs.Sending.{GoInOrder}
 use Rattle.ufs_worker.specs.Turns.{IsObeyed}
 use Rattle.ufs_worker.proofs.Turning.{given_back, not_here}
 use Rattle.ufs_worker.proofs.worker.Worker.obey.Goals as goal

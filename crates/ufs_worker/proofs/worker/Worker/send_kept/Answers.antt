@@ -1,7 +1,7 @@
 use Rattle.std.proofs.Common.{subst}
 use Rattle.ufs_model.specs.declared.data.Actor.TheVariants.{Primary}
 use Rattle.ufs_msg.specs.declared.letter.Letter.TheVariants as letter
-use Rattle.ufs_worker.specs.Posts.{all_said}
+use Rattle.ufs_serving.specs.Posts.{all_said}
 use Rattle.ufs_worker.specs.Turns.{KeptGoes}
 use Rattle.ufs_worker.specs.Worker.{WorkerState, worker_of}
 use Rattle.ufs_worker.proofs.Turning.{kept_goes}

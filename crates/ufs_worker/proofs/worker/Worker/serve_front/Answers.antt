@@ -3,11 +3,11 @@ use Rattle.std.specs.FinMap as fin
 use Rattle.ufs_model.specs.declared.data.Actor.{Actor}
 use Rattle.ufs_msg.specs.Requests.{Asked}
 use Rattle.ufs_msg.specs.There.{MayServe}
-use Rattle.ufs_worker.specs.Posts.{AnswersGo, Said, all_said, said}
+use Rattle.ufs_serving.specs.Posts.{AnswersGo, Said, all_said, said}
 use Rattle.ufs_worker.specs.Turns.{IsRequestDone}
 use Rattle.ufs_worker.specs.Worker.{WorkerState, worker_of}
 use Rattle.ufs_worker.specs.declared.turn.WorkerTurn.TheVariants as turn
-use Rattle.ufs_worker.proofs.Answering.{all_said-more}
+use Rattle.ufs_serving.proofs.Answering.{all_said-more}
 use Rattle.ufs_worker.proofs.Turning.{is_redirected, is_served}
 use Rattle.ufs_worker.proofs.worker.Worker.serve_front.Goals as goal
 

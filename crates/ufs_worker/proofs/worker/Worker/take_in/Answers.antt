@@ -1,6 +1,6 @@
 use Rattle.std.proofs.Common.{ℕ, None, Some, is_some, ap, refl, sym, subst, ◌∙◌}
 use Rattle.std.specs.FinMap as fin
-use Rattle.ufs_worker.specs.Posts.{all_said}
+use Rattle.ufs_serving.specs.Posts.{all_said}
 use Rattle.ufs_worker.specs.Turns.{IsTaken}
 use Rattle.ufs_worker.specs.Worker.{WorkerState, worker_of}
 use Rattle.ufs_worker.specs.declared.turn.WorkerTurn.TheVariants as turn

@@ -1,0 +1,4 @@
+pub mod Pools
+pub mod Sending
+pub mod Posts
+pub mod Serving
