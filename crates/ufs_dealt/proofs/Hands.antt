@@ -19,7 +19,8 @@ use Rattle.ufs_sound.proofs.Owning.{count_has, weigh_cut}
 use Rattle.ufs_store.specs.State.{StoreState, geometry_of_store}
 use Rattle.ufs_store_steps.specs.Cells.{cells_of}
 use Rattle.ufs_turns.specs.HeldStore.{HasStoreAlone, IsHeldStore, counted_in}
-use Rattle.ufs_dealt.specs.Dealt.{AreApart, HasPoolAlone, rest_of}
+use Rattle.ufs_first_hand.specs.FirstHand.{HasPoolAlone}
+use Rattle.ufs_dealt.specs.Dealt.{AreApart, rest_of}
 use Rattle.ufs_dealt.proofs.Cutting.{only_absent, only_none, only_this, without_absent, without_none}
 
 -- ---- names and store

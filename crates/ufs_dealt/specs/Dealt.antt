@@ -1,6 +1,5 @@
 -- How the first hand of a session is dealt to who takes part.
-use Rattle.std.specs.Prelude.{ℕ, ◌≡◌, ◌+◌, ◌≤◌, eqb, List, [], ◌∷◌, map}
-use Rattle.ufs_bitmap.specs.Blocks.{BlockSet}
+use Rattle.std.specs.Prelude.{ℕ, ◌+◌, ◌≤◌, eqb, List, [], map}
 use Rattle.ufs_durable.specs.State.{DurableState, state_of}
 use Rattle.ufs_joint.specs.Cells.{FileCell, View}
 use Rattle.ufs_noted.specs.declared.known.KnownFile.{KnownFile}
@@ -21,12 +20,3 @@ values_in cells = map (λ c. (c.0, c.1.value)) cells
 -- what files have with what is known of their commits, by their own numbers
 abbrev pub values_of : List KnownFile → List (ℕ × DurableState)
 values_of files = map (λ k. (k.hand.file, state_of k.hand k.commits)) files
-
--- The hand has this pool, and nothing else.
-pub record HasPoolAlone (n : ℕ) (pool : BlockSet) (v : View) : Type 0 where
-  pub clients : v.clients ≡ []
-  pub asked : v.asked ≡ []
-  pub files : v.files ≡ []
-  pub pools : v.pools ≡ (n, pool) ∷ []
-  pub names : v.names ≡ []
-  pub store : v.store ≡ []

@@ -2,7 +2,8 @@
 ghost use Rattle.std.specs.Prelude.{◌≡◌, ◌+◌, ◌≤◌, ◌∷◌, ◌++◌, [], true, eqb, length, IsTrue};
 ghost use Rattle.std.specs.Vec.{vec_capacity, vec_len};
 ghost use Rattle.ufs_bitmap.specs.Blocks.{BlockSet};
-ghost use Rattle.ufs_dealt.specs.Dealt.{AreApart, HasPoolAlone, rest_of, values_in, values_of};
+ghost use Rattle.ufs_first_hand.specs.FirstHand.{HasPoolAlone};
+ghost use Rattle.ufs_dealt.specs.Dealt.{AreApart, rest_of, values_in, values_of};
 ghost use Rattle.ufs_durable.specs.State.{state_of};
 ghost use Rattle.ufs_held.specs.Together.{under_numbers};
 ghost use Rattle.ufs_held_names.specs.HeldNames.{noted_in};

@@ -1,10 +1,11 @@
 -- What a session over an image begins with, and its first hand, which has every cell.
-use Rattle.std.specs.Prelude.{ℕ, zero, suc, ◌-◌, Bool, true, List, [], ◌∷◌, map, None, Some}
+use Rattle.std.specs.Prelude.{ℕ, zero, suc, ◌≡◌, ◌-◌, Bool, true, List, [], ◌∷◌, map, None, Some}
 use Rattle.std.specs.FinMap as fin
+use Rattle.ufs_bitmap.specs.Blocks.{BlockSet}
 use Rattle.ufs_durable.specs.State.{state_of}
 use Rattle.ufs_file.specs.Hand.{FileState}
 use Rattle.ufs_files.specs.Files.{Files}
-use Rattle.ufs_joint.specs.Cells.{FileCell, NamesCell, Start, StoreCell}
+use Rattle.ufs_joint.specs.Cells.{FileCell, NamesCell, Start, StoreCell, View}
 use Rattle.ufs_joint.specs.Disks.{cell_of}
 use Rattle.ufs_joint.specs.NamesTurns.{live_files}
 use Rattle.ufs_joint.specs.Whole.{no_blocks}
@@ -40,6 +41,15 @@ client_of client = client
 -- the number under which a server has its pool: the primary is 0, and behind it come the workers
 abbrev pub pool_of : ℕ → ℕ
 pool_of server = 4294967295 - server
+
+-- The hand has this pool, and nothing else.
+pub record HasPoolAlone (n : ℕ) (pool : BlockSet) (v : View) : Type 0 where
+  pub clients : v.clients ≡ []
+  pub asked : v.asked ≡ []
+  pub files : v.files ≡ []
+  pub pools : v.pools ≡ (n, pool) ∷ []
+  pub names : v.names ≡ []
+  pub store : v.store ≡ []
 
 -- ---- the cells
 

@@ -15,9 +15,9 @@ use std::alloc::Global;
 pub struct Script {
     /// By their numbers, from 0.
     pub clients: OpLists,
-    /// 1, since `schedule` isn't read yet.
+    /// 1 in a script that was read, since `schedule` isn't read yet.
     pub workers: u8,
-    /// None, since `schedule` isn't read yet.
+    /// None in a script that was read, since `schedule` isn't read yet.
     pub words: WordList,
 }
 

@@ -9,7 +9,8 @@ use Rattle.ufs_msg.specs.Requests.{HasClientAlone}
 use Rattle.ufs_sound.specs.Owned.{only, without}
 use Rattle.ufs_sound.specs.Parts.{ClientPart, is_file, is_names}
 use Rattle.ufs_sound.proofs.Keys.{itself}
-use Rattle.ufs_serving.specs.Pools.{HasNone, HasPoolAlone}
+use Rattle.ufs_first_hand.specs.FirstHand.{HasPoolAlone}
+use Rattle.ufs_serving.specs.Pools.{HasNone}
 
 module _ (own client : View) (n : ℕ) (pool : BlockSet) (c : ℕ) (part : ClientPart) (mine : HasPoolAlone n pool own) (came : HasClientAlone c part client) where
   abbrev both : View

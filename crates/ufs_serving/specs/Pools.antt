@@ -9,15 +9,6 @@ use Rattle.ufs_turns.specs.Lent.{AreTold, free_in}
 abbrev pub most_at_rest : ℕ
 most_at_rest = 64
 
--- The hand has this pool, and nothing else.
-pub record HasPoolAlone (n : ℕ) (pool : BlockSet) (v : View) : Type 0 where
-  pub clients : v.clients ≡ []
-  pub asked : v.asked ≡ []
-  pub files : v.files ≡ []
-  pub pools : v.pools ≡ (n, pool) ∷ []
-  pub names : v.names ≡ []
-  pub store : v.store ≡ []
-
 -- It has nothing.
 pub record HasNone (v : View) : Type 0 where
   pub clients : v.clients ≡ []

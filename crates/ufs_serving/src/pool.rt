@@ -6,8 +6,8 @@ ghost use Rattle.ufs_held.specs.Asking.{IsGuest};
 ghost use Rattle.ufs_msg.specs.Requests.{HasClientAlone};
 ghost use Rattle.ufs_sound.specs.Parts.{ClientPart};
 ghost use Rattle.ufs_turns.specs.Lent.{AreTold};
-ghost use Rattle.ufs_first_hand.specs.FirstHand.{pool_of};
-ghost use Rattle.ufs_serving.specs.Pools.{AreConserved, HasAllFree, HasNone, HasPoolAlone, IsAtRest, IsWithin, most_at_rest};
+ghost use Rattle.ufs_first_hand.specs.FirstHand.{HasPoolAlone, pool_of};
+ghost use Rattle.ufs_serving.specs.Pools.{AreConserved, HasAllFree, HasNone, IsAtRest, IsWithin, most_at_rest};
 
 use std::mem;
 use ufs_bitmap::Pool;

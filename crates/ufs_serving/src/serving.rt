@@ -7,7 +7,8 @@ ghost use Rattle.ufs_model.specs.Bounds.{IsBounded};
 ghost use Rattle.ufs_msg.specs.Requests.{HasClientAlone};
 ghost use Rattle.ufs_prefix.specs.Changes.{asks_commit};
 ghost use Rattle.ufs_sound.specs.Parts.{ClientPart};
-ghost use Rattle.ufs_serving.specs.Pools.{HasPoolAlone, most_at_rest};
+ghost use Rattle.ufs_first_hand.specs.FirstHand.{HasPoolAlone};
+ghost use Rattle.ufs_serving.specs.Pools.{most_at_rest};
 ghost use Rattle.ufs_serving.specs.Serving.{IsServedAt};
 
 use crate::measure::measured;

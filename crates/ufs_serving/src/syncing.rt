@@ -5,8 +5,8 @@ ghost use Rattle.ufs_held.specs.Asking.{Asks, IsAnswered};
 ghost use Rattle.ufs_model.specs.declared.data.Op.TheVariants as op;
 ghost use Rattle.ufs_msg.specs.Requests.{HasClientAlone};
 ghost use Rattle.ufs_sound.specs.Parts.{ClientPart};
-ghost use Rattle.ufs_serving.specs.Pools.{HasPoolAlone};
 ghost use Rattle.ufs_serving.specs.Serving.{IsSyncedAt};
+ghost use Rattle.ufs_first_hand.specs.FirstHand.{HasPoolAlone};
 
 use crate::pool::{lend_pool, take_pool};
 use ufs_bitmap::Pool;

@@ -12,8 +12,8 @@ ghost use Rattle.ufs_msg.specs.There.{IsByHint, IsServerThere, is_by_hint};
 ghost use Rattle.ufs_msg.specs.declared.answer.Answer.TheVariants as answer;
 ghost use Rattle.ufs_prefix.specs.Changes.{asks_commit};
 ghost use Rattle.ufs_sound.specs.Parts.{ClientPart};
-ghost use Rattle.ufs_first_hand.specs.FirstHand.{pool_of};
-ghost use Rattle.ufs_serving.specs.Pools.{HasPoolAlone, most_at_rest};
+ghost use Rattle.ufs_first_hand.specs.FirstHand.{HasPoolAlone, pool_of};
+ghost use Rattle.ufs_serving.specs.Pools.{most_at_rest};
 ghost use Rattle.ufs_serving.specs.Serving.{IsDoneAt, IsServedBy};
 
 use ufs_bitmap::Pool;

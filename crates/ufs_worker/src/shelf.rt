@@ -48,8 +48,8 @@ impl<N: Naming> Shelf<N> {
     ghost use Rattle.ufs_msg.specs.There.{IsByHint, IsServerThere};
     ghost use Rattle.ufs_msg.specs.declared.answer.Answer.TheVariants as answer;
     ghost use Rattle.ufs_msg.specs.declared.letter.Letter.TheVariants as letter;
-    ghost use Rattle.ufs_first_hand.specs.FirstHand.{pool_of};
-    ghost use Rattle.ufs_serving.specs.Pools.{HasPoolAlone, most_at_rest};
+    ghost use Rattle.ufs_first_hand.specs.FirstHand.{HasPoolAlone, pool_of};
+    ghost use Rattle.ufs_serving.specs.Pools.{most_at_rest};
     ghost use Rattle.ufs_serving.specs.Sending.{GoInOrder};
     ghost use Rattle.ufs_serving.specs.Serving.{IsServedBy};
 

@@ -48,8 +48,8 @@ impl<N: Naming> Worker<N> {
     ghost use Rattle.ufs_model.specs.declared.data.Actor.TheVariants.{Primary, Worker as worker};
     ghost use Rattle.ufs_msg.specs.There.{IsServerThere};
     ghost use Rattle.ufs_msg.specs.declared.letter.Letter.TheVariants as letter;
-    ghost use Rattle.ufs_first_hand.specs.FirstHand.{pool_of};
-    ghost use Rattle.ufs_serving.specs.Pools.{HasPoolAlone, most_at_rest};
+    ghost use Rattle.ufs_first_hand.specs.FirstHand.{HasPoolAlone, pool_of};
+    ghost use Rattle.ufs_serving.specs.Pools.{most_at_rest};
     ghost use Rattle.ufs_worker.specs.Turns.{IsAskDone, IsFrontDone, IsLetterDone, IsNextDone, IsObeyed, IsTaken, IsTurn, KeptGoes};
     ghost use Rattle.ufs_worker.specs.declared.turn.WorkerTurn.TheVariants as turn;
 

@@ -15,7 +15,8 @@ use Rattle.ufs_model.specs.declared.data.Desc.{Desc}
 use Rattle.ufs_model.specs.declared.data.Entry.{Entry}
 use Rattle.ufs_model.specs.declared.data.Excuse.TheVariants as excuse
 use Rattle.ufs_model.proofs.Facts.Lookups.{same_some}
-use Rattle.ufs_serving.specs.Pools.{HasPoolAlone, IsWithin}
+use Rattle.ufs_first_hand.specs.FirstHand.{HasPoolAlone}
+use Rattle.ufs_serving.specs.Pools.{IsWithin}
 use Rattle.ufs_serving.specs.Serving.{IsServedAt}
 use Rattle.ufs_serving.proofs.Conserving.{left_within, none_lost}
 use Rattle.ufs_serving.proofs.Lacking.{Measures, own_content, some_desc, too_few}
