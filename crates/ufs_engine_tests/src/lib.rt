@@ -1,4 +1,4 @@
-//! Tests of what serves: a directory's blocks, sessions.
+//! Tests of the engine: the blocks of directories, and sessions.
 #![tactic(auto)]
 
 #[cfg(test)]
