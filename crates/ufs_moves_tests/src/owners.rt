@@ -187,12 +187,17 @@ const ROWS: [Row; 12] = [
     (Step::Settle, None, Owner::Primary, 0, 0, false),
 ];
 
+fn some_if(some: bool, file: u32) -> Option<u32> {
+    if some { Some(file) } else { None }
+}
+
 // Asserts what file 7 and the counts are after a step, and that file 8 is as ever.
 fn goes<R: Abort>(rt: &R, table: &mut OwnerTable, row: &Row) {
     let (next, answer, owner, out, with, waiting) = *row;
     same(rt, take(table, 7, next).expect(rt, "memory"), answer);
     same(rt, table.owner_of(7), owner);
     same(rt, table.count_out(), out);
+    same(rt, table.some_out(), some_if(out > 0, 7));
     same(rt, table.count_with(1), with);
     same(rt, table.waiting(7), waiting);
     same(rt, table.owner_of(8), Owner::Primary);

@@ -5,3 +5,4 @@ mod KeptLemmas
 mod StepLemmas
 pub mod OwnerFacts
 mod Rows
+mod AwayLemmas

@@ -1,10 +1,10 @@
 // A record for each file of which something is known, found by the file's number.
-ghost use Rattle.std.specs.Prelude.{◌≡◌, ◌++◌, ◌∷◌, [], Some, IfSome, IsSome, OnErr, OnOk, filter, nat_eq};
+ghost use Rattle.std.specs.Prelude.{◌≡◌, ◌++◌, ◌∷◌, [], Some, IfSome, IsSome, OnErr, OnOk, filter, nat_eq, not};
 ghost use Rattle.std.specs.HashMap as hash;
 ghost use Rattle.slab.specs.Slab.{get, slab_len, Updates, SameValues};
 ghost use Rattle.ufs_owner.specs.Changed.{owned, awaited};
 ghost use Rattle.ufs_owner.specs.Clients.{is_another};
-ghost use Rattle.ufs_owner.specs.Owners.{is_known};
+ghost use Rattle.ufs_owner.specs.Owners.{is_known, is_primary};
 
 use crate::clients::ClientList;
 use crate::owner::{Owner, Standing};
@@ -41,11 +41,12 @@ impl Model for Records {
 }
 
 impl Records {
-    ghost use Rattle.std.specs.Prelude.{◌≡◌, ◌≤◌, ◌<◌, ◌+◌, ◌++◌, ◌∷◌, [], None, OnErr, OnOk, IsSome, is_some, option_copied, filter};
+    ghost use Rattle.std.specs.Prelude.{ℕ, ◌≡◌, ◌≤◌, ◌<◌, ◌+◌, ◌++◌, ◌∷◌, [], None, IfNone, IfSome, OnErr, OnOk, IsSome, is_some, false, not, option_copied, filter};
     ghost use Rattle.std.specs.FinMap as map;
     ghost use Rattle.ufs_owner.specs.Clients.{is_another};
-    ghost use Rattle.ufs_owner.specs.Owners.{standing_at, is_known, with_standing};
+    ghost use Rattle.ufs_owner.specs.Owners.{standing_at, is_known, is_primary, owner_at, with_standing};
     ghost use Rattle.ufs_owner.specs.Records.{Kept};
+    ghost use Rattle.ufs_owner.specs.declared.owner.Owner.TheVariants.{Primary};
 
     /// Takes no memory.
     pub fn new(alloc: Global) -> Self
@@ -148,6 +149,28 @@ impl Records {
         let _record = self.records.try_remove(place);
     }
 
+    /// A file that isn't at the primary, if there is one: a walk over the files of which something is known.
+    pub fn some_out(&self) -> Option<u32>
+        ensures out { IfSome result (λ file. is_primary (owner_at self.now.files file) ≡ false) }
+        ensures none { IfNone result ((file : ℕ) → owner_at self.now.files file ≡ Primary) }
+    {
+        for file in self.places.keys() {
+            if self.is_away(*file) {
+                return Some(*file);
+            }
+        }
+        None
+    }
+
+    fn is_away(&self, file: u32) -> bool
+        ensures { result ≡ not (is_primary (owner_at self.now.files file)) }
+    {
+        match self.get(file) {
+            Some(standing) => is_away(standing),
+            None => false,
+        }
+    }
+
     fn knows(&self, file: u32) -> bool
         ensures { result ≡ is_known (standing_at self.now.files file) }
     {
@@ -174,6 +197,13 @@ fn is_known(standing: &Standing) -> bool
     ensures { result ≡ is_known standing.now }
 {
     standing.owner != Owner::Primary || !standing.waiting.is_empty()
+}
+
+// Whether the file isn't at the primary.
+fn is_away(standing: &Standing) -> bool
+    ensures { result ≡ not (is_primary standing.now.owner) }
+{
+    standing.owner != Owner::Primary
 }
 
 // Where the file's record is.

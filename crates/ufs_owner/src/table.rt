@@ -39,7 +39,7 @@ impl Model for OwnerTable {
 }
 
 impl OwnerTable {
-    ghost use Rattle.std.specs.Prelude.{◌≡◌, ◌≢◌, ◌≤◌, ◌<◌, ◌-◌, ◌++◌, ◌∷◌, [], ◌↔◌, ◌^◌, IfErr, OnErr, OnOk, IsOk, IsTrue, Err, filter, max};
+    ghost use Rattle.std.specs.Prelude.{◌≡◌, ◌≢◌, ◌≤◌, ◌<◌, ◌-◌, ◌++◌, ◌∷◌, [], ◌↔◌, ◌^◌, IfErr, OnErr, OnOk, IsOk, IsTrue, MatchOption, Err, filter, max};
     ghost use Rattle.std.specs.Bool.{OnTrue, OnFalse};
     ghost use Rattle.std.specs.FinMap as map;
     ghost use Rattle.ufs_base.specs.declared.lack.Lack.TheVariants.{AtEnd};
@@ -98,6 +98,17 @@ impl OwnerTable {
         ensures { result ≡ count_out self.now.files }
     {
         self.out
+    }
+
+    /// A file that isn't at the primary, if there is one. Where none is it takes constant time, and else at most that of a walk over the
+    /// files that aren't at the primary or for which a client waits.
+    pub fn some_out(&self) -> Option<u32>
+        ensures { MatchOption result (count_out self.now.files ≡ 0) (λ file. owner_at self.now.files file ≢ Primary) }
+    {
+        if self.out == 0 {
+            return None;
+        }
+        self.records.some_out()
     }
 
     /// How many files a worker has or is to have. It is kept and not counted.
