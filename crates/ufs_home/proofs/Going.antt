@@ -1,5 +1,5 @@
 -- Letters that go one behind the other, and the files with them.
-use Rattle.std.proofs.Common.{◌≡◌, ℕ, List, [], ◌∷◌, ◌++◌, refl, sym, ap, ◌∙◌, subst, append_assoc}
+use Rattle.std.proofs.Common.{◌≡◌, List, [], ◌∷◌, ◌++◌, refl, sym, ap, ◌∙◌, subst, append_assoc}
 use Rattle.ufs_owner.specs.Owners.{Files}
 use Rattle.ufs_serving.specs.Sending.{AllWent, AreLeft}
 use Rattle.ufs_home.specs.Letters.{LettersGo, Mailed, left_by, left_by_all}

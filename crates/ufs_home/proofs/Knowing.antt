@@ -1,12 +1,12 @@
 -- The workers that a table names stay there as it changes.
-use Rattle.std.proofs.Common.{◌≡◌, ◌≢◌, ◌≤◌, ℕ, ◌⊎◌, inl, inr, Bool, true, false, cond, List, refl, ap, sym, ◌∙◌, subst, arith}
+use Rattle.std.proofs.Common.{◌≡◌, ◌≤◌, ℕ, ◌⊎◌, inl, inr, Bool, true, false, cond, List, ap, sym, ◌∙◌, subst, arith}
 use Rattle.std.specs.Prelude.{unwrap_or, Option}
 use Rattle.std.specs.Cmp.{nat_cmp_total}
 use Rattle.std.specs.FinMap as map
 use Rattle.std.specs.Ordering.{nat_cmp}
 use Rattle.std.specs.FinMap.{nat_cmp-IsAntisymmetric}
 use Rattle.ufs_model.proofs.Facts.Lookups as lookups
-use Rattle.ufs_owner.specs.Owners.{Files, arrived, is_going, is_known, note_at, nothing_known, owner_at, recalled, standing_at, waiting_at, with_owner, with_standing, with_waiting}
+use Rattle.ufs_owner.specs.Owners.{Files, arrived, is_going, is_known, nothing_known, owner_at, recalled, standing_at, with_owner, with_standing, with_waiting}
 use Rattle.ufs_owner.specs.declared.owner.Owner.{Owner}
 use Rattle.ufs_owner.specs.declared.owner.Owner.TheVariants.{Primary, Worker, Coming, Going}
 use Rattle.ufs_owner.specs.declared.owner.Standing.{Standing}

@@ -1,13 +1,12 @@
 -- What an order leaves as it was.
-use Rattle.std.proofs.Common.{◌≡◌, ◌≤◌, ℕ, zero, suc, ◌⊎◌, inl, inr, eqb, Bool, true, false, cond, List, [], length, refl, ap, sym, ◌∙◌, subst, arith}
+use Rattle.std.proofs.Common.{◌≡◌, ◌≤◌, ℕ, zero, suc, eqb, Bool, true, false, cond, List, [], length, refl, ap, sym, ◌∙◌, subst, arith}
 use Rattle.std.specs.Bool.{OnFalse, OnTrue}
 use Rattle.std.specs.Prelude.{not, ◌≢◌, ◌∷◌}
-use Rattle.ufs_owner.specs.Owners.{Files, has_none, is_out, owner_at, recalled, with_owner}
+use Rattle.ufs_owner.specs.Owners.{has_none, owner_at, recalled}
 use Rattle.ufs_owner.specs.declared.owner.Owner.{Owner}
 use Rattle.ufs_owner.specs.declared.owner.Owner.TheVariants.{Primary, Worker, Coming, Going}
-use Rattle.ufs_home.specs.Home.{HomeState, called_back, called_for, sent}
-use Rattle.ufs_home.specs.Letters.{Boxes}
-use Rattle.ufs_home.specs.Moves.{IsMoved, moved_from, order_of}
+use Rattle.ufs_home.specs.Home.{HomeState}
+use Rattle.ufs_home.specs.Moves.{IsMoved, order_of}
 use Rattle.ufs_home.specs.Owning.{AreKnown}
 use Rattle.ufs_home.specs.declared.moved.Moved.{Moved}
 use Rattle.ufs_home.specs.declared.moved.Moved.TheVariants as moved

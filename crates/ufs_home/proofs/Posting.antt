@@ -1,11 +1,11 @@
 -- Letters as they are kept and sent.
-use Rattle.std.proofs.Common.{◌≡◌, ◌≤◌, ◌<◌, ◌+◌, ◌-◌, ℕ, suc, inl, inr, Bool, List, [], ◌∷◌, ◌++◌, length, set, slice_get, get_or, Option, Some, None, is_some, Result, Ok, Err, MatchResult, refl, sym, ap, ◌∙◌, subst, arith}
+use Rattle.std.proofs.Common.{◌≡◌, ◌+◌, ◌-◌, ℕ, suc, inl, inr, List, [], ◌∷◌, ◌++◌, length, set, slice_get, Option, Some, None, is_some, Result, Ok, Err, MatchResult, refl, sym, ap, ◌∙◌, subst, arith}
 use Rattle.std.specs.Prelude.{IfSome, unwrap_or}
 use Rattle.std.proofs.lemmas.List.{length-set}
 use Rattle.ufs_joint.specs.Cells.{FileCell}
 use Rattle.ufs_msg.specs.declared.letter.Letter.{Letter}
 use Rattle.ufs_msg.specs.declared.letter.Letter.TheVariants as letter
-use Rattle.ufs_msg.proofs.Places.{at_place, set_same}
+use Rattle.ufs_msg.proofs.Places.{set_same}
 use Rattle.ufs_owner.specs.Owners.{Files}
 use Rattle.ufs_home.specs.Letters.{Boxes, LettersGo, Mailed, RingsGo, is_file, letter_of, mailed, number_in, posted}
 

@@ -1,6 +1,6 @@
 -- What the calls on parts of the primary's files leave, put together.
-use Rattle.std.proofs.Common.{◌≡◌, ◌≢◌, ◌≤◌, ◌<◌, ◌^◌, ℕ, zero, suc, ◌⊎◌, inl, inr, Bool, true, false, cond, List, [], ◌∷◌, ◌++◌, length, Option, Some, None, is_some, not, Result, Ok, Err, refl, ap, sym, ◌∙◌, subst, arith}
-use Rattle.std.specs.Prelude.{IfErr, IfOk, IfSome, IfNone, OnErr, OnOk}
+use Rattle.std.proofs.Common.{◌≡◌, ◌≤◌, ◌<◌, ◌^◌, ℕ, zero, suc, ◌⊎◌, inl, inr, Bool, true, false, cond, List, [], ◌∷◌, ◌++◌, length, Option, Some, None, is_some, not, Result, Ok, Err, refl, ap, sym, ◌∙◌, subst, arith}
+use Rattle.std.specs.Prelude.{IfOk, OnErr, OnOk}
 use Rattle.std.specs.FinMap as fin
 use Rattle.ufs_joint.specs.Cells.{FileCell, Start}
 use Rattle.ufs_msg.specs.There.{worker_count}
@@ -8,7 +8,7 @@ use Rattle.ufs_owner.specs.Owners.{Files, Owners, note_at, owner_at, recalled, w
 use Rattle.ufs_owner.specs.declared.owner.Owner.{Owner}
 use Rattle.ufs_owner.specs.declared.owner.Owner.TheVariants.{Primary, Coming, Going}
 use Rattle.ufs_parcel.specs.Parcel.{IsOut}
-use Rattle.ufs_home.specs.Home.{HomeState, IsHome, called_back, called_by, called_for, come_home, come_on, from_of, home_of, is_waited, onward, sent}
+use Rattle.ufs_home.specs.Home.{HomeState, IsHome, called_back, called_by, called_for, come_on, from_of, home_of, is_waited, onward}
 use Rattle.ufs_home.specs.Letters.{Boxes, posted}
 use Rattle.ufs_home.specs.Owning.{AreKnown}
 use Rattle.ufs_home.specs.Places.{Places, file_here, with_place}

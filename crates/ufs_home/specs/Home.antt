@@ -1,5 +1,5 @@
 -- The files of the primary.
-use Rattle.std.specs.Prelude.{ℕ, zero, suc, ◌≡◌, ◌≢◌, Bool, true, cond, not, List, [], length, Option, Some, None, refl}
+use Rattle.std.specs.Prelude.{ℕ, zero, suc, ◌≡◌, ◌≢◌, Bool, true, cond, not, [], length, Some, None, refl}
 use Rattle.std.proofs.Common.{inl, inr}
 use Rattle.std.specs.Coded.{Coded, code_by, coded×, coded_list, coded_option, coded_ℕ}
 use Rattle.std.specs.FinMap as fin
@@ -10,7 +10,7 @@ use Rattle.ufs_owner.specs.Owners.{Files, has_none, note_at, owner_at, recalled,
 use Rattle.ufs_owner.specs.contracts.owner.Standing as standing'
 use Rattle.ufs_owner.specs.declared.owner.Owner.{Owner}
 use Rattle.ufs_owner.specs.declared.owner.Owner.TheVariants.{Primary, Worker, Coming, Going}
-use Rattle.ufs_home.specs.Letters.{Boxes, Mailed, mailed_code, posted}
+use Rattle.ufs_home.specs.Letters.{Boxes, mailed_code, posted}
 use Rattle.ufs_home.specs.Owning.{AreKnown}
 use Rattle.ufs_home.specs.Places.{Places, file_here}
 

@@ -1,9 +1,6 @@
-use Rattle.std.proofs.Common.{None, ℕ, ap, inl, sym, subst, ◌∙◌, refl}
-use Rattle.std.specs.FinMap as fin
-use Rattle.ufs_joint.specs.Cells.{FileCell}
+use Rattle.std.proofs.Common.{ℕ, ap, ◌∙◌}
 use Rattle.ufs_owner.specs.Owners.{Files, Owners, is_coming, owner_at, waiting_at, with_owner}
 use Rattle.ufs_owner.specs.declared.owner.Owner.TheVariants.{Going, Primary}
-use Rattle.ufs_home.specs.Home.{home_of}
 use Rattle.ufs_home.specs.Letters.{posted}
 use Rattle.ufs_home.proofs.Stating.{is_away, not_passed, passed_on, settled_here, settled_nobody, settled_spare}
 use Rattle.ufs_home.proofs.moving.pass_on.Goals as goal

@@ -1,8 +1,8 @@
-use Rattle.std.proofs.Common.{ℕ, None, Some, ap, inl, sym, ◌∙◌}
+use Rattle.std.proofs.Common.{ℕ, Some, ap, inl, sym, ◌∙◌}
 use Rattle.std.specs.FinMap as fin
 use Rattle.ufs_joint.specs.Cells.{FileCell}
 use Rattle.ufs_home.specs.Home.{home_of}
-use Rattle.ufs_home.specs.Letters.{Mailed, posted}
+use Rattle.ufs_home.specs.Letters.{posted}
 use Rattle.ufs_home.proofs.Stating.{inl_one}
 use Rattle.ufs_home.proofs.moving.post_file.Goals as goal
 

@@ -1,6 +1,5 @@
-use Rattle.std.proofs.Common.{ℕ, ap, sym, subst, ◌∙◌}
-use Rattle.std.specs.Prelude.{IsTrue}
-use Rattle.ufs_owner.specs.Owners.{Files, Owners, is_coming, owner_at, with_owner}
+use Rattle.std.proofs.Common.{ℕ, ap, ◌∙◌}
+use Rattle.ufs_owner.specs.Owners.{Owners, is_coming, owner_at, with_owner}
 use Rattle.ufs_owner.specs.declared.owner.Owner.TheVariants.{Primary}
 use Rattle.ufs_home.specs.Home.{home_of}
 use Rattle.ufs_home.proofs.moving.take_in.Goals as goal

@@ -1,8 +1,8 @@
-use Rattle.std.proofs.Common.{◌≡◌, ℕ, suc, ◌+◌, ◌-◌, List, Some, ap, arith, get_or, length, refl, rules, set, slice_get, sym, subst, ◌∙◌}
+use Rattle.std.proofs.Common.{ℕ, ap, get_or, rules, ◌∙◌}
 use Rattle.std.proofs.lemmas.List.{length-set}
 use Rattle.ufs_model.specs.declared.data.Actor.TheVariants.{Worker}
 use Rattle.ufs_msg.proofs.Places.{at_place}
-use Rattle.ufs_home.specs.Letters.{Boxes, RingsGo, letter_of}
+use Rattle.ufs_home.specs.Letters.{letter_of}
 use Rattle.ufs_home.proofs.Posting.{next_box}
 use Rattle.ufs_home.proofs.sending.send_boxes.Goals as goal
 

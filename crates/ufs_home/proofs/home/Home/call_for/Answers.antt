@@ -1,9 +1,8 @@
 use Rattle.std.proofs.Common.{ap, refl, ◌∙◌}
 use Rattle.ufs_owner.specs.Owners.{owner_at}
 use Rattle.ufs_owner.specs.declared.owner.Owner.{Owner}
-use Rattle.ufs_owner.specs.declared.owner.Owner.TheVariants as owner
 use Rattle.ufs_home.specs.Home.{HomeState, called_by}
-use Rattle.ufs_home.proofs.Stating.{asks_one, called_err, called_home, called_ok}
+use Rattle.ufs_home.proofs.Stating.{asks_one, called_home}
 use Rattle.ufs_home.proofs.home.Home.call_for.Goals as goal
 
 pub returns-in-Primary-clause-ok : goal.returns-in-Primary-clause-ok

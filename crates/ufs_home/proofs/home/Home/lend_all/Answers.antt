@@ -1,4 +1,4 @@
-use Rattle.std.proofs.Common.{◌≡◌, ℕ, ap, subst}
+use Rattle.std.proofs.Common.{◌≡◌, ℕ, subst}
 use Rattle.std.specs.Prelude.{IfOk, IsSome}
 use Rattle.ufs_joint.specs.Cells.{FileCell}
 use Rattle.ufs_sound.specs.Owned.{Has}

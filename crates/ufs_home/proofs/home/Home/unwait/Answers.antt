@@ -1,4 +1,4 @@
-use Rattle.std.proofs.Common.{List, ap, filter, refl, sym, subst, ◌∙◌}
+use Rattle.std.proofs.Common.{ap, filter, refl, sym, subst, ◌∙◌}
 use Rattle.ufs_owner.specs.Clients.{is_another}
 use Rattle.ufs_owner.specs.Owners.{Owners, waiting_at, with_waiting}
 use Rattle.ufs_home.specs.Home.{HomeState, home_of}

@@ -1,5 +1,4 @@
-use Rattle.std.proofs.Common.{inl, inr, sym, ◌∙◌}
-use Rattle.ufs_home.specs.Letters.{Mailed, letter_of}
+use Rattle.std.proofs.Common.{sym, ◌∙◌}
 use Rattle.ufs_home.proofs.Posting.{parcel_is, recall_is}
 use Rattle.ufs_home.proofs.leaving.Leaving.of_letter.Goals as goal
 

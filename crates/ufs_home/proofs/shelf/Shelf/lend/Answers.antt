@@ -1,4 +1,4 @@
-use Rattle.std.proofs.Common.{ℕ, None, Some, ap, sym, subst, ◌∙◌}
+use Rattle.std.proofs.Common.{ℕ, None, Some, ap, sym, ◌∙◌}
 use Rattle.std.specs.FinMap as fin
 use Rattle.ufs_joint.specs.Cells.{FileCell}
 use Rattle.ufs_home.specs.Places.{Places}

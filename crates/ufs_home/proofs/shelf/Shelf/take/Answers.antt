@@ -1,8 +1,8 @@
-use Rattle.std.proofs.Common.{None, Some, ap, is_some, refl, sym, subst, ◌∙◌}
+use Rattle.std.proofs.Common.{None, ap, is_some, refl, sym, subst, ◌∙◌}
 use Rattle.std.specs.FinMap as fin
 use Rattle.std.specs.Prelude.{IsSome}
 use Rattle.ufs_home.specs.Places.{AreNumbered, in_place}
-use Rattle.ufs_home.proofs.Shelves.{numbered_emptied, place_of_here, seen_in, told, unchanged, written}
+use Rattle.ufs_home.proofs.Shelves.{numbered_emptied, place_of_here, seen_in, told, written}
 use Rattle.ufs_home.proofs.shelf.Shelf.take.Goals as goal
 
 pub empty_place-requires : goal.empty_place-requires
