@@ -1,0 +1,239 @@
+-- What is known of a session that has ended.
+use Rattle.std.proofs.Common.{◌≡◌, ◌⊎◌, inl, inr, ℕ, ◌+◌, ◌≤◌, Bool, true, length, List, [], map, take, Option, None, is_some, ap, sym, refl, ◌∙◌, subst, arith}
+use Rattle.std.specs.Prelude.{IsSome, IsTrue, unwrap_or}
+use native.Mathlib.Decide.{dec_le}
+use Rattle.std.specs.Cmp.{nat_cmp_total}
+use Rattle.std.specs.FinMap as fin
+use Rattle.std.specs.FinMap.{contains_key-keys}
+use Rattle.std.specs.FinSet as set
+use Rattle.std.specs.FinSet.{contains-from_list}
+use Rattle.ufs_bitmap.specs.Blocks.{BlockSet}
+use Rattle.ufs_bitmap.specs.Taking.{has}
+use Rattle.ufs_client.specs.Played.{transcript}
+use Rattle.ufs_client.proofs.Lists.{get_past, rising_from}
+use Rattle.ufs_disk.specs.Disk.{IsWhole as IsDiskWhole, Leaves, State}
+use Rattle.ufs_last.specs.Last.{StandsForTree}
+use Rattle.ufs_last.specs.Laws.{AllIsLast}
+use Rattle.ufs_ledger.specs.Kept.{Counts}
+use Rattle.ufs_model.specs.History.{IsComplete, IsInOrder, entries_of, requests_of, tree_after}
+use Rattle.ufs_model.specs.PosixTree.{PosixTree}
+use Rattle.ufs_model.specs.declared.data.Entry.{Entry}
+use Rattle.ufs_model.specs.declared.data.Op.{Op}
+use Rattle.ufs_names.specs.NamesPart.{NamesPart}
+use Rattle.ufs_on_disk.specs.Requests.{with_free}
+use Rattle.ufs_prefix.specs.Changes.{changes_of, name_changes}
+use Rattle.ufs_sound.specs.DiskBytes.{state_of}
+use Rattle.ufs_sound.specs.Owned.{Has}
+use Rattle.ufs_sound.specs.Parts.{Cells}
+use Rattle.ufs_sound.proofs.Ending.{mine_has}
+use Rattle.ufs_store.specs.State.{StoreState}
+use Rattle.ufs_store_steps.specs.Cells.{cells_of}
+use Rattle.ufs_store_steps.proofs.Cells.{whole_cells}
+use Rattle.ufs_stored.specs.AlwaysLaws.{RestIsExplained}
+use Rattle.ufs_stored.specs.Known.{IsKeptGoing}
+use Rattle.ufs_stored.specs.OnDisk.{HasAll, HasFiles, IsExplainedImage}
+use Rattle.ufs_synced.specs.Laws.{AllAreThere}
+use Rattle.ufs_joint.specs.Cells.{FileCell, NamesCell, Start, StoreCell, View, store_of}
+use Rattle.ufs_joint.specs.Disks.{cell_of, states_behind}
+use Rattle.ufs_joint.specs.Ends.{IsAlwaysExplained, IsWhole}
+use Rattle.ufs_joint.specs.Known.{Knows, KnowsDisk}
+use Rattle.ufs_joint.specs.NamesTurns.{live_files}
+use Rattle.ufs_joint.specs.Rule.{KnowsAll, at_tickets}
+use Rattle.ufs_joint.specs.Sound.{IsExplainedState}
+use Rattle.ufs_joint.specs.Turns.{begun_at, turn_begun}
+use Rattle.ufs_joint.proofs.Kept.{kept_going}
+use Rattle.ufs_joint.proofs.Takes.{fewer_before, fewer_names_before}
+use Rattle.ufs_turns.specs.HeldStore.{IsPassed, IsStoreIn, begun_in, begun_view, counted_in}
+use Rattle.ufs_gathered.specs.Ended.{AnswerAll, AnswerFirst, AreAllKnown, HasEnded, IsExplainedAtStamps}
+use Rattle.ufs_gathered.specs.Gathered.{AreHome, HasAllOf}
+use Rattle.ufs_gathered.proofs.Histories.{each_rises, its_own, none_there, same_history}
+use Rattle.ufs_gathered.proofs.Homes.{here_at, one_of}
+use Rattle.ufs_gathered.proofs.Joined.{in_numbered, numbered_in}
+
+live_is : (n : NamesPart) (file : ℕ) → set.contains (live_files n) file ≡ is_some (fin.get n.held file)
+live_is n file = contains-from_list nat_cmp_total (fin.keys n.held) file ∙ sym (contains_key-keys n.held file)
+
+module _ (k : Start) (visible keeps : Bool) (names : NamesCell) (files : List FileCell) (pools clients : List View) (v : View) (s : StoreState) (all : HasAllOf names files pools clients v) (home : IsStoreIn k visible keeps v s)
+    (n : ℕ) (knows : Knows k n v) (m : ℕ) (w : View) (begun : w ≡ begun_view v n) (known_all : KnowsAll k m w) (lists : List (List Entry)) (at_home : AreHome lists clients) where
+  -- the store's cell before the last turn, and in it
+  abbrev c : StoreCell
+  c = cell_of home.stamp home.past s
+
+  abbrev was : StoreCell
+  was = begun_at n (cell_of home.stamp home.past s)
+
+  abbrev u : View
+  u = turn_begun n (cell_of home.stamp home.past s) v
+
+  begun_is : w ≡ u
+  begun_is = begun ∙ ap (λ (cs : List (Unit {0} × StoreCell)). begun_in cs v n) home.has
+
+  whole : IsWhole k (at_tickets m) u was
+  whole = subst (KnowsAll k m) begun_is known_all was refl
+
+  has_store : Has (tt, c) v.store
+  has_store = subst (Has (tt, c)) (sym home.has) (inl refl)
+
+  has_names : Has (tt, names) v.names
+  has_names = subst (Has (tt, names)) (sym all.names_are) (inl refl)
+
+  has_file : (x : FileCell) → Has x files → Has (x.value.file.file, x) v.files
+  has_file x has = subst (Has (x.value.file.file, x)) (sym all.files_are) (in_numbered files x has)
+
+  -- ---- transcripts
+
+  entries_are : (client : ℕ) → entries_of client whole.history ≡ transcript lists client
+  entries_are client = by (dec_le (client + 1) (length lists))
+    where
+      by : Dec (client + 1 ≤ length lists) → entries_of client whole.history ≡ transcript lists client
+      by (yes low) =
+          let p = here_at 0 lists clients at_home client client (omega arith) (omega (arith, low)) in
+          sym (whole.transcripts client p.0 (subst (Has (client, p.0)) (sym all.clients_are) p.1)) ∙ p.2
+      by (no high) =
+          none_there (entries_of client whole.history) nobody
+          ∙ ap (λ (o : Option (List Entry)). unwrap_or o []) (sym (get_past lists client (omega (arith, high))))
+        where
+          nobody : (e : Entry) → Has e (entries_of client whole.history) → ⊥
+          nobody e has =
+              let from = whole.merged.from e (mine_has client e whole.history has) in
+              let its = one_of 0 lists clients at_home e.client from.0 (subst (Has (e.client, from.0)) all.clients_are from.1) in
+              let same = its_own client e whole.history has in
+              let low = its.1 in
+              high (omega (arith, low, same))
+
+  ordered : (scripts : List (List Op)) → AnswerFirst scripts lists → IsInOrder scripts whole.history
+  ordered scripts first = record {
+    numbers = whole.order;
+    requests = λ client. subst (λ (es : List Entry). map (λ e. e.op) es ≡ take (length es) (requests_of scripts client)) (sym (entries_are client)) (first client);
+  }
+
+  complete : (scripts : List (List Op)) → AnswerAll scripts lists → IsComplete scripts whole.history
+  complete scripts each client = ap (λ (es : List Entry). length es) (entries_are client) ∙ each client
+
+  -- ---- the disk
+
+  module _ (rest : RestIsExplained k.geometry) (disk_whole : IsTrue visible → IsDiskWhole s.sectors s.moments.state) (seen : k.is_visible ≡ true) where
+    abbrev e : IsAlwaysExplained whole.start (at_tickets m) whole.history was
+    e = whole.explained seen
+
+    state_is : state_of (cells_of s.sectors s.moments.state) ≡ s.moments.state
+    state_is = whole_cells s.sectors s.moments.state (disk_whole (home.sees seen).0)
+
+    crash : Leaves (IsExplainedImage s.sectors whole.start whole.history) s.moments.state
+    crash = subst (λ (x : State). Leaves (IsExplainedImage s.sectors whole.start whole.history) x) state_is
+        (rest true (with_free whole.free (store_of was)) whole.start whole.history whole.parts home.formed (whole.on_disk seen)).after
+
+    drawn_since : n ≤ m
+    drawn_since =
+        let a : n ≤ e.upto = e.stamped in
+        let b : e.upto ≤ m = e.within in
+        omega (arith, a, b)
+
+    stamped : (state : Cells) → Has state (states_behind (counted_in k.view.store) s) → IsExplainedAtStamps s.sectors whole.start whole.history state
+    stamped state there = by (home.covers seen state there)
+      where
+        by : (state ≡ cells_of s.sectors s.moments.state) ⊎ IsPassed state home.past → IsExplainedAtStamps s.sectors whole.start whole.history state
+        by (inl is) = record {
+          from = n;
+          to = m;
+          rises = drawn_since;
+          each = λ i low high. subst (λ (x : Cells). IsExplainedState s.sectors whole.start (take i whole.history) x) (sym is) (e.now i low high);
+        }
+        by (inr p) = record {
+          from = p.0.from;
+          to = p.0.to;
+          rises = each_rises was.past e.upto e.joined p.0 (inr p.1);
+          each = λ i low high. e.past p.0 (inr p.1) i low high state p.2;
+        }
+
+    -- the history of which it is known what is committed is the whole one
+    same : knows.history ≡ whole.history
+    same = same_history whole.start knows.start whole.history knows.history whole.legal.entries knows.around.legal.entries few each
+      where
+        few : length knows.history ≤ length whole.history
+        few = let a = knows.around.so_many in let b : length whole.history ≡ m = whole.all_drawn in let d = drawn_since in omega (arith, a, b, d)
+
+        each : (x : Entry) → Has x whole.history → Has x knows.history
+        each x there =
+            let from = whole.merged.from x there in
+            mine_has x.client x knows.history (subst (Has x) (knows.around.entries x.client from.0 from.1) from.2)
+
+    module _ (going : s.stop ≡ None) (committed : AreAllKnown names files) (there : AllAreThere k.geometry) (is_last : AllIsLast k.geometry) where
+      abbrev d : KnowsDisk k v knows.history c
+      d = knows.disk seen tt c has_store
+
+      kept : IsKeptGoing (store_of c) k.tree knows.history d.parts d.known
+      kept = kept_going (store_of c) k.tree knows.history d.parts d.known going d.kept
+
+      abbrev counts : Counts
+      counts = kept.going.counts
+
+      held_is : d.parts.names ≡ names.value
+      held_is = (d.cells.names tt names has_names).names
+
+      live_known : (file : ℕ) → IsSome (fin.get d.parts.names.held file) → d.known.born file ≡ true
+      live_known file live =
+          d.knows.named file tt names has_names
+          (ap (λ (x : BlockSet). set.contains x file) committed.named ∙ live_is names.value file ∙ subst (λ (x : NamesPart). is_some (fin.get x.held file) ≡ true) held_is live)
+
+      names_done : length (name_changes k.tree knows.history) ≤ counts.names
+      names_done =
+          let told = d.knows.names_told tt names has_names in
+          let later = fewer_names_before k.tree knows.history names.changed names.known committed.names_known in
+          let known = d.knows.names tt names has_names in
+          let covered = kept.covers.names in
+          omega (arith, told, later, known, covered)
+
+      file_done : (file : ℕ) (x : FileCell) → Has (file, x) v.files → length (changes_of file k.tree knows.history) ≤ counts.files file
+      file_done file x has =
+          let one = numbered_in files file x (subst (Has (file, x)) all.files_are has) in
+          let told = d.knows.files_told file x has in
+          let later = fewer_before file k.tree knows.history x.changed x.known (committed.files_known x one.1) in
+          let known = d.knows.files file x has in
+          let covered = kept.covers.files file in
+          omega (arith, told, later, known, covered)
+
+      has_done : (file : ℕ) → has (fin.keys d.parts.names.held) file ≡ is_some (fin.get d.parts.names.held file)
+      has_done file = live_is d.parts.names file
+
+      has_files : (held : (file : ℕ) → IsSome (fin.get names.value.held file) → (x : FileCell) × Has (file, x) v.files) → HasFiles (store_of c) k.tree knows.history d.parts (fin.keys d.parts.names.held)
+      has_files held = record {
+        names = record { going = kept.going; names = names_done; numbered = λ file live. kept.numbered file (live_known file live) live };
+        files = λ file done.
+            let live : IsSome (fin.get d.parts.names.held file) = sym (has_done file) ∙ done in
+            let x = held file (subst (λ (y : NamesPart). is_some (fin.get y.held file) ≡ true) held_is live) in
+            file_done file x.0 x.1;
+      }
+
+      last : ((file : ℕ) → IsSome (fin.get names.value.held file) → (x : FileCell) × Has (file, x) v.files) → Leaves (StandsForTree s.sectors (tree_after whole.start whole.history)) s.moments.state
+      last held =
+          let everything : HasAll (store_of c) k.tree knows.history d.parts =
+          there (store_of c) k.tree knows.history d.parts (fin.keys d.parts.names.held) home.formed (λ file live. has_done file ∙ live) (has_files held) in
+          let stands = is_last (store_of c) k.tree knows.history d.parts home.formed everything in
+          let from : k.tree ≡ whole.start = sym (whole.begun.seen seen) in
+          subst (λ (x : State × (PosixTree × List Entry)). Leaves (StandsForTree s.sectors (tree_after x.1.0 x.1.1)) x.0) (λ i. (state_is i, (from i, same i))) stands
+
+  -- ---- the whole
+
+  pub has_ended : ((file : ℕ) → IsSome (fin.get names.value.held file) → (x : FileCell) × Has (file, x) v.files) → RestIsExplained k.geometry → AllAreThere k.geometry → AllIsLast k.geometry
+      → (IsTrue visible → IsDiskWhole s.sectors s.moments.state) → HasEnded k m lists names files s
+  has_ended held rest there is_last disk_whole = record {
+    start = whole.start;
+    picks = whole.picks;
+    begun = whole.begun;
+    history = whole.history;
+    drawn = whole.all_drawn;
+    legal = whole.legal;
+    merged = record { rising = rising_from 0 whole.start whole.history whole.legal.entries; each = entries_are };
+    ordered = ordered;
+    complete = complete;
+    faults = λ fault told. let f = whole.faults fault told in record { later = f.later; counted = f.answered; below = f.below };
+    stopped = whole.stopped;
+    parts = whole.parts;
+    are = whole.are;
+    has_names = whole.cells.names tt names has_names;
+    has_files = λ x of. whole.cells.files x.value.file.file x (has_file x of);
+    crash = λ seen. crash rest disk_whole seen;
+    stamped = λ seen. stamped rest disk_whole seen;
+    last = λ seen going committed. last rest disk_whole seen going committed there is_last held;
+  }

@@ -1,0 +1,5 @@
+mod Joined
+mod Homes
+mod Histories
+mod AllThere
+mod AtEnd

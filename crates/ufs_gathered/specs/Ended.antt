@@ -1,0 +1,86 @@
+-- What is known of a session on hands that has ended.
+use Rattle.std.specs.Prelude.{ℕ, ◌≡◌, ◌≤◌, ◌<◌, ◌-◌, ◌^◌, true, List, length, map, take, Some, None}
+use Rattle.ufs_client.specs.Played.{IsMerged, transcript}
+use Rattle.ufs_disk.specs.Disk.{Leaves}
+use Rattle.ufs_last.specs.Last.{StandsForTree}
+use Rattle.ufs_model.specs.History.{IsComplete, IsInOrder, IsLegal, requests_of, tree_after}
+use Rattle.ufs_model.specs.PosixTree.{PosixTree}
+use Rattle.ufs_model.specs.declared.data.Entry.{Entry}
+use Rattle.ufs_model.specs.declared.data.Excuse.TheVariants as excuse
+use Rattle.ufs_model.specs.declared.data.Op.{Op}
+use Rattle.ufs_model.specs.declared.data.Reply.TheVariants as reply
+use Rattle.ufs_sound.specs.FaultsOnce.{told}
+use Rattle.ufs_sound.specs.Owned.{Has}
+use Rattle.ufs_sound.specs.Parts.{Cells}
+use Rattle.ufs_store.specs.State.{StoreState}
+use Rattle.ufs_stored.specs.OnDisk.{IsExplainedImage}
+use Rattle.ufs_stored.specs.Parts.{Parts}
+use Rattle.ufs_stored.specs.Stored.{ArePartsOf}
+use Rattle.ufs_joint.specs.Cells.{FileCell, NamesCell, Start}
+use Rattle.ufs_joint.specs.Disks.{states_behind}
+use Rattle.ufs_joint.specs.Faults.{faults_in}
+use Rattle.ufs_joint.specs.NamesTurns.{live_files}
+use Rattle.ufs_joint.specs.Picks.{Pick}
+use Rattle.ufs_joint.specs.Sound.{IsExplainedState, MayHaveBegun}
+use Rattle.ufs_joint.specs.Whole.{HasFileCell, HasNamesCell}
+use Rattle.ufs_turns.specs.HeldStore.{counted_in}
+
+-- ---- scripts
+
+-- Each client's transcript answers the first requests of its script,
+abbrev pub AnswerFirst : List (List Op) → List (List Entry) → Type 0
+AnswerFirst scripts lists = (client : ℕ) → map (λ e. e.op) (transcript lists client) ≡ take (length (transcript lists client)) (requests_of scripts client)
+
+-- or all of them.
+abbrev pub AnswerAll : List (List Op) → List (List Entry) → Type 0
+AnswerAll scripts lists = (client : ℕ) → length (transcript lists client) ≡ length (requests_of scripts client)
+
+-- ---- the disk
+
+-- A fault of the device since its count was that, by this count. The last number of the count is no fault's.
+pub record IsFaultSince (before now fault : ℕ) : Type 0 where
+  pub later : before < fault
+  pub counted : fault ≤ now
+  pub below : fault < 2 ^ 64 - 1
+
+-- Whatever a crash leaves of a disk in this state is explained by the first entries, for each number of them from one stamp to another,
+-- and is proper.
+pub record IsExplainedAtStamps (sectors : ℕ) (start : PosixTree) (history : List Entry) (state : Cells) : Type 0 where
+  pub from : ℕ
+  pub to : ℕ
+  pub rises : from ≤ to
+  pub each : (i : ℕ) → from ≤ i → i ≤ to → IsExplainedState sectors start (take i history) state
+
+-- All that changed of names and files is known as committed, and so is the birth of each live file.
+pub record AreAllKnown (names : NamesCell) (files : List FileCell) : Type 0 where
+  pub names_known : names.changed ≤ names.known
+  pub named : names.named ≡ live_files names.value
+  pub files_known : (c : FileCell) → Has c files → c.changed ≤ c.known
+
+-- ---- the whole
+
+-- The transcripts are those of one history, with all tickets, in which a tree with which the session may have begun gives each reply, or
+-- the reply is an excuse that fits and leaves the tree; each client's requests are in its order. Names and files are those of the tree
+-- to which it leads. A fault that excuses an entry is one of the session, and whoever is told that the store stopped is told where.
+pub record HasEnded (k : Start) (tickets : ℕ) (lists : List (List Entry)) (names : NamesCell) (files : List FileCell) (s : StoreState) : Type 0 where
+  pub start : PosixTree
+  pub picks : List Pick
+  pub begun : MayHaveBegun k picks start
+  pub history : List Entry
+  pub drawn : length history ≡ tickets
+  pub legal : IsLegal start history
+  pub merged : IsMerged lists history
+  pub ordered : (scripts : List (List Op)) → AnswerFirst scripts lists → IsInOrder scripts history
+  pub complete : (scripts : List (List Op)) → AnswerAll scripts lists → IsComplete scripts history
+  pub faults : (fault : ℕ) → 1 ≤ told fault history → IsFaultSince (faults_in k.view.store) s.faults fault
+  pub stopped : (e : Entry) (fault : ℕ) → Has e history → e.reply ≡ reply.Excused (excuse.Stopped fault) → s.stop ≡ Some fault
+  pub parts : Parts
+  pub are : ArePartsOf parts (tree_after start history)
+  pub has_names : HasNamesCell parts names
+  pub has_files : (c : FileCell) → Has c files → HasFileCell parts c.value.file.file c
+  -- over a visible disk: what a crash leaves now is explained by the whole history, and proper;
+  pub crash : k.is_visible ≡ true → Leaves (IsExplainedImage s.sectors start history) s.moments.state
+  -- so it is with each state that the disk was in since the session began, by the first entries;
+  pub stamped : k.is_visible ≡ true → (state : Cells) → Has state (states_behind (counted_in k.view.store) s) → IsExplainedAtStamps s.sectors start history state
+  -- and once everything is committed, and the store goes on, it stands for the last tree.
+  pub last : k.is_visible ≡ true → s.stop ≡ None → AreAllKnown names files → Leaves (StandsForTree s.sectors (tree_after start history)) s.moments.state

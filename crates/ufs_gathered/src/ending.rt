@@ -1,0 +1,46 @@
+// A session on hands ends.
+ghost use Rattle.std.specs.Prelude.{List};
+ghost use Rattle.std.specs.List.{AllByRecursion};
+ghost use Rattle.ufs_gathered.specs.Ended.{HasEnded};
+ghost use Rattle.ufs_gathered.specs.Gathered.{AreAllBack, AreHome, HasPoolsAlone};
+ghost use Rattle.ufs_model.specs.declared.data.Entry.{Entry};
+ghost use Rattle.ufs_turns.specs.HeldStore.{IsHeldStore};
+
+use crate::gathering::{Actors, Gathered, gather};
+use std::marker::Brand;
+use std::sync::ledger::Ledger;
+use ufs_joint::{HandTable, Naming};
+use ufs_last::last_law;
+use ufs_store::Door;
+use ufs_stored::always_law;
+use ufs_synced::all_law;
+
+/// A session that has ended, and the store that it ran over.
+pub struct Ended<S: Door> {
+    /// How many entries it has.
+    pub tickets: u64,
+    pub store: S,
+}
+
+/// Ends a session whose actors are all done: their rights come to one hand, which is closed. No call of the disk is made, and no memory
+/// is taken, so nothing can fail.
+///
+/// The transcripts that the clients' hands have are those of one history, of which the disk keeps its promise. Once names and files are
+/// committed, and the store goes on, whatever a crash leaves stands for the last tree.
+pub fn end<N: Naming, S: Door, L: Ledger>(table: HandTable<N>, actors: Actors<N, S, L>) -> Ended<S>
+    requires home { (lists : List (List Entry)) × AreHome lists actors.clients.items }
+    requires pools { AllByRecursion HasPoolsAlone actors.pools.items }
+    requires back { AreAllBack N.start actors.names actors.files.items actors.pools.items actors.clients.items }
+    ensures ended { (lists : List (List Entry)) → AreHome lists actors.clients.items → HasEnded N.start result.tickets lists actors.names actors.files.items (S.store result.store) }
+    ensures store { IsHeldStore N.start S.visible S.keeps actors.store (S.store result.store) }
+{
+    let Gathered { mut hand, store } = gather(&table, actors);
+    let geometry = store.geometry();
+    always_law(&geometry);
+    all_law(&geometry);
+    last_law(&geometry);
+    // What is known as committed is told of a history with all tickets.
+    hand.mark::<Brand>(&table, &geometry);
+    let tickets = hand.close(table, &geometry);
+    Ended { tickets, store }
+}

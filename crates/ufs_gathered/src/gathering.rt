@@ -1,0 +1,80 @@
+// The rights of all actors come to one hand.
+ghost use Rattle.std.specs.Prelude.{◌≡◌, List};
+ghost use Rattle.std.specs.List.{AllByRecursion};
+ghost use Rattle.ufs_gathered.specs.Gathered.{AreHome, HasAllOf, HasPoolsAlone, with_all};
+ghost use Rattle.ufs_held.specs.Together.{HasThemToo};
+ghost use Rattle.ufs_model.specs.declared.data.Entry.{Entry};
+ghost use Rattle.ufs_turns.specs.HeldStore.{IsHeldStore, IsStoreIn};
+
+use std::sync::ledger::Ledger;
+use ufs_held::HeldFile;
+use ufs_held_names::HeldNames;
+use ufs_joint::{Hand, HandTable, Naming};
+use ufs_store::Door;
+use ufs_turns::HeldStore;
+
+/// What the actors of a session have, once each of them is done.
+pub struct Actors<N: Naming, S: Door, L: Ledger> {
+    pub names: HeldNames<N>,
+    pub files: Vec<HeldFile<N>>,
+    pub store: HeldStore<N, S, L>,
+    /// The rights to the servers' pools.
+    pub pools: Vec<Hand<N>>,
+    /// The clients' hands, that of client 0 first.
+    pub clients: Vec<Hand<N>>,
+}
+
+// The hand of all of it, and the store.
+pub(crate) struct Gathered<N: Naming, S: Door> {
+    pub hand: Hand<N>,
+    pub store: S,
+}
+
+/// These hands come to this one, one after the other.
+pub fn gather_hands<N: Naming>(table: &HandTable<N>, hand: &mut Hand<N>, hands: Vec<Hand<N>>)
+    ensures { hand.new ≡ with_all hand.old hands.items }
+{
+    for other in hands {
+        hand.join(table, other);
+    }
+}
+
+/// The rights to the cells of these files come to the hand. The files themselves are let go.
+pub fn gather_files<N: Naming>(table: &HandTable<N>, hand: &mut Hand<N>, files: Vec<HeldFile<N>>)
+    ensures { HasThemToo files.items hand.old hand.new }
+{
+    for file in files {
+        let (value, commits, right) = file.into_parts();
+        drop(value);
+        drop(commits);
+        hand.join(table, right);
+    }
+}
+
+// All rights come to that of the names.
+pub(crate) fn gather<N: Naming, S: Door, L: Ledger>(
+    table: &HandTable<N>,
+    actors: Actors<N, S, L>,
+) -> Gathered<N, S>
+    requires home { (lists : List (List Entry)) × AreHome lists actors.clients.items }
+    requires pools { AllByRecursion HasPoolsAlone actors.pools.items }
+    ensures all { HasAllOf actors.names actors.files.items actors.pools.items actors.clients.items result.hand }
+    ensures store { IsStoreIn N.start S.visible S.keeps result.hand (S.store result.store) }
+    ensures its { IsHeldStore N.start S.visible S.keeps actors.store (S.store result.store) }
+{
+    let Actors {
+        names,
+        files,
+        store,
+        pools,
+        clients,
+    } = actors;
+    let (noted, mut hand) = names.into_parts();
+    drop(noted);
+    let (own, store) = store.into_parts();
+    hand.join(table, own);
+    gather_files(table, &mut hand, files);
+    gather_hands(table, &mut hand, pools);
+    gather_hands(table, &mut hand, clients);
+    Gathered { hand, store }
+}

@@ -1,0 +1,8 @@
+//! The end of a session on hands: the rights to all cells come to one hand, and that is closed.
+#![tactic(auto)]
+
+mod ending;
+mod gathering;
+
+pub use ending::{Ended, end};
+pub use gathering::{Actors, gather_files, gather_hands};
