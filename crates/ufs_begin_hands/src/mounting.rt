@@ -19,8 +19,11 @@ ghost use Rattle.ufs_recovery.specs.Recovered.{IsCleanDisk};
 ghost use Rattle.ufs_start.specs.Begun.{IsBegun};
 ghost use Rattle.ufs_start.specs.Refused.{HasStartCause};
 ghost use Rattle.ufs_start.specs.declared.fault.StartFault.TheVariants as start_fault;
+ghost use Rattle.ufs_base.specs.declared.lack.Lack.{Lack};
+ghost use Rattle.ufs_store.specs.Ends.{IsMemory};
 ghost use Rattle.ufs_store.specs.Refusals.{IsTold};
 ghost use Rattle.ufs_store.specs.Refusals as refusals;
+ghost use Rattle.ufs_store.specs.declared.fault.StoreFault.TheVariants as store_fault;
 ghost use Rattle.ufs_stored.specs.OnDisk.{IsExplainedBetween, IsOnDisk};
 
 use crate::opening::{open_over, parts_before};
@@ -120,7 +123,8 @@ pub fn mount<D: Disk>(
 
 // A refusal of a mount, as one of an image.
 fn fault_of(fault: StoreFault) -> RecoverFault
-    requires { IsTrue (refusals.is_own fault) }
+    requires own { IsTrue (refusals.is_own fault) }
+    requires lack { (w : Lack) → fault ≡ store_fault.Lack w → IsMemory w }
     ensures cause { (before now : ℕ) → IsTold before now (refusals.fault_of fault) → HasFaultCause before now result }
     ensures outside { IsOutside result }
 {

@@ -15,7 +15,7 @@ why_outside given (BadGeometry number) is = absurd is
 why_outside given (BadRecord sector) is = absurd is
 why_outside given (BadTree inode) is = absurd is
 why_outside given (Device fault) is = tt
-why_outside given (Lack _) is = tt
+why_outside given (Lack why) is = is
 
 -- What isn't given for a reason, and what isn't given then for the same reason.
 pub why_then : {X Y : Type 0} (given : Result X Refusal) (other : Result Y Refusal) → ((r : Refusal) → given ≡ Err r → other ≡ Err r) → (f : RecoverFault) → IsWhyNot given f → IsWhyNot other f
@@ -25,7 +25,7 @@ why_then given other leads (BadGeometry number) is = leads (image.BadGeometry nu
 why_then given other leads (BadRecord sector) is = leads (image.BadRecord sector) is
 why_then given other leads (BadTree inode) is = leads (image.BadTree inode) is
 why_then given other leads (Device fault) is = tt
-why_then given other leads (Lack _) is = tt
+why_then given other leads (Lack why) is = is
 
 pub outside_blames : (f : RecoverFault) → IsOutside f → BlamesNone f
 outside_blames NoSuperblock is = tt

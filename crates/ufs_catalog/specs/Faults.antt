@@ -3,6 +3,7 @@ use Rattle.std.specs.Prelude.{◌≡◌, ℕ, Option, Some, Result, Err}
 use Rattle.ufs_base.specs.Faults.{RoseTo}
 use Rattle.ufs_image.specs.Volume.{Refusal}
 use Rattle.ufs_image.specs.Volume as image
+use Rattle.ufs_catalog.specs.Lacks.{IsOfNumbers}
 use Rattle.ufs_catalog.specs.declared.fault.RecoverFault.{RecoverFault}
 use Rattle.ufs_catalog.specs.declared.fault.RecoverFault.TheVariants.{NoSuperblock, BadVersion, BadGeometry, BadRecord, BadTree, Device, Lack}
 
@@ -16,10 +17,10 @@ HasFaultCause before now (BadTree inode) = now ≡ before
 HasFaultCause before now (Device fault) = RoseTo before now fault
 HasFaultCause before now (Lack _) = now ≡ before
 
--- It is no cause that the image has.
+-- It is no cause that the image has: a call of the disk failed, or memory or a number is wanting.
 abbrev pub IsOutside : RecoverFault → Type 0
 IsOutside (Device fault) = Unit {0}
-IsOutside (Lack _) = Unit {0}
+IsOutside (Lack why) = IsOfNumbers why
 IsOutside _ = ⊥
 
 -- The refusal is the one that is found; a fault that comes from outside says nothing of the image.
@@ -30,7 +31,7 @@ IsRefusal found (BadGeometry number) = found ≡ Some (image.BadGeometry number)
 IsRefusal found (BadRecord sector) = found ≡ Some (image.BadRecord sector)
 IsRefusal found (BadTree inode) = found ≡ Some (image.BadTree inode)
 IsRefusal found (Device fault) = Unit {0}
-IsRefusal found (Lack _) = Unit {0}
+IsRefusal found (Lack why) = IsOfNumbers why
 
 -- The same of what an image gives, or of why it gives nothing.
 abbrev pub IsWhyNot : {X : Type 0} → Result X Refusal → RecoverFault → Type 0
@@ -40,7 +41,7 @@ IsWhyNot given (BadGeometry number) = given ≡ Err (image.BadGeometry number)
 IsWhyNot given (BadRecord sector) = given ≡ Err (image.BadRecord sector)
 IsWhyNot given (BadTree inode) = given ≡ Err (image.BadTree inode)
 IsWhyNot given (Device fault) = Unit {0}
-IsWhyNot given (Lack _) = Unit {0}
+IsWhyNot given (Lack why) = IsOfNumbers why
 
 -- It blames no inode.
 abbrev pub BlamesNone : RecoverFault → Type 0

@@ -1,3 +1,4 @@
+pub mod Lacks
 pub mod Faults
 pub mod Reading
 pub mod Told

@@ -1,3 +1,4 @@
+pub mod Lacks
 mod Starts
 mod Read
 mod Freed

@@ -115,7 +115,7 @@ outside_why sectors image (BadGeometry number) is = absurd is
 outside_why sectors image (BadRecord sector) is = absurd is
 outside_why sectors image (BadTree inode) is = absurd is
 outside_why sectors image (Device fault) is = tt
-outside_why sectors image (Lack _) is = tt
+outside_why sectors image (Lack why) is = is
 
 pub outside_session : (sectors : ℕ) (image : images.Image) (u : StartFault) → (fault : RecoverFault) × (u ≡ Image fault) × IsOutside fault → TellsNoSession sectors image u
 outside_session sectors image u why = subst (TellsNoSession sectors image) (sym why.1) (outside_why sectors image why.0 why.2)

@@ -1,6 +1,7 @@
 -- How a session's closing ends.
-use Rattle.std.specs.Prelude.{ℕ, Option, Some, None, Result, Ok, Err}
+use Rattle.std.specs.Prelude.{ℕ, Bool, true, false, Option, Some, None, Result, Ok, Err}
 use Rattle.ufs_base.specs.Images.{Image}
+use Rattle.ufs_base.specs.declared.lack.Lack.TheVariants as lack
 use Rattle.ufs_engine.specs.declared.closing.CloseFault.{CloseFault}
 use Rattle.ufs_engine.specs.declared.closing.CloseFault.TheVariants.{Device, Stopped, Lack}
 use Rattle.ufs_disk.specs.Disk.{IsImage, State}
@@ -21,6 +22,11 @@ abbrev pub stopped_at : CloseFault → Option ℕ
 stopped_at (Device fault) = None
 stopped_at (Stopped fault) = Some fault
 stopped_at (Lack _) = None
+
+-- It tells that the disk gave back other bytes than it was given.
+abbrev pub tells_unsound : CloseFault → Bool
+tells_unsound (Lack lack.Unsound) = true
+tells_unsound _ = false
 
 -- The image opens as one does that a crash might have left before, and is proper where that one is.
 pub record OpensAsLeft (sectors : ℕ) (before : State) (image : Image) : Type 0 where

@@ -16,8 +16,11 @@ ghost use Rattle.ufs_base.specs.Images.{Image};
 ghost use Rattle.ufs_start.specs.Begun.{IsBegun};
 ghost use Rattle.ufs_start.specs.Refused.{HasStartCause};
 ghost use Rattle.ufs_start.specs.declared.fault.StartFault.TheVariants as start;
+ghost use Rattle.ufs_base.specs.declared.lack.Lack.{Lack};
+ghost use Rattle.ufs_store.specs.Ends.{IsMemory};
 ghost use Rattle.ufs_store.specs.Refusals.{IsTold};
 ghost use Rattle.ufs_store.specs.Refusals as refusals;
+ghost use Rattle.ufs_store.specs.declared.fault.StoreFault.TheVariants as store_fault;
 ghost use Rattle.ufs_store.specs.State.{geometry_of_store};
 ghost use Rattle.ufs_store_steps.specs.Cells.{cells_of};
 ghost use Rattle.ufs_stored.specs.OnDisk.{IsExplainedBetween, IsOnDisk};
@@ -168,7 +171,8 @@ fn seen_parts<D: Disk, P: Opening>(disk: &D, parts: Parts) -> Parts
 
 // A refusal of a mount, as one of an image.
 fn fault_of(fault: StoreFault) -> RecoverFault
-    requires { IsTrue (refusals.is_own fault) }
+    requires own { IsTrue (refusals.is_own fault) }
+    requires lack { (w : Lack) → fault ≡ store_fault.Lack w → IsMemory w }
     ensures cause { (before now : ℕ) → IsTold before now (refusals.fault_of fault) → HasFaultCause before now result }
     ensures outside { IsOutside result }
 {

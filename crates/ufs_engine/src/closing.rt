@@ -5,7 +5,7 @@ ghost use Rattle.ufs_catalog.specs.Faults.{HasFaultCause, IsOutside};
 ghost use Rattle.ufs_catalog.specs.declared.fault.RecoverFault.TheVariants as recovery;
 ghost use Rattle.ufs_engine.specs.Numbers.{ClosesFrom};
 ghost use Rattle.ufs_image.specs.Volume.{superblock_of};
-ghost use Rattle.ufs_engine.specs.Closes.{OpensAsLeft, closing_fault, device_told_by, stopped_at};
+ghost use Rattle.ufs_engine.specs.Closes.{OpensAsLeft, closing_fault, device_told_by, stopped_at, tells_unsound};
 ghost use Rattle.ufs_engine.specs.declared.closing.CloseFault.TheVariants as cause;
 ghost use Rattle.ufs_disk.specs.Disk.{Leaves};
 ghost use Rattle.ufs_disk.specs.Moments.{LeavesOnly, reads};
@@ -66,6 +66,9 @@ pub fn close<D: Disk>(alloc: Global, server: DiskServer, store: Store<D>) -> Clo
     ensures stopped { (fault : ℕ) → (result.ended ≡ Err (cause.Stopped fault)) ↔ ((⟦<Store<D> as Door>⟧.store store).stop ≡ Some fault) }
     ensures numbers { IsTrue D.visible → OnOk result.ended ((start : PosixTree) (history : List Entry) → IsOnDisk (⟦<Store<D> as Door>⟧.store store) start history server
         → ClosesFrom (⟦<Store<D> as Door>⟧.store store) (reads (D.moments result.disk))) }
+    // what no image of a session has is no cause
+    ensures sound { IsTrue D.visible → (start : PosixTree) (history : List Entry) → IsOnDisk (⟦<Store<D> as Door>⟧.store store) start history server
+        → IfErr result.ended (λ fault. tells_unsound fault ≡ false) }
 {
     let geometry = store.geometry();
     on_disk_law(&geometry);
@@ -83,14 +86,15 @@ pub fn close<D: Disk>(alloc: Global, server: DiskServer, store: Store<D>) -> Clo
     Closed { disk, ended }
 }
 
-// Waits for what was written, and makes the image clean.
-fn clean<D: Disk>(alloc: Global, disk: &mut D) -> Result<(), CloseFault>
+/// Waits for what was written, and makes the image clean by a recovery. An image that opens goes on opening to its tree, at each moment.
+pub fn clean<D: Disk>(alloc: Global, disk: &mut D) -> Result<(), CloseFault>
     ensures tree { IsTrue D.visible → Leaves (IsProperImage (D.size disk.old)) (D.moments disk.old).state
         → LeavesOnly D.keeps (OpensAsLeft (D.size disk.old) (D.moments disk.old).state) (D.moments disk.old) (D.moments disk.new) }
     ensures clean { IsTrue D.visible → OnOk result (Leaves (IsProperImage (D.size disk.old)) (D.moments disk.old).state → IsCleanDisk (D.size disk.old) (D.moments disk.new).state) }
     ensures size { D.size disk.new ≡ D.size disk.old }
     ensures cause { IsTold (D.faults disk.old) (D.faults disk.new) (closing_fault result) }
     ensures going { IfErr result (λ fault. stopped_at fault ≡ None) }
+    ensures sound { IsTrue D.visible → Leaves (IsProperImage (D.size disk.old)) (D.moments disk.old).state → IfErr result (λ fault. tells_unsound fault ≡ false) }
     ensures recovered { IsTrue D.visible → OnOk result (Leaves (IsProperImage (D.size disk.old)) (D.moments disk.old).state → (superblock_of (reads (D.moments disk.old))).clean ≡ false
         → IsRecovered (reads (D.moments disk.old)) (reads (D.moments disk.new))) }
 {
@@ -110,7 +114,8 @@ fn unclean(fault: RecoverFault) -> CloseFault
     ensures cause { (before now : ℕ) → HasFaultCause before now fault → IsTold before now (device_told_by result) }
     ensures going { stopped_at result ≡ None }
     ensures lack { (w : Lack) → fault ≡ recovery.Lack w → result ≡ cause.Lack w }
-    ensures unsound { (IsOutside fault → ⊥) → result ≡ cause.Lack lack.Unsound }
+    ensures unsound { (IsOutside fault → ⊥) → ((w : Lack) → fault ≡ recovery.Lack w → ⊥) → result ≡ cause.Lack lack.Unsound }
+    ensures sound { IsOutside fault → tells_unsound result ≡ false }
 {
     match fault {
         RecoverFault::Device { fault } => CloseFault::Device { fault },
@@ -124,6 +129,7 @@ fn unclean(fault: RecoverFault) -> CloseFault
 fn fault_of(excuse: Excuse) -> CloseFault
     ensures device { device_told_by result ≡ device_of excuse }
     ensures stopped { stopped_at result ≡ stopped_of excuse }
+    ensures sound { tells_unsound result ≡ false }
     ensures lack { device_of excuse ≡ None → stopped_of excuse ≡ None → result ≡ cause.Lack lack.Told }
 {
     match excuse {

@@ -8,6 +8,6 @@ mod playing;
 mod starting;
 
 pub use beginning::{Begun, Unbegun, begin};
-pub use closing::{CloseFault, Closed, close};
+pub use closing::{CloseFault, Closed, clean, close};
 pub use laws::{beginning_law, mounted_law};
 pub use playing::{PlayFault, Played, play};

@@ -17,13 +17,14 @@ use Rattle.ufs_dir_tree.specs.Steps.{DirState, Born, Grown, Put, Freed, GoesBy, 
 use Rattle.ufs_dir_tree.specs.declared.found.Found.{Found}
 use Rattle.ufs_dir_tree.specs.declared.found.Found.TheVariants.{Dir, File}
 use Rattle.ufs_ilog.specs.Changes.{in_order}
-use Rattle.ufs_ilog.specs.Notes.{IsNotedBehind}
+use Rattle.ufs_base.specs.declared.lack.Lack.{Lack}
 use Rattle.ufs_name_tree.specs.NameTable.{NameTable, IsNameTable, file_at}
 use Rattle.ufs_name_tree.specs.Notes.{AreKindsOf, HasKinds, IsOfKind, IsStateOf, GoesByNotes}
 use Rattle.ufs_name_tree.specs.Records.{records_of, dir_delta, born_noted, slot_noted, grown_noted, cleared_noted, replaced_noted, added_noted}
 use Rattle.ufs_name_tree.proofs.Founds.{IsMetIn}
 use Rattle.ufs_name_tree.proofs.NoteEdits.{known_of, may_add, may_clear, may_free, may_move, swaps_of_add, swaps_of_clear, swaps_of_move, kinds_added, kinds_cleared, kinds_moved, renaming, NotBoth, goes_noted}
 use Rattle.ufs_name_tree.proofs.NoteFiles.{TouchesFiles, files_stay, file_goes, no_file_cleared, no_file_moved}
+use Rattle.ufs_name_tree.proofs.NoteLost.{TellsOrLoses}
 use Rattle.ufs_name_tree.proofs.NoteKinds.{kinds_gone, kinds_without}
 use Rattle.ufs_name_tree.proofs.NoteNames.{kinds_of_add, kinds_of_clear, kinds_of_move}
 use Rattle.ufs_name_tree.proofs.StepSwaps.{put_alike}
@@ -31,6 +32,10 @@ use Rattle.ufs_name_tree.proofs.StepSwaps.{put_alike}
 -- the same names with other notes
 pub renoted : (t : NameTable) (noted : Option (List LogRecord)) → IsNameTable t → IsNameTable (record t { noted = noted })
 renoted t noted is = record { table = is.table; counted = is.counted; named = is.named; used = is.used; no_dir = is.no_dir; bare = is.bare; once = is.once }
+
+-- and for want of what they were lost
+pub relost : (t : NameTable) (noted : Option (List LogRecord)) (lost : Option Lack) → IsNameTable t → IsNameTable (record t { noted = noted; lost = lost })
+relost t noted lost is = record { table = is.table; counted = is.counted; named = is.named; used = is.used; no_dir = is.no_dir; bare = is.bare; once = is.once }
 
 -- what isn't set is none
 pub unset : (xs : List (Option ℕ)) (i : ℕ) → get_or (set_at xs i None) i None ≡ None
@@ -101,7 +106,7 @@ module _ (t u : NameTable) (is : IsNameTable t) (pool after : BlockSet) where
     born_kind (Some b) d may = may.1.0.known
 
     pub add_noted : (g : Option ℕ) (d e : DentryForm) → e ≡ d → GoesBy t.dirs u.dirs pool after (growing dir g ++ adding dir slot d) → ((s : DirState) → IsStateOf t pool s → AreKindsOf u (with_kind d.inode d.kind s.kinds))
-        → TouchesFiles t u (growing dir g ++ adding dir slot d) → IsNotedBehind t.noted u.noted (in_order (added_noted u.dirs dir g slot e)) → GoesByNotes t u pool
+        → TouchesFiles t u (growing dir g ++ adding dir slot d) → TellsOrLoses t u (in_order (added_noted u.dirs dir g slot e)) → GoesByNotes t u pool
     add_noted g d e same goes kinds files noted =
         let known = known_of t.dirs above dir is.table met whole in
         goes_noted t u pool dir above met (growing dir g ++ adding dir slot d) (swaps_of_add dir slot g d) goes.table (may_add t.dirs pool dir g slot d known goes.may)
@@ -109,7 +114,7 @@ module _ (t u : NameTable) (is : IsNameTable t) (pool after : BlockSet) where
         (in_order (added_noted u.dirs dir g slot e)) (ap (λ (x : DentryForm). in_order (added_noted u.dirs dir g slot x)) same ∙ ap in_order (noted_add t.dirs u.dirs dir g slot d known.used.within goes.table)) noted
 
     pub remove_noted : (path : List (List ℕ)) (o e : Option Found) → e ≡ o → o ≡ found_at t.dirs path → GoesBy t.dirs u.dirs pool after (clearing dir slot o) → ((j : ℕ) → IsMetIn u.dirs (Dir j) → IsMetIn t.dirs (Dir j)) → u.files ≡ t.files
-        → ((f : Found) → found_at t.dirs path ≡ Some f → IsUnmet u.dirs (inode_of f)) → Frees t.dirs u.dirs pool after o → IsSome o → IsNotedBehind t.noted u.noted (in_order (cleared_noted slot e)) → GoesByNotes t u pool
+        → ((f : Found) → found_at t.dirs path ≡ Some f → IsUnmet u.dirs (inode_of f)) → Frees t.dirs u.dirs pool after o → IsSome o → TellsOrLoses t u (in_order (cleared_noted slot e)) → GoesByNotes t u pool
     remove_noted path o e same stood goes dirs files unmet frees stands noted =
         let known = known_of t.dirs above dir is.table met whole in
         goes_noted t u pool dir above met (clearing dir slot o) (swaps_of_clear dir slot o) goes.table (may_clear t.dirs pool dir slot o known goes.may)
@@ -121,7 +126,7 @@ module _ (t u : NameTable) (is : IsNameTable t) (pool after : BlockSet) where
     pub rename_noted : (path : List (List ℕ)) (dropped : Option Slot) (o e : Option Found) (g : Option ℕ) (d f : DentryForm) → d.inode < length t.dirs.dirs → (HasKinds t.dirs → IsOfKind d) → f ≡ d → e ≡ o → o ≡ found_at t.dirs path → ((slot : Slot) → dropped ≡ Some slot → g ≡ None) → (dropped ≡ None → o ≡ None)
         → GoesBy t.dirs u.dirs pool after (renaming from to left taken d dropped o g) → ((j : ℕ) → IsMetIn u.dirs (Dir j) → IsMetIn t.dirs (Dir j)) → u.files ≡ t.files
         → ((f : Found) → found_at t.dirs path ≡ Some f → IsUnmet u.dirs (inode_of f)) → (IsSome o → Frees t.dirs u.dirs pool after o) → (o ≡ None → u.dirs.free ≡ t.dirs.free)
-        → IsNotedBehind t.noted u.noted (in_order (replaced_noted dropped e ++ grown_noted u.dirs to g ++ slot_noted left free_slot ∷ slot_noted taken f ∷ [])) → GoesByNotes t u pool
+        → TellsOrLoses t u (in_order (replaced_noted dropped e ++ grown_noted u.dirs to g ++ slot_noted left free_slot ∷ slot_noted taken f ∷ [])) → GoesByNotes t u pool
     rename_noted path dropped o e g d f inode kind same found stood not_both none goes dirs files unmet frees free noted =
         let known_from = known_of t.dirs source from is.table from_met from_whole in
         let known_to = known_of t.dirs target to is.table to_met to_whole in
@@ -134,7 +139,7 @@ module _ (t u : NameTable) (is : IsNameTable t) (pool after : BlockSet) where
 
   -- a file's inode, which takes no block of any pool
   pub free_noted : (i : ℕ) → IsSome (file_at t i) → GoesBy t.dirs u.dirs pool after (Freed i ∷ []) → ((j : ℕ) → IsMetIn u.dirs (Dir j) → IsMetIn t.dirs (Dir j)) → u.dirs.free ≡ set.insert t.dirs.free i
-      → file_at u i ≡ None → ((j : ℕ) → j ≢ i → file_at u j ≡ file_at t j) → IsNotedBehind t.noted u.noted (Free i ∷ []) → GoesByNotes t u set.empty
+      → file_at u i ≡ None → ((j : ℕ) → j ≢ i → file_at u j ≡ file_at t j) → TellsOrLoses t u (Free i ∷ []) → GoesByNotes t u set.empty
   free_noted i numbered goes dirs free gone others noted =
       goes_noted t u set.empty 1 [] refl (Freed i ∷ []) (tt, tt) goes.table (may_free t.dirs set.empty 1 pool i goes.may)
       (λ s at. kinds_without t u s.kinds at.kinds dirs (λ j f has. numbered_before j f (cases_eq j i) has) i free (λ j met same. no_dir_of (file_at t i) numbered refl j met same) (λ j f has same. let no = sym has ∙ ap (file_at u) same ∙ gone in absurd cc))

@@ -11,6 +11,7 @@ pub mod StepSwaps
 pub mod NoteKinds
 pub mod NoteFiles
 pub mod NoteNames
+pub mod NoteLost
 pub mod NoteEdits
 pub mod NoteChains
 pub mod EditNotes

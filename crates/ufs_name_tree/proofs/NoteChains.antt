@@ -5,12 +5,14 @@ use Rattle.std.specs.Ordering.{nat_cmp}
 use Rattle.std.proofs.lemmas.Bool.{cases_eq, true≢false}
 use Rattle.std.proofs.lemmas.List.{append-nil, append_assoc}
 use Rattle.ufs_bitmap.specs.Blocks.{BlockSet}
+use Rattle.ufs_ilog.specs.Notes.{IsLackFor}
 use Rattle.ufs_layout.specs.declared.records.LogRecord.{LogRecord}
 use Rattle.ufs_dir_tree.specs.DirTable.{DirTable}
 use Rattle.ufs_dir_tree.specs.Steps.{DirState, Step, after, after_all, table_after, table_after_all}
 use Rattle.ufs_name_tree.specs.NameTable.{NameTable, IsNameTable, file_at}
-use Rattle.ufs_name_tree.specs.Notes.{AreKindsOf, IsStateOf, MayNoteAll, GoesByNotes, is_touched}
+use Rattle.ufs_name_tree.specs.Notes.{AreKindsOf, IsStateOf, LosesNotes, MayNoteAll, GoesByNotes, GoesNoted, is_touched}
 use Rattle.ufs_name_tree.specs.Records.{record_of, records_of}
+use Rattle.ufs_name_tree.proofs.NoteLost.{lack_later, lack_more}
 use Rattle.ufs_name_tree.proofs.NoteFiles.{or_none, or_first, or_second, touched_on}
 use Rattle.ufs_name_tree.proofs.StepOrder.{all_after}
 
@@ -42,10 +44,11 @@ pub notes_stay : (t : NameTable) (pool : BlockSet) → HasOneInode t → GoesByN
 notes_stay t pool once = by t.noted refl
   where
     by : (n : Option (List LogRecord)) → t.noted ≡ n → GoesByNotes t t pool
-    by None none = inl none
+    by None none = inl (record { steps = []; dirs = refl; lost = record { none = none; cause = λ before some. (let no = sym none ∙ some in absurd cc); unlost = λ off. refl } })
     by (Some records) some = inr (record {
       steps = [];
       noted = record { before = records; was = some; is = some ∙ ap Some (sym (append-nil records)) };
+      lost = refl;
       dirs = refl;
       may = λ s is. tt;
       kinds = λ s is. is.kinds;
@@ -69,6 +72,7 @@ notes_less old new pool (inl gone) = inl gone
 notes_less old new pool (inr on) = inr (record {
   steps = on.steps;
   noted = on.noted;
+  lost = on.lost;
   dirs = on.dirs;
   may = λ s is. on.may s (no_block old pool s is);
   kinds = λ s is. on.kinds s (no_block old pool s is);
@@ -79,14 +83,52 @@ notes_less old new pool (inr on) = inr (record {
   named = on.named;
 })
 
+-- the records of a change, and of one behind it
+records_both : (old mid : NameTable) (xs ys : List Step) → mid.dirs ≡ table_after_all xs old.dirs → records_of old.dirs xs ++ records_of mid.dirs ys ≡ records_of old.dirs (xs ++ ys)
+records_both old mid xs ys dirs = ap (λ (t : DirTable). records_of old.dirs xs ++ records_of t ys) dirs ∙ sym (records_on old.dirs xs ys)
+
+-- what was lost before stays so
+loses_on : (old mid new : NameTable) → LosesNotes old mid → LosesNotes mid new → LosesNotes old new
+loses_on old mid new one on = record {
+  steps = one.steps ++ on.steps;
+  dirs = on.dirs ∙ ap (table_after_all on.steps) one.dirs ∙ sym (table_on old.dirs one.steps on.steps);
+  lost = record {
+    none = on.lost.none;
+    cause = λ before some.
+        let wants = one.lost.cause before some in
+        (wants.0, on.lost.unlost one.lost.none ∙ wants.1, subst (λ (rs : List LogRecord). IsLackFor before rs wants.0) (sym (records_on old.dirs one.steps on.steps)) (lack_more before (records_of old.dirs one.steps) (records_of (table_after_all one.steps old.dirs) on.steps) wants.0 wants.2));
+    unlost = λ off. on.lost.unlost one.lost.none ∙ one.lost.unlost off;
+  };
+}
+
+-- what was noted before is lost
+loses_then : (old mid new : NameTable) (pool : BlockSet) → GoesNoted old mid pool → LosesNotes mid new → LosesNotes old new
+loses_then old mid new pool one on = record {
+  steps = one.steps ++ on.steps;
+  dirs = on.dirs ∙ ap (table_after_all on.steps) one.dirs ∙ sym (table_on old.dirs one.steps on.steps);
+  lost = record {
+    none = on.lost.none;
+    cause = λ before some.
+        let wants = on.lost.cause (one.noted.before ++ records_of old.dirs one.steps) one.noted.is in
+        let was : one.noted.before ≡ before = (let same : Some one.noted.before ≡ Some before = sym one.noted.was ∙ some in cc) in (
+          wants.0,
+          wants.1,
+          subst (λ (rs : List LogRecord). IsLackFor rs (records_of old.dirs (one.steps ++ on.steps)) wants.0) was
+              (subst (λ (rs : List LogRecord). IsLackFor one.noted.before rs wants.0) (records_both old mid one.steps on.steps one.dirs) (lack_later one.noted.before (records_of old.dirs one.steps) (records_of mid.dirs on.steps) wants.0 wants.2)),
+        );
+    unlost = λ off. (let no = sym one.noted.was ∙ off in absurd cc);
+  };
+}
+
 -- each file's inode now is one that it had
 abbrev pub GivesNoInode : NameTable → NameTable → Type 0
 GivesNoInode old new = (i f : ℕ) → file_at new i ≡ Some f → file_at old i ≡ Some f
 
 -- and one that takes no block and gives no file an inode may follow any
 pub notes_on : (old mid new : NameTable) (pool : BlockSet) → GoesByNotes old mid pool → GoesByNotes mid new set.empty → GivesNoInode mid new → GoesByNotes old new pool
-notes_on old mid new pool one (inl gone) was = inl gone
-notes_on old mid new pool (inl gone) (inr on) was = let some = on.noted.was in absurd cc
+notes_on old mid new pool (inl one) (inl gone) was = inl (loses_on old mid new one gone)
+notes_on old mid new pool (inr one) (inl gone) was = inl (loses_then old mid new pool one gone)
+notes_on old mid new pool (inl gone) (inr on) was = let some = sym gone.lost.none ∙ on.noted.was in absurd cc
 notes_on old mid new pool (inr one) (inr on) was = inr (record {
   steps = one.steps ++ on.steps;
   noted = record {
@@ -97,6 +139,7 @@ notes_on old mid new pool (inr one) (inr on) was = inr (record {
         ∙ ap Some (append_assoc one.noted.before (records_of old.dirs one.steps) (records_of mid.dirs on.steps)
         ∙ ap (λ (rs : List LogRecord). one.noted.before ++ rs) (ap (λ (t : DirTable). records_of old.dirs one.steps ++ records_of t on.steps) one.dirs ∙ sym (records_on old.dirs one.steps on.steps)));
   };
+  lost = on.lost ∙ one.lost;
   dirs = on.dirs ∙ ap (table_after_all on.steps) one.dirs ∙ sym (table_on old.dirs one.steps on.steps);
   may = λ s is. may_on s one.steps on.steps (one.may s is) (on.may (after_all one.steps s) (between s is));
   kinds = λ s is. subst (λ (u : DirState). AreKindsOf new u.kinds) (sym (state_on s one.steps on.steps)) (on.kinds (after_all one.steps s) (between s is));

@@ -16,10 +16,10 @@ use Rattle.ufs_dir_tree.specs.Steps.{DirState, Step, Born, Grown, Put, Freed, Ma
 use Rattle.ufs_dir_tree.specs.declared.found.Found.{Found}
 use Rattle.ufs_dir_tree.specs.declared.found.Found.TheVariants.{Dir, File}
 use Rattle.ufs_ilog.specs.Changes.{in_order}
-use Rattle.ufs_ilog.specs.Notes.{IsNotedBehind}
 use Rattle.ufs_name_tree.specs.NameTable.{NameTable}
-use Rattle.ufs_name_tree.specs.Notes.{AreKindsOf, HasKinds, IsStateOf, MayNoteAll, MayNoteFreed, GoesByNotes}
+use Rattle.ufs_name_tree.specs.Notes.{AreKindsOf, HasKinds, IsLostAt, IsStateOf, MayNoteAll, MayNoteFreed, GoesByNotes}
 use Rattle.ufs_name_tree.specs.Records.{records_of}
+use Rattle.ufs_name_tree.proofs.NoteLost.{TellsOrLoses}
 use Rattle.ufs_name_tree.proofs.NoteFiles.{TouchesFiles, ordered_touches}
 use Rattle.ufs_name_tree.proofs.NoteKinds.{kinds_after}
 use Rattle.ufs_name_tree.proofs.NoteNames.{PutKinds, kinds_all}
@@ -203,14 +203,21 @@ module _ (old new : NameTable) (pool : BlockSet) (dir : ℕ) (above : List (List
       let are = is.kinds in
       order_goes s xs swaps (subst (λ (t : DirTable). MayNoteAll (record { table = t; kinds = s.kinds; zeroed = s.zeroed }) xs) (sym is.table) (may s.kinds s.zeroed (are.dir dir above met) is.zeroed))
 
-  pub goes_noted : (records : List LogRecord) → records ≡ in_order (records_of old.dirs xs) → IsNotedBehind old.noted new.noted records → GoesByNotes old new pool
-  goes_noted records are (inl gone) = inl gone
-  goes_noted records are (inr on) =
-      let same = in_some in
+  -- the records are those of the steps in their order, and these lead to the same
+  told_ordered : (records : List LogRecord) → records ≡ in_order (records_of old.dirs xs) → records ≡ records_of old.dirs (ordered xs)
+  told_ordered records are = let same = in_some in are ∙ ap in_order (sym (told_is some xs)) ∙ sym same.tells ∙ told_is some (ordered xs)
+
+  leads_ordered : new.dirs ≡ table_after_all (ordered xs) old.dirs
+  leads_ordered = let same = in_some in leads ∙ sym (all_after some xs) ∙ ap (λ (u : DirState). u.table) (sym same.same) ∙ all_after some (ordered xs)
+
+  pub goes_noted : (records : List LogRecord) → records ≡ in_order (records_of old.dirs xs) → TellsOrLoses old new records → GoesByNotes old new pool
+  goes_noted records are (inl gone) = inl (record { steps = ordered xs; dirs = leads_ordered; lost = subst (IsLostAt old new) (told_ordered records are) gone })
+  goes_noted records are (inr (on, kept)) =
       inr (record {
         steps = ordered xs;
-        noted = record { before = on.before; was = on.was; is = on.is ∙ ap (λ (rs : List LogRecord). Some (on.before ++ rs)) (are ∙ ap in_order (sym (told_is some xs)) ∙ sym same.tells ∙ told_is some (ordered xs)) };
-        dirs = leads ∙ sym (all_after some xs) ∙ ap (λ (u : DirState). u.table) (sym same.same) ∙ all_after some (ordered xs);
+        noted = record { before = on.before; was = on.was; is = on.is ∙ ap (λ (rs : List LogRecord). Some (on.before ++ rs)) (told_ordered records are) };
+        lost = kept;
+        dirs = leads_ordered;
         may = λ s is. let now = in_state s is in now.may;
         kinds = λ s is. let now = in_state s is in subst (λ (u : DirState). AreKindsOf new u.kinds) (sym now.same) (kinds s is);
         kept = λ i f at now. ordered_touches xs i ∙ files.kept i f at now;

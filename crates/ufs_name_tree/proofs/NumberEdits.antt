@@ -28,7 +28,7 @@ same_or_other i j = by (eqb_tells i j)
 
 module _ (t : NameTable) (dirs : DirTable) (i : ℕ) (w : Option ℕ) where
   abbrev pub numbered : NameTable
-  numbered = record { dirs = dirs; files = set t.files i w; noted = t.noted }
+  numbered = record { dirs = dirs; files = set t.files i w; noted = t.noted; lost = t.lost }
 
   pub other_number : (j : ℕ) → j ≢ i → file_at numbered j ≡ file_at t j
   other_number j other = get_or-set_other t.files i j w None other

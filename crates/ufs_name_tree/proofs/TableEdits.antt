@@ -14,7 +14,7 @@ use Rattle.ufs_name_tree.proofs.KeptFiles.{IsAsBefore, kept_files, freed, still_
 module _ (t : NameTable) (dirs : DirTable) (is : IsNameTable t) (table : IsDirTable dirs) (inodes : length dirs.dirs ≡ length t.dirs.dirs) where
   -- the same files over other directories
   abbrev over : NameTable
-  over = record { dirs = dirs; files = t.files; noted = t.noted }
+  over = record { dirs = dirs; files = t.files; noted = t.noted; lost = t.lost }
 
   counted_over : length over.files ≡ length over.dirs.dirs
   counted_over = is.counted ∙ sym inodes

@@ -2,6 +2,8 @@
 use Rattle.std.specs.Prelude.{ℕ, ◌≡◌, ◌≢◌, List, [], length, Option, Some, None, IsSome, slice_index_or, unwrap_or, refl}
 use Rattle.std.specs.Option.{option_map}
 use Rattle.std.specs.Coded.{Coded, code_by, coded×, coded_ℕ, coded_list, coded_option}
+use Rattle.ufs_base.specs.declared.lack.Lack.{Lack}
+use Rattle.ufs_base.specs.contracts.lack.Lack as lack
 use Rattle.ufs_model.specs.declared.data.Node.{Node}
 use Rattle.ufs_model.specs.declared.data.Node.TheVariants as node
 use Rattle.ufs_dir_tree.specs.DirTable.{DirTable, IsDirTable, IsUsed, blocks_at, found_at, table_code}
@@ -17,6 +19,8 @@ pub record NameTable : Type 0 where
   pub files : List (Option ℕ)
   -- the records of the changes that are noted, or none
   pub noted : Noted
+  -- for want of what the notes were lost, where they were
+  pub lost : Option Lack
 
 -- the number of the file that the inode is
 abbrev pub file_at : NameTable → ℕ → Option ℕ
@@ -48,8 +52,8 @@ pub record IsNameTable (t : NameTable) : Type 0 where
   -- a file has one inode
   pub once : (i j f : ℕ) → file_at t i ≡ Some f → file_at t j ≡ Some f → i ≡ j
 
--- ---- stored as the triple of its parts
+-- ---- stored as its parts
 
 abbrev pub name_table_code : Coded NameTable
-name_table_code = code_by (DirTable × (List (Option ℕ) × Noted)) (coded× table_code (coded× (coded_list (coded_option coded_ℕ)) notes.the_row.coded))
-    (λ t. (t.dirs, (t.files, t.noted))) (λ p. record { dirs = p.0; files = p.1.0; noted = p.1.1 }) (λ _. refl)
+name_table_code = code_by (DirTable × (List (Option ℕ) × (Noted × Option Lack))) (coded× table_code (coded× (coded_list (coded_option coded_ℕ)) (coded× notes.the_row.coded (coded_option lack.the_row.coded))))
+    (λ t. (t.dirs, (t.files, (t.noted, t.lost)))) (λ p. record { dirs = p.0; files = p.1.0; noted = p.1.1.0; lost = p.1.1.1 }) (λ _. refl)

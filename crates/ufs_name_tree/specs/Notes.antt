@@ -2,8 +2,10 @@
 use Rattle.std.specs.Prelude.{ℕ, ◌≡◌, ◌≢◌, ◌*◌, ◌≤◌, ◌<◌, ◌⊎◌, ◌==◌, ⊤, List, [], ◌∷◌, ◌++◌, length, Bool, true, false, IsTrue, Some, None}
 use Rattle.std.specs.List.{list_any, slice_get}
 use Rattle.std.specs.FinSet as set
+use Rattle.ufs_base.specs.declared.lack.Lack.{Lack}
 use Rattle.ufs_base.specs.declared.sizes.TheConstants.{SLOTS_PER_BLOCK}
 use Rattle.ufs_layout.specs.DentryForm.{DentryForm, is_dentry, is_named}
+use Rattle.ufs_layout.specs.declared.records.LogRecord.{LogRecord}
 use Rattle.ufs_bitmap.specs.Blocks.{BlockSet}
 use Rattle.ufs_dirs.specs.Changes.{IsSlot}
 use Rattle.ufs_dirs.specs.declared.Slot.{Slot}
@@ -11,7 +13,7 @@ use Rattle.ufs_dir_tree.specs.DirTable.{DirTable, IsUsed, dir_at, slots_at, bloc
 use Rattle.ufs_dir_tree.specs.Space.{extents_of}
 use Rattle.ufs_dir_tree.specs.Steps.{DirState, Step, Born, Grown, Put, Freed, MayBear, after, after_all, table_after_all}
 use Rattle.ufs_dir_tree.specs.declared.found.Found.TheVariants.{Dir}
-use Rattle.ufs_ilog.specs.Notes.{IsNotedOn}
+use Rattle.ufs_ilog.specs.Notes.{IsLackFor, IsNotedOn}
 use Rattle.ufs_name_tree.specs.NameTable.{NameTable, file_at}
 use Rattle.ufs_name_tree.specs.Records.{records_of}
 
@@ -90,10 +92,24 @@ HasKinds t = (i place : ℕ) (d : DentryForm) → slice_get (slots_at t i) place
 
 -- ---- a change
 
+-- Nothing is noted any more. Where something was, it is lost at these records for want of what is kept: memory was refused, or
+-- no number counts the sectors of all records. Where nothing was, nothing is lost.
+pub record IsLostAt (old new : NameTable) (records : List LogRecord) : Type 0 where
+  pub none : new.noted ≡ None
+  pub cause : (before : List LogRecord) → old.noted ≡ Some before → (w : Lack) × (new.lost ≡ Some w) × IsLackFor before records w
+  pub unlost : old.noted ≡ None → new.lost ≡ old.lost
+
+-- Steps lead from the old names to the new ones, and the notes are lost at their records.
+pub record LosesNotes (old new : NameTable) : Type 0 where
+  pub steps : List Step
+  pub dirs : new.dirs ≡ table_after_all steps old.dirs
+  pub lost : IsLostAt old new (records_of old.dirs steps)
+
 -- Steps lead from the old names to the new ones, with blocks of this pool, and their records stand behind what was noted.
 pub record GoesNoted (old new : NameTable) (pool : BlockSet) : Type 0 where
   pub steps : List Step
   pub noted : IsNotedOn old.noted new.noted (records_of old.dirs steps)
+  pub lost : new.lost ≡ old.lost
   pub dirs : new.dirs ≡ table_after_all steps old.dirs
   pub may : (s : DirState) → IsStateOf old pool s → MayNoteAll s steps
   pub kinds : (s : DirState) → IsStateOf old pool s → AreKindsOf new (after_all steps s).kinds
@@ -108,6 +124,6 @@ pub record GoesNoted (old new : NameTable) (pool : BlockSet) : Type 0 where
   -- each name stands for a file or a directory still
   pub named : HasKinds old.dirs → HasKinds new.dirs
 
--- The notes tell the change, or nothing is noted any more.
+-- The notes tell the change, or there are none: they were lost for a lack alone.
 abbrev pub GoesByNotes : NameTable → NameTable → BlockSet → Type 0
-GoesByNotes old new pool = (new.noted ≡ None) ⊎ GoesNoted old new pool
+GoesByNotes old new pool = LosesNotes old new ⊎ GoesNoted old new pool

@@ -1,6 +1,6 @@
 // Names that come, go and change.
 use crate::name_tree::NameTree;
-use crate::notes::{DIRECTORY, FILE, note_added, note_freed, note_moved, note_removed};
+use crate::notes::{DIRECTORY, FILE, keep_lack, note_added, note_freed, note_moved, note_removed};
 use ufs_bitmap::Pool;
 use ufs_dir_tree::Kind;
 use ufs_layout::Dentry;
@@ -49,7 +49,8 @@ impl NameTree {
             Err(excuse) => return Err(excuse),
         };
         let dentry = Dentry::from_name(added.inode, DIRECTORY, path.last());
-        let _lost = note_added(&mut self.notes, &self.dirs, dir, added, dentry);
+        let noted = note_added(&mut self.notes, &self.dirs, dir, added, dentry);
+        keep_lack(&mut self.lost, noted);
         Ok(added.inode)
     }
 
@@ -91,7 +92,8 @@ impl NameTree {
         };
         self.files[added.inode as usize] = Some(file);
         let dentry = Dentry::from_name(added.inode, FILE, path.last());
-        let _lost = note_added(&mut self.notes, &self.dirs, dir, added, dentry);
+        let noted = note_added(&mut self.notes, &self.dirs, dir, added, dentry);
+        keep_lack(&mut self.lost, noted);
         Ok(added.inode)
     }
 
@@ -118,7 +120,8 @@ impl NameTree {
         let _blocks = self.dirs.blocks(dir);
         let found = self.dirs.entry(dir, path.last());
         let slot = self.dirs.remove(dir, path, pool);
-        let _lost = note_removed(&mut self.notes, slot, found);
+        let noted = note_removed(&mut self.notes, slot, found);
+        keep_lack(&mut self.lost, noted);
     }
 
     /// Gives what stands at `from`, with all below it, the name `to`. What stood there goes as by `remove`; where
@@ -164,7 +167,8 @@ impl NameTree {
             Err(excuse) => return Err(excuse),
         };
         let dentry = Dentry::from_name(old.inode, old.kind, to.last());
-        let _lost = note_moved(&mut self.notes, &self.dirs, to_dir, moved, found, dentry);
+        let noted = note_moved(&mut self.notes, &self.dirs, to_dir, moved, found, dentry);
+        keep_lack(&mut self.lost, noted);
         Ok(())
     }
 
@@ -189,6 +193,7 @@ impl NameTree {
     {
         self.dirs.free_inode(inode, pool);
         self.files[inode as usize] = None;
-        let _lost = note_freed(&mut self.notes, inode);
+        let noted = note_freed(&mut self.notes, inode);
+        keep_lack(&mut self.lost, noted);
     }
 }

@@ -4,7 +4,7 @@ ghost use Rattle.std.specs.Prelude.{◌≡◌, ℕ, Some, None, IfOk, length, sl
 use std::alloc::Global;
 use std::marker::Model;
 use std::mem;
-use ufs_base::Memory;
+use ufs_base::{Lack, Memory};
 use ufs_dir_tree::{DirTree, Found, Look};
 use ufs_ilog::NameNotes;
 use ufs_model::{Errno, NameList, Node};
@@ -18,6 +18,8 @@ pub struct NameTree {
     pub(crate) files: Vec<Option<u32>>,
     /// What a disk is to be told of the changes.
     pub(crate) notes: NameNotes,
+    /// For want of what the notes were lost, if they were.
+    pub(crate) lost: Option<Lack>,
 }
 
 impl Model for NameTree {
@@ -27,9 +29,9 @@ impl Model for NameTree {
 
     ghost coded = { name_table_code };
 
-    ghost view = { λ t. record { dirs = t.dirs; files = t.files.items; noted = t.notes } };
+    ghost view = { λ t. record { dirs = t.dirs; files = t.files.items; noted = t.notes; lost = t.lost } };
 
-    ghost invariant = { λ t. IsNameTable (record { dirs = t.dirs; files = t.files.items; noted = t.notes }) };
+    ghost invariant = { λ t. IsNameTable (record { dirs = t.dirs; files = t.files.items; noted = t.notes; lost = t.lost }) };
 }
 
 impl NameTree {
@@ -59,6 +61,7 @@ impl NameTree {
         ensures bare { IfOk result (λ t. (i : ℕ) → dir_at t.dirs i ≡ no_dir) }
         ensures apart { IfOk result (λ t. (pool : BlockSet) → IsApart t.dirs pool) }
         ensures unnoted { IfOk result (λ t. t.noted ≡ None) }
+        ensures unlost { IfOk result (λ t. t.lost ≡ None) }
         ensures table { IfOk result (λ t. IsNameTable t) }
     {
         let dirs = DirTree::new(alloc, inodes)?;
@@ -67,6 +70,7 @@ impl NameTree {
             dirs,
             files,
             notes: NameNotes::off(),
+            lost: None,
         })
     }
 
@@ -76,11 +80,13 @@ impl NameTree {
         ensures dirs { result.dirs ≡ dirs }
         ensures files { result.files ≡ files.items }
         ensures unnoted { result.noted ≡ None }
+        ensures unlost { result.lost ≡ None }
     {
         NameTree {
             dirs,
             files,
             notes: NameNotes::off(),
+            lost: None,
         }
     }
 

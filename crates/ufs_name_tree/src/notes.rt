@@ -1,5 +1,5 @@
 // What the notes of a tree's names are told of a change.
-ghost use Rattle.std.specs.Prelude.{◌≡◌, ◌⊎◌, ◌<◌, ◌≤◌, ◌++◌, ◌∷◌, [], All, Err, None, IfErr, IfOk, IfSome, IsTrue, OnOk, length};
+ghost use Rattle.std.specs.Prelude.{◌≡◌, ◌⊎◌, ◌<◌, ◌≤◌, ◌++◌, ◌∷◌, [], All, Err, None, Some, IfErr, IfOk, IfSome, IsTrue, OnErr, OnOk, length};
 ghost use Rattle.std.specs.List.{list_all};
 ghost use Rattle.ufs_base.specs.declared.sizes.TheConstants.{MAX_BLOCKS};
 ghost use Rattle.ufs_layout.specs.DentryForm.{free_slot, is_dentry};
@@ -9,7 +9,7 @@ ghost use Rattle.ufs_dir_tree.specs.DirTable.{IsDirTable};
 ghost use Rattle.ufs_dir_tree.specs.Space.{extents_of};
 ghost use Rattle.ufs_ilog.specs.Changes.{in_order, is_in_order};
 ghost use Rattle.ufs_ilog.specs.Deltas as log;
-ghost use Rattle.ufs_ilog.specs.Notes.{IsLostFor, IsNotedBehind, IsNotedWhole};
+ghost use Rattle.ufs_ilog.specs.Notes.{IsLostFor, IsNotedWhole};
 ghost use Rattle.ufs_base.specs.declared.lack.Lack.TheVariants as lack;
 ghost use Rattle.ufs_name_tree.specs.Records.{added_noted, born_noted, cleared_noted, dir_delta, grown_noted, moved_noted, replaced_noted, slot_noted};
 
@@ -43,7 +43,7 @@ pub(crate) fn note_added(
     requires kind { (dentry.kind ≡ 1) ⊎ (dentry.kind ≡ 2) }
     ensures whole { OnOk result (IsNotedWhole notes.old notes.new (in_order (added_noted dirs.now dir added.grown added.slot dentry))) }
     ensures lack { IfErr result (IsLostFor notes.old (in_order (added_noted dirs.now dir added.grown added.slot dentry))) }
-    ensures behind { IsNotedBehind notes.old notes.new (in_order (added_noted dirs.now dir added.grown added.slot dentry)) }
+    ensures none { OnErr result (notes.new ≡ None) }
 {
     let Some(alloc) = notes.alloc() else {
         return Ok(());
@@ -63,7 +63,7 @@ pub(crate) fn note_removed(
     requires slot { slot.slot < 8 }
     ensures whole { OnOk result (IsNotedWhole notes.old notes.new (in_order (cleared_noted slot found))) }
     ensures lack { IfErr result (IsLostFor notes.old (in_order (cleared_noted slot found))) }
-    ensures behind { IsNotedBehind notes.old notes.new (in_order (cleared_noted slot found)) }
+    ensures none { OnErr result (notes.new ≡ None) }
 {
     let Some(alloc) = notes.alloc() else {
         return Ok(());
@@ -90,7 +90,7 @@ pub(crate) fn note_moved(
     requires form { IsTrue (is_dentry dentry) }
     ensures whole { OnOk result (IsNotedWhole notes.old notes.new (in_order (moved_noted dirs.now dir moved found dentry))) }
     ensures lack { IfErr result (IsLostFor notes.old (in_order (moved_noted dirs.now dir moved found dentry))) }
-    ensures behind { IsNotedBehind notes.old notes.new (in_order (moved_noted dirs.now dir moved found dentry)) }
+    ensures none { OnErr result (notes.new ≡ None) }
 {
     let Some(alloc) = notes.alloc() else {
         return Ok(());
@@ -105,7 +105,7 @@ pub(crate) fn note_moved(
 pub(crate) fn note_freed(notes: &mut NameNotes, inode: u32) -> Result<(), Lack>
     ensures whole { OnOk result (IsNotedWhole notes.old notes.new (Free inode ∷ [])) }
     ensures lack { IfErr result (IsLostFor notes.old (Free inode ∷ [])) }
-    ensures behind { IsNotedBehind notes.old notes.new (Free inode ∷ []) }
+    ensures none { OnErr result (notes.new ≡ None) }
 {
     let Some(alloc) = notes.alloc() else {
         return Ok(());
@@ -113,6 +113,16 @@ pub(crate) fn note_freed(notes: &mut NameNotes, inode: u32) -> Result<(), Lack>
     match freed_change(alloc, inode) {
         Ok(change) => notes.note(change),
         Err(memory) => lose(notes, memory),
+    }
+}
+
+/// Keeps for want of what the notes were lost, if they were.
+pub(crate) fn keep_lack(lost: &mut Option<Lack>, noted: Result<(), Lack>)
+    ensures kept { OnOk noted (lost.new ≡ lost.old) }
+    ensures lack { IfErr noted (λ lack. lost.new ≡ Some lack) }
+{
+    if let Err(lack) = noted {
+        *lost = Some(lack);
     }
 }
 

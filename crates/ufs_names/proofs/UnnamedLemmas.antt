@@ -23,7 +23,7 @@ same_nodes t t' same (Some (Dir i)) = refl
 same_nodes t t' same (Some (File i)) = ap (λ o. Some (node.File (unwrap_or o 0))) (same i)
 
 pub same_numbers : (t t' : NameTable) → t'.files ≡ t.files → (i : ℕ) → file_at t' i ≡ file_at t i
-same_numbers t t' same i = ap (λ (files : List (Option ℕ)). file_at (record { dirs = t.dirs; files = files; noted = t.noted }) i) same
+same_numbers t t' same i = ap (λ (files : List (Option ℕ)). file_at (record { dirs = t.dirs; files = files; noted = t.noted; lost = t.lost }) i) same
 
 -- ---- what its file lost
 

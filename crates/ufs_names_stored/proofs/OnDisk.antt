@@ -65,7 +65,7 @@ module _ (g : Geometry) (keeps : EntriesKeep g) (others : OthersAcknowledgeNothi
     unborn f past = (st.kept.here.stored.fresh f past).1
 
     names_now : GoesByNotes p.names.tree next.names.tree lent → AreNamesStored l k.numbers next.fresh next.names
-    names_now (inl none) = inl none
+    names_now (inl gone) = inl gone.lost.none
     names_now (inr go) =
         subst (λ (fresh : List ℕ). AreNamesStored l k.numbers fresh next.names) (sym r.fresh)
         (notes l unassigned start history k p next.names r.taken lent go same sound.counted (λ b is. r.is_taken b ∙ is) (λ b is. r.pooled b (sym (r.is_taken b) ∙ is))

@@ -23,4 +23,4 @@ module _ (sectors : ℕ) (disk : Image) where
   why_damage v taken (BadRecord sector) is = absurd is
   why_damage v taken (BadTree inode) is = ap (λ (w : Result Volume Refusal). tree_from (entries_of w)) taken ∙ ap (λ o. tree_from (by_damage v o)) is
   why_damage v taken (Device fault) is = absurd is
-  why_damage v taken (Lack _) is = tt
+  why_damage v taken (Lack why) is = is

@@ -3,6 +3,7 @@ use Rattle.std.specs.Prelude.{ℕ, ◌≡◌, Option, Some}
 use Rattle.ufs_base.specs.Images.{Image}
 use Rattle.ufs_image.specs.Opens.{opens}
 use Rattle.ufs_catalog.specs.Faults.{IsWhyNot}
+use Rattle.ufs_catalog.specs.Lacks.{IsOfNumbers}
 use Rattle.ufs_catalog.specs.declared.fault.RecoverFault.{RecoverFault}
 use Rattle.ufs_catalog.specs.declared.fault.RecoverFault.TheVariants.{BadTree, Lack}
 
@@ -14,5 +15,5 @@ TellsWhy sectors disk = IsWhyNot (opens sectors disk)
 
 abbrev pub IsBlame : Option ℕ → RecoverFault → Type 0
 IsBlame lowest (BadTree inode) = lowest ≡ Some inode
-IsBlame lowest (Lack _) = Unit {0}
+IsBlame lowest (Lack why) = IsOfNumbers why
 IsBlame lowest _ = ⊥

@@ -91,7 +91,7 @@ outside_tells given (BadGeometry n) is = absurd is
 outside_tells given (BadRecord s) is = absurd is
 outside_tells given (BadTree i) is = absurd is
 outside_tells given (Device fault) is = is
-outside_tells given (Lack _) is = is
+outside_tells given (Lack why) is = is
 
 clash : (tree : ImageTree) (r : Refusal) → ◌≡◌ {A = Result ImageTree Refusal} (Ok tree) (Err r) → ⊥
 clash tree r e = cc
@@ -109,7 +109,7 @@ only_outside sectors disk is f why = by f why
     by (BadRecord s) why = absurd (clash at.0 (image.BadRecord s) (sym at.1 ∙ why))
     by (BadTree i) why = absurd (clash at.0 (image.BadTree i) (sym at.1 ∙ why))
     by (Device fault) why = why
-    by (Lack _) why = why
+    by (Lack lack) why = why
 
 -- ---- the highest of some commit numbers
 

@@ -19,6 +19,7 @@ pub mod Planned
 pub mod Finished
 pub mod Moved
 pub mod Ends
+mod PlanLacks
 mod Reread
 mod Rewritten
 mod Done

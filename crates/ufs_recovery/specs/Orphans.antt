@@ -1,6 +1,8 @@
 -- Inodes that are used and that no walk from the root meets.
-use Rattle.std.specs.Prelude.{ℕ, ◌≡◌, ◌≢◌, ◌+◌, ◌<◌, ◌⊎◌, List, Bool, true, false, ◌==◌, if◌then◌else◌, Option, Some, None, length, slice_index_or}
+use Rattle.std.specs.Prelude.{ℕ, ◌≡◌, ◌≢◌, ◌+◌, ◌-◌, ◌^◌, ◌<◌, ◌≤◌, ◌⊎◌, ⊤, List, Bool, true, false, ◌==◌, if◌then◌else◌, Option, Some, None, length, slice_index_or}
 use Rattle.std.specs.List.{slice_get}
+use Rattle.ufs_base.specs.declared.lack.Lack.{Lack}
+use Rattle.ufs_base.specs.declared.lack.Lack.TheVariants.{Memory, AtEnd, Unsound, Told}
 use Rattle.ufs_layout.specs.declared.geometry.Geometry.{Geometry}
 use Rattle.ufs_base.specs.Images.{Image}
 use Rattle.ufs_layout.specs.InodeForm.{InodeForm}
@@ -82,6 +84,14 @@ HasNone numbers = (place number : ℕ) → slice_get numbers place ≡ Some (Som
 -- The commit numbers of these inodes are below this one.
 abbrev pub AreNumbersBelow : List (Option InodeForm) → ℕ → Type 0
 AreNumbersBelow forms n = (place : ℕ) (form : InodeForm) → slice_get forms place ≡ Some (Some form) → form.number < n
+
+-- For want of this there is no plan: memory was refused, or there is no next epoch, or no commit number above this one and those of
+-- the inodes.
+abbrev pub IsLackOfPlan : Super → List (Option InodeForm) → ℕ → Lack → Type 0
+IsLackOfPlan superblock forms used (Memory refused) = ⊤
+IsLackOfPlan superblock forms used AtEnd = (superblock.epoch ≡ 2 ^ 64 - 1) ⊎ ((n : ℕ) → used < n → AreNumbersBelow forms n → 2 ^ 64 ≤ n)
+IsLackOfPlan superblock forms used Unsound = ⊥
+IsLackOfPlan superblock forms used Told = ⊥
 
 -- What was read of an image that has the same inodes.
 pub record IsReadOf (g : Geometry) (image : Image) (findings : CatalogRead) : Type 0 where

@@ -1,5 +1,5 @@
 // What a recovery does, known before it writes.
-ghost use Rattle.std.specs.Prelude.{ℕ, ◌≡◌, ◌≤◌, ◌<◌, ◌+◌, None, false, length, IsTrue, IfOk};
+ghost use Rattle.std.specs.Prelude.{ℕ, ◌≡◌, ◌≤◌, ◌<◌, ◌+◌, None, false, length, IsTrue, IfOk, IfErr};
 ghost use Rattle.ufs_base.specs.Images.{Image};
 ghost use Rattle.ufs_damage.specs.Findings.{AreFindingsOf};
 ghost use Rattle.ufs_image.specs.Catalog.{IsInode, catalog_at};
@@ -8,7 +8,7 @@ ghost use Rattle.ufs_image.specs.Images.{form_at};
 ghost use Rattle.ufs_layout.specs.Areas.{IsGeometry};
 ghost use Rattle.ufs_layout.specs.Superblock.{geometry_of, is_super};
 ghost use Rattle.ufs_recovery.specs.Recovered.{AreInodesBelow};
-ghost use Rattle.ufs_recovery.specs.Orphans.{AreOrphanDirs, AreOrphans};
+ghost use Rattle.ufs_recovery.specs.Orphans.{AreOrphanDirs, AreOrphans, IsLackOfPlan};
 
 use crate::orphans::{find_orphans, highest_number};
 use crate::pruning::Orphans;
@@ -49,6 +49,7 @@ pub(crate) fn make_plan(
     ensures above { IfOk result (λ p. used < p.superblock.next) }
     ensures least { IfOk result (λ p. (folded : Image) → AreFindingsOf image.now.geometry folded findings.now
         → (n : ℕ) → image.now.superblock.next ≤ n → used < n → AreInodesBelow image.now.geometry folded n → p.superblock.next ≤ n) }
+    ensures lack { IfErr result (IsLackOfPlan image.now.superblock findings.now.forms used) }
     ensures inodes { IfOk result (λ p. (folded : Image) → AreFindingsOf image.now.geometry folded findings.now → (inode : ℕ) → IsInode image.now.geometry inode → (form_at image.now.geometry folded inode).number < p.superblock.next) }
 {
     let reached = reached_inodes(alloc, findings, &image.geometry)?;

@@ -63,7 +63,7 @@ outside_why sectors disk (BadGeometry number) is = absurd is
 outside_why sectors disk (BadRecord sector) is = absurd is
 outside_why sectors disk (BadTree inode) is = absurd is
 outside_why sectors disk (Device fault) is = tt
-outside_why sectors disk (Lack _) is = tt
+outside_why sectors disk (Lack why) is = is
 
 lack_outside : (fault : RecoverFault) → IsLack fault → IsOutside fault
 lack_outside NoSuperblock is = absurd is
@@ -72,7 +72,7 @@ lack_outside (BadGeometry number) is = absurd is
 lack_outside (BadRecord sector) is = absurd is
 lack_outside (BadTree inode) is = absurd is
 lack_outside (Device fault) is = absurd is
-lack_outside (Lack _) is = tt
+lack_outside (Lack why) is = is
 
 lack_calm : (fault : RecoverFault) → IsLack fault → (count : ℕ) → HasFaultCause count count fault
 lack_calm NoSuperblock is count = absurd is

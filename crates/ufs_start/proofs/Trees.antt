@@ -131,4 +131,4 @@ why_alike (Ok t) (Ok u) (BadGeometry number) alike told = let no = told in cc
 why_alike (Ok t) (Ok u) (BadRecord sector) alike told = let no = told in cc
 why_alike (Ok t) (Ok u) (BadTree inode) alike told = let no = told in cc
 why_alike (Ok t) (Ok u) (Device fault) alike told = tt
-why_alike (Ok t) (Ok u) (Lack _) alike told = tt
+why_alike (Ok t) (Ok u) (Lack why) alike told = told

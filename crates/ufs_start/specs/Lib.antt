@@ -1,7 +1,6 @@
 pub mod Numbers
 pub mod Starts
 pub mod Extents
-pub mod Lacks
 pub mod Refused
 pub mod Begun
 pub mod Copies

@@ -17,7 +17,7 @@ use Rattle.ufs_layout.specs.DentryForm.{DentryForm}
 use Rattle.ufs_layout.specs.declared.geometry.Geometry.{Geometry}
 use Rattle.ufs_layout.specs.InodeForm.{InodeForm}
 use Rattle.ufs_opening.specs.Told.{TellsWhy}
-use Rattle.ufs_start.specs.Lacks.{IsOfNumbers}
+use Rattle.ufs_catalog.specs.Lacks.{IsOfNumbers}
 use Rattle.ufs_start.specs.Starts.{IsUndamaged}
 use Rattle.ufs_start.specs.declared.fault.StartFault.{StartFault}
 use Rattle.ufs_start.specs.declared.fault.StartFault.TheVariants.{Image, Unreached, Unnamed, ExtraBlocks}

@@ -1,7 +1,9 @@
 // How far the directories of an image use its data area.
 ghost use Rattle.std.specs.Prelude.{ℕ, ◌≡◌, ◌≤◌, ◌<◌, ◌*◌, Ok, IfOk, IfErr, OnOk};
 ghost use Rattle.ufs_disk.specs.Bytes.{image_of};
+ghost use Rattle.ufs_base.specs.declared.lack.Lack.{Lack};
 ghost use Rattle.ufs_catalog.specs.Faults.{HasFaultCause, IsOutside};
+ghost use Rattle.ufs_catalog.specs.Lacks.{IsOfNumbers};
 ghost use Rattle.ufs_catalog.specs.declared.fault.RecoverFault.TheVariants as cause;
 ghost use Rattle.ufs_image.specs.Agree.{IsOfDir};
 ghost use Rattle.ufs_image.specs.Catalog.{catalog_at};
@@ -60,9 +62,11 @@ fn end_of_forms(forms: &[Option<Inode>]) -> u32
 fn end_without(geometry: &Geometry, fault: RecoverFault) -> Result<u32, Lack>
     requires geometry { IsGeometry geometry.now }
     requires calm { HasFaultCause 0 0 fault }
+    requires lack { (w : Lack) → fault ≡ cause.Lack w → IsOfNumbers w }
     ensures end { IfOk result (λ end. end ≡ first_of_data geometry.now) }
     ensures refused { OnOk result (IsOfImage fault) }
     ensures told { IfErr result (λ lack. fault ≡ cause.Lack lack) }
+    ensures lack { IfErr result IsOfNumbers }
 {
     match fault {
         RecoverFault::Lack(lack) => Err(lack),
@@ -75,7 +79,8 @@ fn end_without(geometry: &Geometry, fault: RecoverFault) -> Result<u32, Lack>
 fn lack_of(fault: RecoverFault) -> Lack
     requires outside { IsOutside fault }
     requires calm { HasFaultCause 0 0 fault }
-    ensures { fault ≡ cause.Lack result }
+    ensures told { fault ≡ cause.Lack result }
+    ensures lack { IsOfNumbers result }
 {
     match fault {
         RecoverFault::Lack(lack) => lack,
@@ -98,6 +103,7 @@ pub(crate) fn end_of_used(
     ensures behind { IfOk result (λ end. (v : Volume) → volume copy.old.sectors (image_of (bytes_of copy.old)) ≡ Ok v → (sector : ℕ) → sector < sector_count geometry.now → IsOfDir geometry.now (catalog_at geometry.now v.image) sector → sector < 8 * end) }
     ensures image { image_of (bytes_of copy.new) ≡ image_of (bytes_of copy.old) }
     ensures sectors { copy.new.sectors ≡ copy.old.sectors }
+    ensures lack { IfErr result IsOfNumbers }
 {
     let volume = match read_volume(alloc, copy) {
         Ok(volume) => volume,

@@ -8,7 +8,7 @@ ghost use Rattle.ufs_layout.specs.Superblock.{geometry_of, is_super};
 ghost use Rattle.ufs_layout.specs.declared.records.LogRecord.{LogRecord};
 ghost use Rattle.ufs_ledger.specs.Changes.{opening_ledger, settled};
 ghost use Rattle.ufs_ledger.specs.Ledger.{IsLedgerOf, IsLeftBy, Ledger};
-ghost use Rattle.ufs_store.specs.Ends.{IsLackOf};
+ghost use Rattle.ufs_store.specs.Ends.{IsLackOf, IsMemory};
 ghost use Rattle.ufs_store.specs.Ledgers.{HasAny, HasLedger, IsLeftByAny, MayCommitNext, after_commit, checkpointed, stages};
 ghost use Rattle.ufs_store.specs.Mounting.{IsMountable, in_use, marking};
 ghost use Rattle.ufs_store.specs.Numbers.{HasRaised};
@@ -75,6 +75,7 @@ impl<D: Disk> Store<D> {
         ensures cause { IfErr result (λ u. IsTold (D.faults disk) (D.faults u.disk) (fault_of u.fault)) }
         ensures refused { IfErr result (λ u. IsTrue (is_own u.fault)) }
         ensures memory { IfErr result (λ u. (w : Lack) → u.fault ≡ refusal.Lack w → u.disk ≡ disk) }
+        ensures lack { IfErr result (λ u. (w : Lack) → u.fault ≡ refusal.Lack w → IsMemory w) }
     {
         let superblock = Super {
             clean: false,

@@ -66,7 +66,7 @@ module _ (sectors : ℕ) (disk : Image) where
   why_superblock (bad_record sector) is = superblock_refused (image.BadRecord sector) is
   why_superblock (bad_tree inode) is = superblock_refused (image.BadTree inode) is
   why_superblock (Device fault) is = tt
-  why_superblock (Lack _) is = tt
+  why_superblock (Lack why) is = is
 
   module _ (s : Super) (superblock : s ≡ superblock_of disk) (taken : superblock_refusal sectors disk ≡ None) where
     by_bad : (o : Option ℕ) → bad_sector (geometry_of s) s disk ≡ o → volume sectors disk ≡ by_journal disk o
@@ -82,7 +82,7 @@ module _ (sectors : ℕ) (disk : Image) where
     why_journal (bad_record sector) is = by_bad (Some sector) is
     why_journal (bad_tree inode) is = absurd is
     why_journal (Device fault) is = tt
-    why_journal (Lack _) is = tt
+    why_journal (Lack why) is = is
 
 -- ---- what was read behind the superblock, while the disk still reads as before
 module _ (sectors : ℕ) (disk mid : Image) (content : mid ≡ disk) (h : ImageSuperblock) (superblock : h.superblock ≡ superblock_of disk) (taken : superblock_refusal sectors disk ≡ None) where

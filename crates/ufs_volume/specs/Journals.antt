@@ -8,6 +8,7 @@ use Rattle.ufs_layout.specs.declared.records.Committed.{Committed}
 use Rattle.ufs_image.specs.Fold.{is_in_range}
 use Rattle.ufs_scan.specs.declared.fault.ScanFault.{ScanFault}
 use Rattle.ufs_scan.specs.declared.fault.ScanFault.TheVariants as scan
+use Rattle.ufs_catalog.specs.Lacks.{IsOfNumbers}
 use Rattle.ufs_catalog.specs.declared.fault.RecoverFault.{RecoverFault}
 use Rattle.ufs_catalog.specs.declared.fault.RecoverFault.TheVariants.{NoSuperblock, BadVersion, BadGeometry, BadRecord, BadTree, Device, Lack}
 
@@ -33,4 +34,4 @@ IsJournalRefusal lowest (BadGeometry number) = ⊥
 IsJournalRefusal lowest (BadRecord sector) = lowest ≡ Some sector
 IsJournalRefusal lowest (BadTree inode) = ⊥
 IsJournalRefusal lowest (Device fault) = Unit {0}
-IsJournalRefusal lowest (Lack _) = Unit {0}
+IsJournalRefusal lowest (Lack why) = IsOfNumbers why

@@ -1,5 +1,7 @@
 use Rattle.std.proofs.Common.{◌≡◌, ◌≤◌, [], refl, ap, sym, ◌∙◌, subst}
 use Rattle.ufs_base.specs.Images.{Image}
+use Rattle.ufs_catalog.specs.Lacks.{IsOfNumbers}
+use Rattle.ufs_catalog.specs.declared.fault.RecoverFault.TheVariants.{Lack}
 use Rattle.ufs_disk.specs.Moments.{Moments, reads}
 use Rattle.ufs_disk.proofs.Runs.{started, weaker}
 use Rattle.ufs_image.specs.Volume.{Volume, superblock_of}
@@ -162,6 +164,9 @@ returns-in-Ok-open_over-clause-moments g c visible clean tree with_tree =
     weaker g.D.Disk.keeps (IsLeftBy size (marking s.superblock.superblock (reads old))) (IsExplainedImage size tree [])
     (λ image by. record { explained = law.explained size old.state s tree image is with_tree by; proper = law.proper size old.state s image is by })
     old (g.D.Disk.moments left.disk) (m.crash visible (law.mountable size old.state s is))
+
+pub returns-in-Err-open_over-clause-outside : goal.returns-in-Err-open_over-clause-outside
+returns-in-Err-open_over-clause-outside g c = (Lack c.from.result, refl, subst IsOfNumbers (sym c.from.ensures) tt)
 
 pub returns-in-Err-open_over-clause-err_moments : goal.returns-in-Err-open_over-clause-err_moments
 returns-in-Err-open_over-clause-err_moments g c visible clean tree with_tree =

@@ -1,5 +1,7 @@
 use Rattle.std.proofs.Common.{◌≡◌, ◌≤◌, [], refl, ap, sym, ◌∙◌, subst}
 use Rattle.ufs_bitmap.specs.Space.{Space}
+use Rattle.ufs_catalog.specs.Lacks.{IsOfNumbers}
+use Rattle.ufs_catalog.specs.declared.fault.RecoverFault.TheVariants.{Lack}
 use Rattle.ufs_disk.specs.Disk.{State, seen}
 use Rattle.ufs_disk.specs.Moments.{reads}
 use Rattle.ufs_disk.proofs.Runs.{started, weaker}
@@ -46,6 +48,9 @@ returns-in-Err-clause-err_moments g c visible clean begun start with_it =
     let size = g.D.Disk.size c.args.disk in
     let old = g.D.Disk.moments c.args.disk in
     started g.D.Disk.keeps (IsExplainedImage size start []) old (clean_explained c.a_request_keeps_the_tree.ensures size old.state start clean with_it)
+
+pub returns-in-Err-open-clause-outside : goal.returns-in-Err-open-clause-outside
+returns-in-Err-open-clause-outside g c = (Lack c.from.result, refl, subst IsOfNumbers (sym c.from.ensures) tt)
 
 pub returns-in-Err-open-clause-err_moments : goal.returns-in-Err-open-clause-err_moments
 returns-in-Err-open-clause-err_moments g c visible clean begun start with_it =

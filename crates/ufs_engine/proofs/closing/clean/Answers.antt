@@ -49,3 +49,11 @@ returns-in-Ok-clause-recovered g c visible proper used =
     (c.in-Ok.ensures.recovered visible
     (subst (λ (sectors : ℕ). IsProperDisk sectors mid.state) (sym c.barrier.ensures.size) (proper_behind (g.D.Disk.size c.args.disk.now) (g.D.Disk.moments c.args.disk.now).state mid.state same (c.in_default.ensures.ok visible) proper))
     (ap (λ (d : Image). (superblock_of d).clean) same ∙ used))
+
+pub returns-in-Err-recover-clause-sound : goal.returns-in-Err-recover-clause-sound
+returns-in-Err-recover-clause-sound g c visible proper =
+    let mid = g.D.Disk.moments c.barrier.new.self in
+    let behind : IsProperDisk (g.D.Disk.size c.barrier.new.self) mid.state =
+    subst (λ (sectors : ℕ). IsProperDisk sectors mid.state) (sym c.barrier.ensures.size)
+    (proper_behind (g.D.Disk.size c.args.disk.now) (g.D.Disk.moments c.args.disk.now).state mid.state (c.barrier.ensures.content visible) (c.in_default.ensures.ok visible) proper) in
+    c.unclean.ensures.sound (c.in-Err-recover.ensures.outside visible behind.proper)

@@ -95,3 +95,15 @@ returns-clause-numbers g c visible =
     (g.D.Disk.size c.into_disk-disk.result) c.into_disk-disk.ensures.size g.D.Disk.keeps (c.clean-ended.ensures.tree visible) in
     closes_from _ _ start history _ c.args.server on_disk c.sync_all.ensures.geometry c.sync_all.ensures.raised all (reads before) behind (ap reads c.into_disk-disk.ensures.moments) (recovered proper))
     (c.clean-ended.ensures.recovered visible)
+
+-- ---- what isn't sound
+
+pub returns-in-Err-clause-sound : goal.returns-in-Err-clause-sound
+returns-in-Err-clause-sound g c visible start history on_disk = c.fault_of.ensures.sound
+
+pub returns-clause-sound : goal.returns-clause-sound
+returns-clause-sound g c visible start history on_disk =
+    c.clean-ended.ensures.sound visible
+    (proper_given c.geometry-geometry.result c.on_disk_law.ensures.explained c.on_disk_law.ensures.proper c.last_law.ensures (g.D.Disk.size c.args.store.disk) _ start history _
+    (c.sync_all.ensures.geometry ∙ sym c.geometry-geometry.ensures.is) c.sync_all.ensures.sectors (c.in_default.ensures.ok visible start history on_disk) (g.D.Disk.moments c.into_disk-disk.result) (g.D.Disk.moments c.clean-ended.new.disk) c.into_disk-disk.ensures.moments
+    (g.D.Disk.size c.into_disk-disk.result) c.into_disk-disk.ensures.size g.D.Disk.keeps (c.clean-ended.ensures.tree visible))

@@ -1,5 +1,5 @@
 use Rattle.std.proofs.Common.{sym, subst}
-use Rattle.std.proofs.lemmas.Result.{on_ok_weaker}
+use Rattle.std.proofs.lemmas.Result.{err_from_is_err_and, on_ok_weaker}
 use Rattle.ufs_disk.specs.Moments.{reads}
 use Rattle.ufs_disk.proofs.Runs.{started}
 use Rattle.ufs_volume.specs.Volumes.{volume_in, folded_image}
@@ -7,8 +7,14 @@ use Rattle.ufs_recovery.specs.Finished.{HasFinished, MayFinish}
 use Rattle.ufs_recovery.specs.Home.{HasBegun, KeepsTree}
 use Rattle.ufs_recovery.proofs.Done.{was_done}
 use Rattle.ufs_recovery.proofs.Finished.{is_written, may_finish, may_follow, over}
+use Rattle.ufs_recovery.proofs.PlanLacks.{of_numbers}
 use Rattle.ufs_recovery.proofs.SuperblockPut.{kept_on, still_opens}
 use Rattle.ufs_recovery.proofs.finishing.write_back.Goals as goal
+
+pub returns-in_err-plan-clause-outside : goal.returns-in_err-plan-clause-outside
+returns-in_err-plan-clause-outside g c =
+    let p = err_from_is_err_and c.from_residual.result c.from_residual.ensures.1 in
+    rw (p.1, p.2) (of_numbers c.args.volume.now.superblock.superblock c.args.findings.now.forms c.args.volume.now.highest _ c.in_err-plan.ensures.lack)
 
 pub returns-in_err-plan-clause-tree : goal.returns-in_err-plan-clause-tree
 returns-in_err-plan-clause-tree g c visible settled may = started _ _ _ (still_opens (g.D.Disk.size c.args.disk.now) (g.D.Disk.moments c.args.disk.now).state settled)

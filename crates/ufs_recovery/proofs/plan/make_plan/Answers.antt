@@ -1,7 +1,8 @@
-use Rattle.std.proofs.Common.{Option, length, ap, sym, ◌∙◌, subst, arith}
+use Rattle.std.proofs.Common.{Option, inl, inr, ⊎_elim, length, ap, sym, ◌∙◌, subst, arith}
 use Rattle.ufs_layout.specs.InodeForm.{InodeForm}
 use Rattle.ufs_walk.specs.Reached.{AreReachedMarks}
 use Rattle.ufs_image.specs.Catalog.{catalog_at}
+use Rattle.ufs_recovery.specs.Orphans.{AreNumbersBelow}
 use Rattle.ufs_recovery.proofs.Planned.{are_orphans, are_orphan_dirs, number_below, numbers_below}
 use Rattle.ufs_recovery.proofs.plan.make_plan.Goals as goal
 
@@ -33,3 +34,12 @@ returns-in-Some-clause-least c folded found n from over below =
     let most = c.max-highest.ensures in
     let under = c.highest_number.ensures.least n (omega (arith, over)) (numbers_below g folded c.forms-2.result.now (c.forms-2.ensures ∙ found.forms) n below) in
     omega (arith, from, over, next, most, under)
+
+pub returns-clause-lack : goal.returns-clause-lack
+returns-clause-lack c =
+    let most = c.max-highest.ensures in
+    ⊎_elim (λ epoch. inl epoch)
+    (λ end. inr (λ n over below.
+    let under = c.highest_number.ensures.least n (omega (arith, over)) (subst (λ forms. AreNumbersBelow forms n) (sym c.forms-2.ensures) below) in
+    omega (arith, over, most, under, end)))
+    c.in-None.ensures.none

@@ -1,4 +1,5 @@
 use Rattle.std.proofs.Common.{ℕ, List, ap, sym, ◌∙◌, arith}
+use Rattle.std.proofs.lemmas.Result.{err_from_is_err_and}
 use Rattle.ufs_base.specs.Images.{Image}
 use Rattle.ufs_catalog.proofs.Quiet.{read_more}
 use Rattle.ufs_disk.specs.Bytes.{image_of}
@@ -41,3 +42,8 @@ returns-in_err-copy_blocks-clause-read_only g c visible =
 pub returns-clause-read_only : goal.returns-clause-read_only
 returns-clause-read_only g c visible =
     read_more g.D.Disk.keeps (g.D.Disk.moments c.args.disk.now) (g.D.Disk.moments c.metadata_of.new.disk) (g.D.Disk.moments c.copy_blocks.new.disk) (c.metadata_of.ensures.read_only visible) (c.copy_blocks.ensures.read_only visible)
+
+pub returns-in_err-end-clause-outside : goal.returns-in_err-end-clause-outside
+returns-in_err-end-clause-outside g c =
+    let p = err_from_is_err_and c.from_residual-in_err-end.result c.from_residual-in_err-end.ensures.1 in
+    rw (p.1, p.2) c.in_err-end.ensures.lack

@@ -1,11 +1,12 @@
 use Rattle.std.proofs.Common.{◌≡◌, ◌≤◌, Ok, refl, sym, ◌∙◌, subst, arith}
 use Rattle.std.specs.Prelude.{Result, min}
 use Rattle.ufs_base.specs.Images.{Image}
+use Rattle.ufs_catalog.specs.Faults.{IsWhyNot}
 use Rattle.ufs_catalog.specs.Folded.{IsFolded}
 use Rattle.ufs_disk.specs.Bytes.{image_of}
 use Rattle.ufs_image.specs.Agree.{IsOfDir}
 use Rattle.ufs_image.specs.Catalog.{catalog_at}
-use Rattle.ufs_image.specs.Volume.{Refusal, Volume}
+use Rattle.ufs_image.specs.Volume.{Refusal, Volume, volume}
 use Rattle.ufs_volume.specs.Volumes.{folded_image, volume_in}
 use Rattle.ufs_volume.proofs.Folds.{is_folded}
 use Rattle.ufs_start.specs.Ends.{end_of_forms}
@@ -15,6 +16,9 @@ use Rattle.ufs_start.proofs.used.end_of_used.Goals as goal
 
 same_volume : (v w : Volume) → ◌≡◌ {A = Result Volume Refusal} (Ok v) (Ok w) → v ≡ w
 same_volume v w e = cc
+
+pub end_without-requires-clause-lack : goal.end_without-requires-clause-lack
+end_without-requires-clause-lack c w is = subst (IsWhyNot (volume c.args.copy.now.sectors (image_of (bytes_of c.args.copy.now)))) is (c.in-Err.ensures.refused refl)
 
 pub returns-in-Err-clause-image : goal.returns-in-Err-clause-image
 returns-in-Err-clause-image c = (c.read_volume.ensures.read_only refl).content

@@ -13,10 +13,10 @@ told t now same names e is = ap (λ (t : NameTable). refusal_by (node_at t) [] n
 
 pub returns-clause-refused : goal.returns-clause-refused
 returns-clause-refused c =
-    let t : NameTable = record { dirs = c.self.inside.dirs; files = c.self.inside.files.items; noted = c.self.inside.notes } in
+    let t : NameTable = record { dirs = c.self.inside.dirs; files = c.self.inside.files.items; noted = c.self.inside.notes; lost = c.self.inside.lost } in
     IfErr-weaker c.look.result _ _ (λ e is. told t c.args.self.now c.self.view_is c.args.path.now (Some e) is) c.look.ensures.refused
 
 pub returns-clause-passed : goal.returns-clause-passed
 returns-clause-passed c =
-    let t : NameTable = record { dirs = c.self.inside.dirs; files = c.self.inside.files.items; noted = c.self.inside.notes } in
+    let t : NameTable = record { dirs = c.self.inside.dirs; files = c.self.inside.files.items; noted = c.self.inside.notes; lost = c.self.inside.lost } in
     IfOk-weaker c.look.result _ _ (λ l is. told t c.args.self.now c.self.view_is c.args.path.now None is) c.look.ensures.passed

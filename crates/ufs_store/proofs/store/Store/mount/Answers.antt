@@ -1,11 +1,16 @@
-use Rattle.std.proofs.Common.{ℕ, refl, sym, subst, arith}
+use Rattle.std.proofs.Common.{◌≡◌, ℕ, refl, sym, subst, arith}
 use Rattle.ufs_disk.specs.Disk.{State}
 use Rattle.ufs_layout.specs.declared.geometry.Geometry.{Geometry}
 use Rattle.ufs_journal.specs.Kept.{IsReady, IsUnused}
+use Rattle.ufs_base.specs.declared.lack.Lack.TheVariants.{Memory}
+use Rattle.ufs_store.specs.Ends.{IsMemory}
 use Rattle.ufs_store.proofs.store.Store.mount.Goals as goal
 
 pub returns-in-Err-clause-err_crash : goal.returns-in-Err-clause-err_crash
 returns-in-Err-clause-err_crash g c visible is some = absurd (some _ refl)
+
+pub returns-in-Err-clause-lack : goal.returns-in-Err-clause-lack
+returns-in-Err-clause-lack g c w is = subst IsMemory (let same : Memory c.in-Err.memory ≡ w = (let both = is in cc) in same) tt
 
 pub returns-in-Ok-mark_in_use-clause-crash : goal.returns-in-Ok-mark_in_use-clause-crash
 returns-in-Ok-mark_in_use-clause-crash g c visible is = c.mark_in_use.ensures.crash visible c.args.superblock refl is

@@ -1,8 +1,8 @@
--- What a start may lack.
+-- What whoever reads an image may lack.
 use Rattle.ufs_base.specs.declared.lack.Lack.{Lack}
 use Rattle.ufs_base.specs.declared.lack.Lack.TheVariants.{Memory, AtEnd}
 
--- It is memory, or a number for one more file.
+-- It is memory, or a number for one more.
 abbrev pub IsOfNumbers : Lack → Type 0
 IsOfNumbers (Memory memory) = Unit {0}
 IsOfNumbers AtEnd = Unit {0}
