@@ -1,5 +1,5 @@
 -- Hands that come to one, one after the other.
-use Rattle.std.proofs.Common.{◌≡◌, ℕ, List, [], ◌∷◌, ◌++◌, append_assoc, ap, sym, refl, ◌∙◌}
+use Rattle.std.proofs.Common.{◌≡◌, ℕ, List, [], ◌∷◌, ◌++◌, append_assoc, Option, Some, None, inl, inr, ap, sym, refl, ◌∙◌}
 use Rattle.std.specs.List.{AllByRecursion}
 use Rattle.std.proofs.lemmas.List.{append-nil}
 use Rattle.ufs_held.specs.Held.{HasFileAlone}
@@ -7,7 +7,6 @@ use Rattle.ufs_held.specs.Together.{HasThemToo, under_numbers}
 use Rattle.ufs_joint.specs.Cells.{FileCell, View, both_of}
 use Rattle.ufs_sound.specs.Owned.{Has}
 use Rattle.ufs_sound.specs.Parts.{either}
-use Rattle.std.proofs.Common.{Option, Some, None, inl, inr}
 use Rattle.ufs_gathered.specs.Gathered.{all_in, with_all}
 
 -- the last one
@@ -27,9 +26,6 @@ module _ {A : Type 0} (part : View → List A) where
   none_joined P none (u ∷ us) each = (λ i. none u each.0 i ++ none_joined P none us each.1 i)
 
 -- ---- files
-
-pub none_back : (v : View) → HasThemToo [] v v
-none_back v = record { clients = refl; asked = refl; files = sym (append-nil v.files); pools = refl; names = refl; store = refl; faults = refl; stop = λ fault told. told }
 
 under_push : (cells : List FileCell) (c : FileCell) → under_numbers (cells ++ c ∷ []) ≡ under_numbers cells ++ (c.value.file.file, c) ∷ []
 under_push [] c = refl

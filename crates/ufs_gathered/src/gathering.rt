@@ -30,8 +30,8 @@ pub(crate) struct Gathered<N: Naming, S: Door> {
     pub store: S,
 }
 
-/// These hands come to this one, one after the other.
-pub fn gather_hands<N: Naming>(table: &HandTable<N>, hand: &mut Hand<N>, hands: Vec<Hand<N>>)
+// These hands come to this one, one after the other.
+pub(crate) fn gather_hands<N: Naming>(table: &HandTable<N>, hand: &mut Hand<N>, hands: Vec<Hand<N>>)
     ensures { hand.new ≡ with_all hand.old hands.items }
 {
     for other in hands {
@@ -39,8 +39,12 @@ pub fn gather_hands<N: Naming>(table: &HandTable<N>, hand: &mut Hand<N>, hands: 
     }
 }
 
-/// The rights to the cells of these files come to the hand. The files themselves are let go.
-pub fn gather_files<N: Naming>(table: &HandTable<N>, hand: &mut Hand<N>, files: Vec<HeldFile<N>>)
+// The rights to the cells of these files come to the hand. The files themselves are let go.
+pub(crate) fn gather_files<N: Naming>(
+    table: &HandTable<N>,
+    hand: &mut Hand<N>,
+    files: Vec<HeldFile<N>>,
+)
     ensures { HasThemToo files.items hand.old hand.new }
 {
     for file in files {

@@ -5,4 +5,4 @@ mod ending;
 mod gathering;
 
 pub use ending::{Ended, end};
-pub use gathering::{Actors, gather_files, gather_hands};
+pub use gathering::Actors;

@@ -6,6 +6,7 @@ use Rattle.ufs_bitmap.specs.Blocks.{BlockSet}
 use Rattle.ufs_durable.specs.State.{state_of}
 use Rattle.ufs_file.specs.Hand.{FileState, IsEntryOf}
 use Rattle.ufs_files.specs.Files.{Files}
+use Rattle.ufs_model.specs.Asks.{fd_told}
 use Rattle.ufs_model.specs.History.{is_excused}
 use Rattle.ufs_model.specs.declared.data.Actor.{Actor}
 use Rattle.ufs_model.specs.declared.data.Ask.{Ask}
@@ -44,6 +45,7 @@ pub record HasDrawnAlone (ask : Ask) (by : Actor) (x y : Noted) (pool left : Blo
   pub untaken : is_excused e.reply ≡ true → left ≡ pool
   pub none : is_excused e.reply ≡ true → file ≡ None
   pub desc : is_excused e.reply ≡ true → d ≡ ask.desc
+  pub no_desc : fd_told e.op e.reply ≡ None → d ≡ None
   pub faults : z.faults ≡ j.faults
   pub later : j.seen ≤ e.ticket
 
@@ -148,6 +150,8 @@ module _ (ask : Ask) (by : Actor) (x y : Noted) (pool left : BlockSet) (file : O
     none_made = λ is. ap (λ (o : Option FileState). made_in o z) (drew.none is);
     untaken = drew.untaken;
     desc = drew.desc;
+    no_desc = drew.no_desc;
+    not_both = λ some. absurd cc;
     faults = parted_faults (made_number file) z ∙ drew.faults ∙ ap (λ (v : View). v.faults) joined ∙ ap (λ (fs : List ℕ). fs ++ guest.faults) calm;
     later = came_below own guest j e.ticket joined drew.later;
     seen = parted_seen (made_number file) z ∙ ap (λ (v : View). v.seen) drew.cells;

@@ -14,3 +14,5 @@ mod AnsweringAll
 mod Looking
 mod Births
 mod Answered
+pub mod Untold
+mod Refusing

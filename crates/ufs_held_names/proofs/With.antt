@@ -6,6 +6,7 @@ use Rattle.ufs_bitmap.specs.Blocks.{BlockSet}
 use Rattle.ufs_durable.specs.State.{DurableState, state_of}
 use Rattle.ufs_file.specs.Hand.{IsEntryOf}
 use Rattle.ufs_files.specs.Files.{Files}
+use Rattle.ufs_model.specs.Asks.{fd_told}
 use Rattle.ufs_model.specs.History.{is_excused}
 use Rattle.ufs_model.specs.declared.data.Actor.{Actor}
 use Rattle.ufs_model.specs.declared.data.Ask.{Ask}
@@ -46,6 +47,7 @@ pub record HasDrawnWith (ask : Ask) (by : Actor) (x y : Noted) (pool left : Bloc
   pub untaken : is_excused e.reply ≡ true → left ≡ pool
   pub kept : is_excused e.reply ≡ true → then ≡ Some file
   pub desc : is_excused e.reply ≡ true → d ≡ ask.desc
+  pub no_desc : fd_told e.op e.reply ≡ None → d ≡ None
   pub faults : z.faults ≡ j.faults
   pub later : j.seen ≤ e.ticket
 
@@ -205,6 +207,8 @@ module _ (ask : Ask) (by : Actor) (x y : Noted) (pool left : BlockSet) (file : K
     none_made = λ is. refl;
     untaken = drew.untaken;
     desc = drew.desc;
+    no_desc = drew.no_desc;
+    not_both = λ some. refl;
     faults = parted_faults (known_number then) z ∙ drew.faults ∙ ap (λ (v : View). v.faults) joined ∙ (λ i. (calm i ++ calm_lent i) ++ guest.faults);
     later = came_below (both_of own lent) guest j e.ticket joined drew.later;
     seen = parted_seen (known_number then) z ∙ ap (λ (v : View). v.seen) drew.cells;

@@ -4,6 +4,7 @@ use Rattle.std.specs.FinMap as map
 use Rattle.ufs_bitmap.specs.Blocks.{BlockSet}
 use Rattle.ufs_file.specs.Hand.{IsEntryOf}
 use Rattle.ufs_files.specs.Files.{Files}
+use Rattle.ufs_model.specs.Asks.{fd_told}
 use Rattle.ufs_model.specs.History.{is_excused}
 use Rattle.ufs_model.specs.declared.data.Actor.{Actor}
 use Rattle.ufs_model.specs.declared.data.Ask.{Ask}
@@ -59,6 +60,8 @@ pub record HasCome (ask : Ask) (by : Actor) (was now : NamesCell) (old new : Blo
   pub names : is_excused e.reply ≡ false → now ≡ names_then (noted_in now) e.ticket was
   pub file : is_excused e.reply ≡ false → IfSome still (IsStillThere e.ticket touched)
   pub made : IfSome young (IsNewborn was.value.next e.ticket)
+  -- no file is made where the touched one is still there
+  pub not_both : IsSome still → young ≡ None
   -- each live file was live before, or is the one that was made; and the touched one is live no more where it isn't still there
   pub lives : (f : ℕ) → IsSome (map.get now.value.held f) → IsSome (map.get was.value.held f) ⊎ (number_of young ≡ Some f)
   -- the next file number is one more where a file was made
@@ -70,6 +73,8 @@ pub record HasCome (ask : Ask) (by : Actor) (was now : NamesCell) (old new : Blo
   pub none_made : is_excused e.reply ≡ true → young ≡ None
   pub untaken : is_excused e.reply ≡ true → new ≡ old
   pub desc : is_excused e.reply ≡ true → d ≡ ask.desc
+  -- a request without a descriptor is told none
+  pub no_desc : fd_told e.op e.reply ≡ None → d ≡ None
   pub faults : back.faults ≡ before.faults
   pub later : before.seen ≤ e.ticket
   pub seen : back.seen ≡ suc e.ticket

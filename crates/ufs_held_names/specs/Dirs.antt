@@ -35,6 +35,15 @@ pub record AsksDir (part : ClientPart) (ask : Ask) : Type 0 where
   pub of : desc.file ≡ None
   pub told : (t : PosixTree) → ((n : ℕ) → fin.get part.fds n ≡ desc_at t ask.client n) → IsAsk t ask
 
+-- The client asked for an `fsync` of a descriptor that it doesn't have.
+pub record AsksUnopened (part : ClientPart) (ask : Ask) : Type 0 where
+  pub low : ask.client < 16
+  pub asked : part.asked ≡ Some ask.op
+  pub seq : ask.seq ≡ length part.entries
+  pub fd : ℕ
+  pub op_is : ask.op ≡ op.Fsync fd
+  pub none : fin.get part.fds fd ≡ None
+
 -- The client has one more entry, and asks nothing; its descriptors stay.
 abbrev pub answered : ClientPart → Entry → ClientPart
 answered part e = record part { entries = part.entries ++ e ∷ []; asked = None }

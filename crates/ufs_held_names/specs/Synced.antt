@@ -67,8 +67,8 @@ pub record HasSynced (visible : Bool) (ask : Ask) (by : Actor) (old new : NamesC
   pub known : e.reply ≡ reply.Done → visible ≡ true → now.changed ≤ now.known
   pub born : e.reply ≡ reply.Done → now.born ≡ true
   pub rest : now ≡ record was { value = now.value; known = now.known; born = now.born }
-  pub kept : is_excused e.reply ≡ true → now ≡ record was { born = now.born }
-  pub kept_names : is_excused e.reply ≡ true → (new ≡ old) ⊎ AreCommitted visible old new
+  -- the names' commit failed, and all is as it was; or the file's did, which knows its birth then
+  pub short : is_excused e.reply ≡ true → ((new ≡ old) × (now ≡ was)) ⊎ (AreCommitted visible old new × (now ≡ record was { born = true }))
   pub faults : back.faults ≡ before.faults
   pub stop : (fault : ℕ) → e.reply ≡ reply.Excused (excuse.Stopped fault) → back.stop ≡ Some fault
   pub freed : e.reply ≡ reply.Done → AreTold tells told (λ had has. has ≡ set.union had (set_of was.value.dropped))

@@ -5,6 +5,7 @@ ghost use Rattle.ufs_bitmap.specs.Blocks.{BlockSet};
 ghost use Rattle.ufs_durable.specs.State.{state_of};
 ghost use Rattle.ufs_file.specs.Hand.{IsEntryOf};
 ghost use Rattle.ufs_layout.specs.Areas.{IsGeometry};
+ghost use Rattle.ufs_model.specs.Asks.{fd_told};
 ghost use Rattle.ufs_model.specs.History.{is_excused};
 ghost use Rattle.ufs_model.specs.declared.data.Excuse.{Excuse};
 ghost use Rattle.ufs_model.specs.declared.data.Reply.TheVariants as reply;
@@ -62,6 +63,7 @@ pub(crate) fn draw_alone<N: Naming>(
     ensures untaken { is_excused result.applied.entry.reply ≡ true → pool.new ≡ pool.old }
     ensures none { is_excused result.applied.entry.reply ≡ true → result.file ≡ None }
     ensures desc { is_excused result.applied.entry.reply ≡ true → result.applied.desc ≡ ask.desc }
+    ensures no_desc { fd_told result.applied.entry.op result.applied.entry.reply ≡ None → result.applied.desc ≡ None }
     ensures faults { right.new.faults ≡ right.old.faults }
     ensures later { right.old.seen ≤ result.applied.entry.ticket }
 {
@@ -137,6 +139,7 @@ pub(crate) fn draw_with<N: Naming>(
     ensures untaken { is_excused result.applied.entry.reply ≡ true → pool.new ≡ pool.old }
     ensures kept { is_excused result.applied.entry.reply ≡ true → result.file ≡ Some file }
     ensures desc { is_excused result.applied.entry.reply ≡ true → result.applied.desc ≡ ask.desc }
+    ensures no_desc { fd_told result.applied.entry.op result.applied.entry.reply ≡ None → result.applied.desc ≡ None }
     ensures faults { right.new.faults ≡ right.old.faults }
     ensures later { right.old.seen ≤ result.applied.entry.ticket }
 {

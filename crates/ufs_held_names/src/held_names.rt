@@ -6,6 +6,7 @@ ghost use Rattle.ufs_bitmap.specs.Blocks.{BlockSet};
 ghost use Rattle.ufs_bitmap.specs.Taking.{set_of};
 ghost use Rattle.ufs_file.specs.Hand.{IsEntryOf, IsOf};
 ghost use Rattle.ufs_layout.specs.Areas.{IsGeometry};
+ghost use Rattle.ufs_model.specs.Asks.{fd_told};
 ghost use Rattle.ufs_model.specs.History.{is_excused};
 ghost use Rattle.ufs_model.specs.declared.data.Excuse.{Excuse};
 ghost use Rattle.ufs_model.specs.declared.data.Excuse.TheVariants as excuse;
@@ -38,7 +39,7 @@ use crate::dirs::fsync_dir_lent;
 use crate::newborn::Newborn;
 use crate::seeing::{see_live, see_numbers};
 use crate::serving::serve_any;
-use crate::sync_all::sync_lent;
+use crate::sync_all::{commit_all, sync_lent};
 use crate::syncs::fsync_lent;
 use std::marker::Model;
 use ufs_base::Memory;
@@ -190,6 +191,8 @@ impl<N: Naming> HeldNames<N> {
         ensures names { is_excused result.entry.reply ≡ false → self.new ≡ names_then (noted_in self.new) result.entry.ticket self.old }
         ensures file { is_excused result.entry.reply ≡ false → IfSome result.file (IsStillThere result.entry.ticket file) }
         ensures made { IfSome result.made (IsNewborn self.old.value.next result.entry.ticket) }
+        // no file is made where the touched one is still there
+        ensures not_both { IsSome result.file → result.made ≡ None }
         // each live file was live before, or is the one that was made; the touched one is live no more where it isn't given back
         ensures lives { (f : ℕ) → IsSome (fin.get self.new.value.held f) → IsSome (fin.get self.old.value.held f) ⊎ (number_of result.made ≡ Some f) }
         ensures gone { is_excused result.entry.reply ≡ false → result.file ≡ None → IfSome file (λ c. fin.get self.new.value.held c.value.file.file ≡ None) }
@@ -200,6 +203,8 @@ impl<N: Naming> HeldNames<N> {
         ensures none_made { is_excused result.entry.reply ≡ true → result.made ≡ None }
         ensures untaken { is_excused result.entry.reply ≡ true → pool.new ≡ pool.old }
         ensures desc { is_excused result.entry.reply ≡ true → result.desc ≡ ask.desc }
+        // a request without a descriptor is told none
+        ensures no_desc { fd_told result.entry.op result.entry.reply ≡ None → result.desc ≡ None }
         // no fault that the guest was told before excuses it
         ensures faults { result.guest.faults ≡ guest.faults }
         ensures later { guest.seen ≤ result.entry.ticket }
@@ -277,8 +282,8 @@ impl<N: Naming> HeldNames<N> {
         ensures known { result.entry.reply ≡ reply.Done → N.start.is_visible ≡ true → result.file.changed ≤ result.file.known }
         ensures born { result.entry.reply ≡ reply.Done → result.file.born ≡ true }
         ensures rest { result.file ≡ record file { value = result.file.value; known = result.file.known; born = result.file.born } }
-        ensures kept { is_excused result.entry.reply ≡ true → result.file ≡ record file { born = result.file.born } }
-        ensures kept_names { is_excused result.entry.reply ≡ true → (self.new ≡ self.old) ⊎ AreCommitted N.start.is_visible self.old self.new }
+        // the names' commit failed, and all is as it was; or the file's did, which knows its birth then
+        ensures short { is_excused result.entry.reply ≡ true → ((self.new ≡ self.old) × (result.file ≡ file)) ⊎ (AreCommitted N.start.is_visible self.old self.new × (result.file ≡ record file { born = true })) }
         // no fault that the guest was told before excuses it, and a stop is the store's
         ensures faults { result.guest.faults ≡ guest.faults }
         ensures stop { (fault : ℕ) → result.entry.reply ≡ reply.Excused (excuse.Stopped fault) → result.guest.stop ≡ Some fault }
@@ -332,6 +337,40 @@ impl<N: Naming> HeldNames<N> {
             reached,
         } = self;
         fsync_dir_lent(table, right, noted, reached, ask, guest, by, door)
+    }
+
+    /// Commits the names, and then each of these files in the order of the list, each in a turn of the store; no entry is drawn. Where a
+    /// commit fails, no other one is tried, and the guest was told the fault by which it failed, or that the store has stopped.
+    pub fn commit_all<T: Turns<N>>(
+        &mut self,
+        table: &HandTable<N>,
+        files: &mut [HeldFile<N>],
+        guest: &mut Hand<N>,
+        door: &mut T,
+        geometry: &Geometry,
+    ) -> Result<(), StoreFault>
+        requires formed { IsGeometry geometry.now }
+        requires its { geometry.now ≡ N.start.geometry }
+        requires bare { IsBare guest.old }
+        ensures bare { IsBare guest.new }
+        ensures beside { IsBeside guest.old guest.new }
+        ensures names { OnOk result (AreCommitted N.start.is_visible self.old self.new) }
+        ensures files { OnOk result (AreSynced N.start.is_visible files.old files.new (length files.old)) }
+        ensures freed { OnOk result (AreTold (T.tells door.old) (T.tells door.new) (λ had has. has ≡ freed_by (length files.old) files.old had)) }
+        ensures short { OnErr result (StopsShort N.start.is_visible self.old self.new files.old files.new (T.tells door.old) (T.tells door.new)) }
+        ensures faults { guest.new.faults ≡ told_list (fault_told (fault_in result)) ++ guest.old.faults }
+        ensures stop { (fault : ℕ) → result ≡ Err (refusal.Stopped fault) → guest.new.stop ≡ Some fault }
+        ensures telling { is_some (T.tells door.new) ≡ is_some (T.tells door.old) }
+        ensures halts { StopsByFault (T.tells door.old) (T.tells door.new) (fault_in result) }
+        ensures halted { TellsStop (T.tells door.old) result }
+        ensures refused { IfErr result (λ fault. is_no_space fault ≡ false) }
+    {
+        let HeldNames {
+            noted,
+            right,
+            reached,
+        } = self;
+        commit_all(table, right, noted, reached, files, guest, door, geometry)
     }
 
     /// Serves a `sync`, with every live file: commits the names, and then each file in the order of the list, each in a turn of the

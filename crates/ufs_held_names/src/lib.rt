@@ -12,6 +12,8 @@ mod serving;
 mod sync_all;
 mod sync_answers;
 mod syncs;
+mod unopened;
 
 pub use held_names::{FileSynced, HeldNames, NamesServed, NamesSynced};
 pub use newborn::Newborn;
+pub use unopened::refuse_unopened;

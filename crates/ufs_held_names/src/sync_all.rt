@@ -87,7 +87,7 @@ pub(crate) fn sync_lent<N: Naming, T: Turns<N>>(
 }
 
 // Commits the names, and each of these files. The guest is told the fault.
-fn commit_all<N: Naming, T: Turns<N>>(
+pub(crate) fn commit_all<N: Naming, T: Turns<N>>(
     table: &HandTable<N>,
     right: &mut Hand<N>,
     noted: &mut NotedNames,

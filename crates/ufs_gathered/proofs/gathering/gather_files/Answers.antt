@@ -1,11 +1,12 @@
 use Rattle.std.proofs.Common.{◌++◌, [], ◌∷◌, sym, subst}
 use Rattle.ufs_held.specs.Together.{HasThemToo}
 use Rattle.ufs_joint.specs.Cells.{View}
-use Rattle.ufs_gathered.proofs.Joined.{none_back, one_back}
+use Rattle.ufs_held.proofs.Together.{none_too}
+use Rattle.ufs_gathered.proofs.Joined.{one_back}
 use Rattle.ufs_gathered.proofs.gathering.gather_files.Goals as goal
 
 pub loop-file-init : goal.loop-file-init
-loop-file-init g c = none_back c.args.hand.now
+loop-file-init g c = none_too c.args.hand.now
 
 pub loop-file-preserved : goal.loop-file-preserved
 loop-file-preserved g c =

@@ -14,6 +14,7 @@ use Rattle.ufs_held_names.proofs.Drawing.{apart_with, asked_of, asked_with, gath
 use Rattle.ufs_held_names.proofs.Faultless.{calm, no_fault}
 use Rattle.ufs_held_names.proofs.Files.{files_none, new_files, new_next, new_once}
 use Rattle.ufs_held_names.proofs.Lives.{lives_alone, next_alone}
+use Rattle.ufs_held_names.proofs.Untold.{untold}
 use Rattle.ufs_held_names.proofs.draws.draw_alone.Goals as goal
 
 by_reply : (b : Bool) (P : Type 0) → (b ≡ false → P) → (b ≡ true → P) → P
@@ -128,3 +129,19 @@ returns-clause-next g c =
     by_reply (is_excused entry.reply) _
     (λ served. next_alone t c.args.ask x c.apply_alone-applied.new.self c.apply_alone-applied.result.file c.args.pool.now c.apply_alone-applied.new.pool entry.reply c.apply_alone-applied.result.applied.desc asked (e.served served))
     (λ excused. ap (λ (q : Noted). q.names.next) (e.unchanged excused) ∙ sym (ap (λ (o : Option FileState). cond (is_some o) (x.names.next + 1) x.names.next) (e.none excused)))
+
+pub returns-clause-no_desc : goal.returns-clause-no_desc
+returns-clause-no_desc g c =
+    let h = c.requires.hand in
+    let k = g.N.Naming.start in
+    let know = c.look.ensures.knows in
+    let v = c.args.right.now in
+    let x = c.args.noted.now in
+    let e = c.apply_alone-applied.ensures in
+    let entry = c.apply_alone-applied.result.applied.entry in
+    let gathered = gathered_none x.names c.args.ask c.requires.needed in
+    let t = tree_after know.start know.history in
+    let part = part_of k c.look.result v know h.0 h.1 h.2 c.args.pool.now c.args.ask h.3 x h.5 h.6 in
+    let is = asked_of k c.look.result v know h.0 h.1 h.2 c.args.pool.now c.args.ask h.3 x h.5 h.6 in
+    let asked = asked_with k c.look.result v know h.0 h.1 h.2 c.args.pool.now c.args.ask h.3 x h.5 h.6 map.empty (none_some_of k c.look.result v know h.0 h.1 h.2 c.args.pool.now c.args.ask h.3 x h.5 h.6) (gathered t part is) in
+    untold t c.args.ask is entry e.entry.asked c.apply_alone-applied.result.applied.desc (λ served. ((e.served served).applied t asked).served.told) e.desc

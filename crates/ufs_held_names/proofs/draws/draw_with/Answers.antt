@@ -18,6 +18,7 @@ use Rattle.ufs_held_names.proofs.Drawing.{apart_with, asked_of, asked_with, gath
 use Rattle.ufs_held_names.proofs.Faultless.{calm, no_fault}
 use Rattle.ufs_held_names.proofs.Files.{files_one, next_files, next_next, next_once}
 use Rattle.ufs_held_names.proofs.Lives.{gone_with, lives_with, next_with}
+use Rattle.ufs_held_names.proofs.Untold.{untold}
 use Rattle.ufs_held_names.proofs.draws.draw_with.Goals as goal
 
 by_reply : (b : Bool) (P : Type 0) → (b ≡ false → P) → (b ≡ true → P) → P
@@ -170,3 +171,20 @@ returns-clause-next g c =
     by_reply (is_excused entry.reply) _
     (λ served. next_with t c.args.ask x c.apply_with-applied.new.self file kept (one_known file.hand.file (Some file.commits)) (one_known file.hand.file (commits_in kept)) c.args.pool.now c.apply_with-applied.new.pool entry.reply c.apply_with-applied.result.applied.desc asked (e.served served))
     (λ excused. ap (λ (q : Noted). q.names.next) (e.unchanged excused))
+
+pub returns-clause-no_desc : goal.returns-clause-no_desc
+returns-clause-no_desc g c =
+    let h = c.requires.hand in
+    let k = g.N.Naming.start in
+    let know = c.look.ensures.knows in
+    let v = c.args.right.now in
+    let x = c.args.noted.now in
+    let file = c.args.file in
+    let e = c.apply_with-applied.ensures in
+    let entry = c.apply_with-applied.result.applied.entry in
+    let gathered = gathered_one x.names c.args.ask file.hand.file file.hand c.requires.needed in
+    let t = tree_after know.start know.history in
+    let part = part_of k c.look.result v know h.0 h.1 h.2 c.args.pool.now c.args.ask h.4 x h.7 h.8 in
+    let is = asked_of k c.look.result v know h.0 h.1 h.2 c.args.pool.now c.args.ask h.4 x h.7 h.8 in
+    let asked = asked_with k c.look.result v know h.0 h.1 h.2 c.args.pool.now c.args.ask h.4 x h.7 h.8 (one_file file.hand.file (Some file.hand)) (one_some_of k c.look.result v know h.0 h.1 h.2 c.args.pool.now c.args.ask h.4 x h.7 h.8 file.hand.file file.hand h.3 h.5 (ap (λ (q : DurableState). q.file) h.6)) (gathered t part is) in
+    untold t c.args.ask is entry e.entry.asked c.apply_with-applied.result.applied.desc (λ served. ((e.served served).applied t asked).served.told) e.desc

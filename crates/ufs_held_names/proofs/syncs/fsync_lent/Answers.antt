@@ -1,4 +1,4 @@
-use Rattle.std.proofs.Common.{◌≡◌, ◌++◌, ◌⊎◌, inl, inr, ℕ, List, Some, true, false, Err, Result, Option, ap, sym, subst, ◌∙◌, arith}
+use Rattle.std.proofs.Common.{◌≡◌, ◌++◌, ◌⊎◌, inl, inr, ℕ, Bool, List, Some, true, false, Err, Result, Option, ap, sym, subst, ◌∙◌, arith}
 use Rattle.std.specs.FinSet as set
 use Rattle.ufs_bitmap.specs.Blocks.{BlockSet}
 use Rattle.ufs_bitmap.specs.Taking.{set_of}
@@ -60,8 +60,7 @@ returns-in-Ok-clause-synced g c =
       known = t.known;
       born = λ is. t.born;
       rest = t.rest;
-      kept = t.kept;
-      kept_names = λ is. inr done;
+      short = λ is. inr (done, t.kept is ∙ ap (λ (b : Bool). record c.args.file { born = b }) t.born);
       faults = t.faults ∙ m.faults ∙ ap (λ (r : Result (Unit {0}) StoreFault). told_list (fault_told (fault_in r)) ++ c.args.guest.faults) c.in-Ok.is;
       stop = t.stop;
       freed = λ is. told_twice (g.T.Turns.tells c.args.door.now) (g.T.Turns.tells c.commit_lent.new.door) (g.T.Turns.tells c.sync_born.new.door) (λ had has. has ≡ set.union had (set_of c.args.file.value.dropped)) m.telling m.free (t.freed is);
@@ -109,8 +108,7 @@ returns-in-Err-clause-synced g c =
       known = λ is. absurd (not_done r cause e.replied is);
       born = λ is. absurd (not_done r cause e.replied is);
       rest = e.same ∙ (λ i. record was { value = (sym e.same i).value; known = (sym e.same i).known; born = (sym e.same i).born });
-      kept = λ is. e.same ∙ (λ i. record was { born = (sym e.same i).born });
-      kept_names = λ is. inl c.in-Err.ensures.err;
+      short = λ is. inl (c.in-Err.ensures.err, e.same);
       faults = e.faults c.args.guest.faults (m.faults ∙ ap (λ (q : Result (Unit {0}) StoreFault). told_list (fault_told (fault_in q)) ++ c.args.guest.faults) c.in-Err.is ∙ ap (λ (fs : List ℕ). fs ++ c.args.guest.faults) c.excuse_of-cause.ensures.used);
       stop = λ fault is. e.stop fault (m.stop fault (c.in-Err.is ∙ ap Err (c.excuse_of-cause.ensures.stopped fault (one_excuse r cause (excuse.Stopped fault) e.replied is))));
       freed = λ is. absurd (not_done r cause e.replied is);
