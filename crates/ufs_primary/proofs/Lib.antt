@@ -1,0 +1,13 @@
+mod Turning
+pub mod Asked
+mod NamesTold
+mod DirsTold
+mod AllTold
+mod SyncedHere
+mod Oldest
+mod Beside
+mod AtHome
+mod Trials
+mod Waits
+mod Doing
+mod Births

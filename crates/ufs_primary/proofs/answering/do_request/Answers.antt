@@ -1,0 +1,49 @@
+use Rattle.std.proofs.Common.{[], ◌∷◌, ◌++◌, ap, refl, subst, ◌∙◌}
+use Rattle.ufs_serving.specs.Posts.{all_said, said}
+use Rattle.ufs_primary.specs.Served.{IsTried}
+use Rattle.ufs_primary.specs.Waiting.{Waits}
+use Rattle.ufs_primary.proofs.Doing.{is_kept, is_redirected, is_served, is_waiting}
+use Rattle.ufs_primary.proofs.answering.do_request.Goals as goal
+
+pub returns-in-Answered-clause-done : goal.returns-in-Answered-clause-done
+returns-in-Answered-clause-done g c = λ coming.
+    let is = subst (IsTried g.N.Naming.start.is_visible (g.T.Turns.tells c.args.door.now) (g.T.Turns.tells c.serve.new.door) c.args.stock.now c.serve.new.self c.args.request) c.in-Answered.is c.serve.ensures in
+    is_served g.Q.ServerPost.answers g.Q.ServerPost.same g.Q.ServerPost.answers_full g.N.Naming.start.is_visible (g.T.Turns.tells c.args.door.now) (g.T.Turns.tells c.serve.new.door)
+    c.args.stock.now c.serve.new.self coming (all_said c.args.answers.now.items) (all_said c.say.new.answers.items) c.args.waiting.now.items c.args.request (said c.in-Answered.answer) c.args.post.now c.say.new.post is.0 (ap said is.1) is.2 c.say.ensures.goes
+
+pub returns-in-Answered-clause-store : goal.returns-in-Answered-clause-store
+returns-in-Answered-clause-store g c = λ no. absurd (no refl)
+
+pub returns-in-Redirected-clause-done : goal.returns-in-Redirected-clause-done
+returns-in-Redirected-clause-done g c = λ coming.
+    let is = subst (IsTried g.N.Naming.start.is_visible (g.T.Turns.tells c.args.door.now) (g.T.Turns.tells c.serve.new.door) c.args.stock.now c.serve.new.self c.args.request) c.in-Redirected.is c.serve.ensures in
+    is_redirected g.Q.ServerPost.answers g.Q.ServerPost.same g.Q.ServerPost.answers_full g.N.Naming.start.is_visible (g.T.Turns.tells c.args.door.now) (g.T.Turns.tells c.serve.new.door)
+    c.args.stock.now c.serve.new.self coming (all_said c.args.answers.now.items) (all_said c.say-in-Redirected.new.answers.items) c.args.waiting.now.items c.args.request c.in-Redirected.answer c.in-Redirected.file c.args.post.now c.say-in-Redirected.new.post is.0 is.1 c.say-in-Redirected.ensures.goes
+
+pub returns-in-Redirected-clause-store : goal.returns-in-Redirected-clause-store
+returns-in-Redirected-clause-store g c = λ _.
+    let is = subst (IsTried g.N.Naming.start.is_visible (g.T.Turns.tells c.args.door.now) (g.T.Turns.tells c.serve.new.door) c.args.stock.now c.serve.new.self c.args.request) c.in-Redirected.is c.serve.ensures in
+    is.2
+
+pub returns-in-Away-clause-done : goal.returns-in-Away-clause-done
+returns-in-Away-clause-done g c = λ coming.
+    let is = subst (IsTried g.N.Naming.start.is_visible (g.T.Turns.tells c.args.door.now) (g.T.Turns.tells c.serve.new.door) c.args.stock.now c.serve.new.self c.args.request) c.in-Away.is c.serve.ensures in
+    is_waiting g.Q.ServerPost.answers g.Q.ServerPost.same g.Q.ServerPost.answers_full g.N.Naming.start.is_visible (g.T.Turns.tells c.args.door.now) (g.T.Turns.tells c.serve.new.door)
+    c.args.stock.now c.serve.new.self c.put_off.new.self coming (all_said c.args.answers.now.items) c.args.waiting.now.items c.put_off.new.waiting.items c.args.request c.in-Away.request c.in-Away.file c.args.post.now c.put_off.result is.0 is.1 is.2 c.put_off.ensures.put c.put_off.ensures.rest
+
+pub returns-in-Away-clause-store : goal.returns-in-Away-clause-store
+returns-in-Away-clause-store g c = λ _.
+    let is = subst (IsTried g.N.Naming.start.is_visible (g.T.Turns.tells c.args.door.now) (g.T.Turns.tells c.serve.new.door) c.args.stock.now c.serve.new.self c.args.request) c.in-Away.is c.serve.ensures in
+    is.3
+
+pub returns-in-Lacks-clause-done : goal.returns-in-Lacks-clause-done
+returns-in-Lacks-clause-done g c = λ coming.
+    let is = subst (IsTried g.N.Naming.start.is_visible (g.T.Turns.tells c.args.door.now) (g.T.Turns.tells c.serve.new.door) c.args.stock.now c.serve.new.self c.args.request) c.in-Lacks.is c.serve.ensures in
+    is_kept g.Q.ServerPost.answers g.Q.ServerPost.same g.Q.ServerPost.answers_full g.N.Naming.start.is_visible (g.T.Turns.tells c.args.door.now) (g.T.Turns.tells c.serve.new.door)
+    c.args.stock.now c.serve.new.self coming (all_said c.args.answers.now.items) c.args.waiting.now.items c.push_back_reserved.new.self.items c.args.request c.in-Lacks.request c.in-Lacks.lack c.args.post.now is.0 is.1 is.2
+    (c.push_back_reserved.ensures.items ∙ ap (λ (w : Waits). c.args.waiting.now.items ++ w ∷ []) c.new.ensures)
+
+pub returns-in-Lacks-clause-store : goal.returns-in-Lacks-clause-store
+returns-in-Lacks-clause-store g c = λ _.
+    let is = subst (IsTried g.N.Naming.start.is_visible (g.T.Turns.tells c.args.door.now) (g.T.Turns.tells c.serve.new.door) c.args.stock.now c.serve.new.self c.args.request) c.in-Lacks.is c.serve.ensures in
+    is.3

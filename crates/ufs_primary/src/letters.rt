@@ -1,0 +1,76 @@
+// Letters that come to the primary.
+ghost use Rattle.std.specs.Prelude.{◌≡◌, None};
+ghost use Rattle.ufs_primary.specs.Letters.{IsFrontDone, IsLetterDone, IsNextDone, IsSettled};
+
+use crate::turn::PrimaryTurn;
+use ufs_home::Home;
+use ufs_joint::Naming;
+use ufs_msg::{Letter, ServerPost};
+use ufs_parcel::Parcel;
+
+/// A file that came and waits for room is tried first; else the front letter of the ring is done, if there is one: a file that was coming
+/// is here, or goes on. There is no turn where there was no letter, or it asked nothing.
+pub fn take_letter<N: Naming, Q: ServerPost<N, Letter<Parcel<N>>>>(
+    home: &mut Home<N>,
+    coming: &mut Option<Parcel<N>>,
+    post: &mut Q,
+) -> Option<PrimaryTurn>
+    ensures letter { IsFrontDone Q.same Q.gets_letter Q.letters_empty coming.old home.old home.new coming.new post.old post.new result }
+    ensures mine { Q.me post.new ≡ Q.me post.old }
+{
+    match coming.take() {
+        Some(parcel) => settle(home, coming, parcel),
+        None => take_next(home, coming, post),
+    }
+}
+
+// The front letter of the ring is done, if there is one.
+fn take_next<N: Naming, Q: ServerPost<N, Letter<Parcel<N>>>>(
+    home: &mut Home<N>,
+    coming: &mut Option<Parcel<N>>,
+    post: &mut Q,
+) -> Option<PrimaryTurn>
+    requires { coming.old ≡ None }
+    ensures next { IsNextDone Q.same Q.gets_letter Q.letters_empty home.old home.new coming.new post.old post.new result }
+    ensures mine { Q.me post.new ≡ Q.me post.old }
+{
+    let came = post.take_letter()?;
+    read_letter(home, coming, came)
+}
+
+// What the letter is for is done. A recall isn't for the primary.
+fn read_letter<N: Naming>(
+    home: &mut Home<N>,
+    coming: &mut Option<Parcel<N>>,
+    came: Letter<Parcel<N>>,
+) -> Option<PrimaryTurn>
+    requires { coming.old ≡ None }
+    ensures { IsLetterDone home.old home.new coming.new came result }
+{
+    match came {
+        Letter::Parcel(parcel) => settle(home, coming, parcel),
+        Letter::Recall { .. } => None,
+        Letter::Report { .. } => Some(PrimaryTurn::Noted),
+    }
+}
+
+// A file came. It waits where there is no room for it; as it would where it wasn't coming, or its number is here, which never is.
+fn settle<N: Naming>(
+    home: &mut Home<N>,
+    coming: &mut Option<Parcel<N>>,
+    parcel: Parcel<N>,
+) -> Option<PrimaryTurn>
+    requires { coming.old ≡ None }
+    ensures { IsSettled home.old home.new coming.new parcel result }
+{
+    match home.come(parcel) {
+        Ok(_to) => Some(PrimaryTurn::Settled),
+        Err((lack, back)) => {
+            *coming = Some(back);
+            match lack {
+                Some(lack) => Some(PrimaryTurn::Lack(lack)),
+                None => None,
+            }
+        }
+    }
+}

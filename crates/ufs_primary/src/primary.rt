@@ -1,0 +1,133 @@
+// The primary and its turn.
+use crate::answering::serve_next;
+use crate::ordered::Ordered;
+use crate::stock::Stock;
+use crate::turn::PrimaryTurn;
+use crate::waiting::Waiting;
+use std::alloc::Global;
+use std::collections::VecDeque;
+use std::marker::Model;
+use ufs_bitmap::Pool;
+use ufs_held_names::HeldNames;
+use ufs_home::Home;
+use ufs_joint::{Hand, HandTable, Naming};
+use ufs_layout::Geometry;
+use ufs_msg::{Answer, Letter, ServerPost};
+use ufs_parcel::Parcel;
+use ufs_serving::send_answers;
+use ufs_turns::Turns;
+
+/// The primary of session `N`: the names, the files that are at it, its pool, each with its hand; a file that came and found no room;
+/// answers that found no room in a ring; and requests that wait.
+#[derive(Drop)]
+pub struct Primary<N: Naming> {
+    stock: Stock<N>,
+    coming: Option<Parcel<N>>,
+    answers: VecDeque<Answer<N>>,
+    waiting: VecDeque<Waiting<N>>,
+}
+
+impl<N: Naming> Model for Primary<N> {
+    ghost use Rattle.std.specs.Prelude.{◌≤◌};
+    ghost use Rattle.std.specs.VecDeque.{deque_capacity, deque_len};
+    ghost use Rattle.ufs_primary.specs.Primary.{PrimaryState, primary_code, primary_of};
+    ghost use Rattle.ufs_serving.specs.Posts.{all_said};
+
+    ghost Value = { PrimaryState };
+
+    ghost coded = { primary_code };
+
+    ghost view = { λ p. primary_of p.stock p.coming (all_said p.answers.items) p.waiting.items };
+
+    ghost invariant = { λ p. (deque_len p.answers ≤ deque_capacity p.answers) × (deque_len p.waiting ≤ deque_capacity p.waiting) };
+}
+
+impl<N: Naming> Primary<N> {
+    ghost use Rattle.std.specs.Prelude.{◌≡◌, ◌≢◌, ◌≤◌, [], None, is_some};
+    ghost use Rattle.std.specs.FinSet as set;
+    ghost use Rattle.ufs_first_hand.specs.FirstHand.{HasPoolAlone, pool_of};
+    ghost use Rattle.ufs_home.specs.Letters.{letter_of};
+    ghost use Rattle.ufs_layout.specs.Areas.{IsGeometry};
+    ghost use Rattle.ufs_model.specs.declared.data.Actor.TheVariants.{Primary as primary, Worker};
+    ghost use Rattle.ufs_msg.specs.There.{worker_count};
+    ghost use Rattle.ufs_primary.specs.Orders.{IsFileOrdered, dropped_by};
+    ghost use Rattle.ufs_primary.specs.Primary.{AreHere, stock_of, primary_of};
+    ghost use Rattle.ufs_primary.specs.Turns.{IsTurn};
+    ghost use Rattle.ufs_primary.specs.declared.turn.PrimaryTurn.TheVariants as turn;
+    ghost use Rattle.ufs_serving.specs.Pools.{most_at_rest};
+    ghost use Rattle.ufs_turns.specs.Lent.{AreTold, StopsByFault};
+
+    /// A primary that keeps nothing, with the hand of its pool's cell. Takes no memory.
+    pub fn make(
+        alloc: Global,
+        geometry: Geometry,
+        names: HeldNames<N>,
+        home: Home<N>,
+        pool: Pool,
+        right: Hand<N>,
+    ) -> Primary<N>
+        requires formed { IsGeometry geometry }
+        requires its { geometry ≡ N.start.geometry }
+        requires hand { HasPoolAlone (pool_of 0) pool right }
+        requires few { set.len pool ≤ most_at_rest }
+        requires here { AreHere names home }
+        ensures { result ≡ primary_of (stock_of names home pool) None [] [] }
+    {
+        Primary {
+            stock: Stock::new(geometry, names, home, pool, right),
+            coming: None,
+            answers: VecDeque::new(alloc),
+            waiting: VecDeque::new(alloc),
+        }
+    }
+
+    /// One turn. First what is kept goes, as far as rings have room: the letters in order, then the answers. Then the front letter is
+    /// done: a file that was coming is here, or goes on; else the oldest request that waits and whose files have come, or else the front
+    /// one: it is served with what is here, or sent on to the worker that has its file, or waits for that.
+    pub fn poll<Q: ServerPost<N, Letter<Parcel<N>>>, T: Turns<N>>(
+        &mut self,
+        table: &HandTable<N>,
+        post: &mut Q,
+        door: &mut T,
+    ) -> PrimaryTurn
+        requires mine { Q.me post.old ≡ primary }
+        ensures mine { Q.me post.new ≡ Q.me post.old }
+        ensures turn { IsTurn (λ w p m q. Q.sends p (Worker w) (letter_of m) q) (λ p w. Q.letters_full p (Worker w)) Q.answers Q.answers_full Q.same (worker_count N.start) Q.gets_letter Q.letters_empty Q.gets_ask Q.asks_empty
+            N.start.is_visible (T.tells door.old) (T.tells door.new) self.old self.new post.old post.new result }
+        // no other turn comes to the store
+        ensures store { result ≢ turn.Served → T.tells door.new ≡ T.tells door.old }
+    {
+        self.stock.send_letters(post);
+        send_answers(&mut self.answers, post);
+        if let Some(turn) = self.stock.take_letter(&mut self.coming, post) {
+            return turn;
+        }
+        serve_next(
+            table,
+            &mut self.stock,
+            &mut self.answers,
+            &mut self.waiting,
+            post,
+            door,
+        )
+    }
+
+    /// The file is to go to this worker, or to the primary for 0. Where it goes from here, and its birth isn't known as committed, the
+    /// names are committed first; where that is refused nothing is done.
+    pub fn order<T: Turns<N>>(
+        &mut self,
+        table: &HandTable<N>,
+        door: &mut T,
+        file: u32,
+        to: u8,
+    ) -> Ordered
+        requires { to ≤ worker_count N.start }
+        ensures ordered { IsFileOrdered N.start.is_visible self.old.stock self.new.stock file to result }
+        ensures rest { self.new ≡ record self.old { stock = self.new.stock } }
+        ensures free { AreTold (T.tells door.old) (T.tells door.new) (λ had has. has ≡ had) }
+        ensures telling { is_some (T.tells door.new) ≡ is_some (T.tells door.old) }
+        ensures halts { StopsByFault (T.tells door.old) (T.tells door.new) (dropped_by result) }
+    {
+        self.stock.order(table, door, file, to)
+    }
+}
