@@ -1,6 +1,5 @@
 -- All that the actors have is in one hand, and that has every cell.
 use Rattle.std.proofs.Common.{◌≡◌, ◌≤◌, ℕ, Bool, eqb, List, [], ◌∷◌, ◌++◌, sym, refl, ◌∙◌, subst}
-use Rattle.std.specs.List.{AllByRecursion}
 use Rattle.std.proofs.lemmas.List.{append-nil}
 use Rattle.ufs_bitmap.specs.Blocks.{BlockSet}
 use Rattle.ufs_held.specs.Together.{HasThemToo, under_numbers}
@@ -13,15 +12,15 @@ use Rattle.ufs_sound.specs.Owned.{count}
 use Rattle.ufs_sound.specs.Parts.{ClientPart}
 use Rattle.ufs_store.specs.State.{StoreState}
 use Rattle.ufs_turns.specs.HeldStore.{IsHeldStore, IsStoreIn}
-use Rattle.ufs_gathered.specs.Gathered.{AreAllBack, AreHome, HasAllOf, HasPoolsAlone, clients_in, pools_in, with_all}
+use Rattle.ufs_gathered.specs.Gathered.{AreAllBack, AreHome, HasAllOf, HasPoolsAlone, clients_in, with_all}
 use Rattle.ufs_gathered.proofs.Homes.{none_else}
-use Rattle.ufs_gathered.proofs.Joined.{all_joined, none_joined}
+use Rattle.ufs_gathered.proofs.Joined.{all_joined}
 
 module _ (names : NamesCell) (right : View) (named : HasNamesAlone names right) (k : Start) (visible keeps : Bool) (own : View) (s : StoreState) (home : IsHeldStore k visible keeps own s)
-    (files : List FileCell) (v : View) (them : HasThemToo files (both_of right own) v) (pools : List View) (pooled : AllByRecursion HasPoolsAlone pools)
+    (files : List FileCell) (v : View) (them : HasThemToo files (both_of right own) v) (pools : View) (pooled : HasPoolsAlone pools)
     (clients : List View) (lists : List (List Entry)) (at_home : AreHome lists clients) where
   abbrev with_pools : View
-  with_pools = with_all v pools
+  with_pools = both_of v pools
 
   abbrev pub whole : View
   whole = with_all with_pools clients
@@ -30,18 +29,16 @@ module _ (names : NamesCell) (right : View) (named : HasNamesAlone names right) 
   clients_are = all_joined (λ (u : View). u.clients) (λ u w. refl) with_pools clients ∙ (λ i. none i ++ clients_in clients)
     where
       none : with_pools.clients ≡ []
-      none =
-          all_joined (λ (u : View). u.clients) (λ u w. refl) v pools
-          ∙ (λ i. (them.clients ∙ (λ j. named.clients j ++ home.alone.clients j)) i ++ none_joined (λ (u : View). u.clients) HasPoolsAlone (λ u p. p.clients) pools pooled i)
+      none = (λ i. (them.clients ∙ (λ j. named.clients j ++ home.alone.clients j)) i ++ pooled.clients i)
 
-  pools_are : whole.pools ≡ pools_in pools
+  pools_are : whole.pools ≡ pools.pools
   pools_are =
       all_joined (λ (u : View). u.pools) (λ u w. refl) with_pools clients
       ∙ (λ i. some i ++ none_else (λ (u : View). u.pools) (λ n self before u b. b.pools) 0 lists clients at_home i)
-      ∙ append-nil (pools_in pools)
+      ∙ append-nil pools.pools
     where
-      some : with_pools.pools ≡ pools_in pools
-      some = all_joined (λ (u : View). u.pools) (λ u w. refl) v pools ∙ (λ i. (them.pools ∙ (λ j. named.pools j ++ home.alone.pools j)) i ++ pools_in pools)
+      some : with_pools.pools ≡ pools.pools
+      some = (λ i. (them.pools ∙ (λ j. named.pools j ++ home.alone.pools j)) i ++ pools.pools)
 
   files_are : whole.files ≡ under_numbers files
   files_are =
@@ -50,10 +47,7 @@ module _ (names : NamesCell) (right : View) (named : HasNamesAlone names right) 
       ∙ append-nil (under_numbers files)
     where
       some : with_pools.files ≡ under_numbers files
-      some =
-          all_joined (λ (u : View). u.files) (λ u w. refl) v pools
-          ∙ (λ i. (them.files ∙ (λ j. (named.files j ++ home.alone.files j) ++ under_numbers files)) i ++ none_joined (λ (u : View). u.files) HasPoolsAlone (λ u p. p.files) pools pooled i)
-          ∙ append-nil (under_numbers files)
+      some = (λ i. (them.files ∙ (λ j. (named.files j ++ home.alone.files j) ++ under_numbers files)) i ++ pooled.files i) ∙ append-nil (under_numbers files)
 
   names_are : whole.names ≡ (tt, names) ∷ []
   names_are =
@@ -61,9 +55,7 @@ module _ (names : NamesCell) (right : View) (named : HasNamesAlone names right) 
       ∙ (λ i. some i ++ none_else (λ (u : View). u.names) (λ n self before u b. b.names) 0 lists clients at_home i)
     where
       some : with_pools.names ≡ (tt, names) ∷ []
-      some =
-          all_joined (λ (u : View). u.names) (λ u w. refl) v pools
-          ∙ (λ i. (them.names ∙ (λ j. named.names j ++ home.alone.names j)) i ++ none_joined (λ (u : View). u.names) HasPoolsAlone (λ u p. p.names) pools pooled i)
+      some = (λ i. (them.names ∙ (λ j. named.names j ++ home.alone.names j)) i ++ pooled.names i)
 
   store_is : whole.store ≡ own.store
   store_is =
@@ -72,10 +64,7 @@ module _ (names : NamesCell) (right : View) (named : HasNamesAlone names right) 
       ∙ append-nil own.store
     where
       some : with_pools.store ≡ own.store
-      some =
-          all_joined (λ (u : View). u.store) (λ u w. refl) v pools
-          ∙ (λ i. (them.store ∙ (λ j. named.store j ++ own.store)) i ++ none_joined (λ (u : View). u.store) HasPoolsAlone (λ u p. p.store) pools pooled i)
-          ∙ append-nil own.store
+      some = (λ i. (them.store ∙ (λ j. named.store j ++ own.store)) i ++ pooled.store i) ∙ append-nil own.store
 
   pub has_all : HasAllOf names files pools clients whole
   has_all = record { clients_are = clients_are; files_are = files_are; pools_are = pools_are; names_are = names_are }
@@ -93,7 +82,7 @@ module _ (names : NamesCell) (right : View) (named : HasNamesAlone names right) 
 
 -- ---- every cell is there, also once the last turn of the store began
 
-pub begun_all : (k : Start) (names : NamesCell) (files : List FileCell) (pools clients : List View) (v : View) (n : ℕ) (cell : StoreCell) → AreAllBack k names files pools clients → HasAllOf names files pools clients v → HoldsAll k (turn_begun n cell v)
+pub begun_all : (k : Start) (names : NamesCell) (files : List FileCell) (pools : View) (clients : List View) (v : View) (n : ℕ) (cell : StoreCell) → AreAllBack k names files pools clients → HasAllOf names files pools clients v → HoldsAll k (turn_begun n cell v)
 begun_all k names files pools clients v n cell back all = record {
   clients = λ c. subst (λ (ps : List (ℕ × ClientPart)). count eqb c k.view.clients ≤ count eqb c ps) (sym all.clients_are) (back.clients_back c);
   pools = λ m. subst (λ (ps : List (ℕ × BlockSet)). count eqb m k.view.pools ≤ count eqb m ps) (sym all.pools_are) (back.pools_back m);

@@ -53,7 +53,7 @@ use Rattle.ufs_gathered.proofs.Joined.{in_numbered, numbered_in}
 live_is : (n : NamesPart) (file : ℕ) → set.contains (live_files n) file ≡ is_some (fin.get n.held file)
 live_is n file = contains-from_list nat_cmp_total (fin.keys n.held) file ∙ sym (contains_key-keys n.held file)
 
-module _ (k : Start) (visible keeps : Bool) (names : NamesCell) (files : List FileCell) (pools clients : List View) (v : View) (s : StoreState) (all : HasAllOf names files pools clients v) (home : IsStoreIn k visible keeps v s)
+module _ (k : Start) (visible keeps : Bool) (names : NamesCell) (files : List FileCell) (pools : View) (clients : List View) (v : View) (s : StoreState) (all : HasAllOf names files pools clients v) (home : IsStoreIn k visible keeps v s)
     (n : ℕ) (knows : Knows k n v) (m : ℕ) (w : View) (begun : w ≡ begun_view v n) (known_all : KnowsAll k m w) (lists : List (List Entry)) (at_home : AreHome lists clients) where
   -- the store's cell before the last turn, and in it
   abbrev c : StoreCell

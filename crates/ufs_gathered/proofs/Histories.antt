@@ -1,5 +1,5 @@
 -- Histories with the same entries, and stretches without a gap.
-use Rattle.std.proofs.Common.{◌≡◌, ◌⊎◌, inl, inr, ⊎_elim, ℕ, ◌+◌, ◌≤◌, Bool, true, false, cond, eqb, eqb-true, length, List, [], ◌∷◌, ap, sym, refl, ◌∙◌, subst, arith}
+use Rattle.std.proofs.Common.{◌≡◌, inl, inr, ⊎_elim, ℕ, ◌+◌, ◌≤◌, Bool, true, false, cond, eqb, eqb-true, length, List, [], ◌∷◌, ap, sym, refl, ◌∙◌, subst, arith}
 use Rattle.ufs_model.specs.History.{IsLegalFrom, entries_of, goes_on}
 use Rattle.ufs_model.specs.PosixTree.{PosixTree}
 use Rattle.ufs_model.specs.declared.data.Entry.{Entry}

@@ -1,6 +1,5 @@
 -- Hands that come to one, one after the other.
 use Rattle.std.proofs.Common.{◌≡◌, ℕ, List, [], ◌∷◌, ◌++◌, append_assoc, Option, Some, None, inl, inr, ap, sym, refl, ◌∙◌}
-use Rattle.std.specs.List.{AllByRecursion}
 use Rattle.std.proofs.lemmas.List.{append-nil}
 use Rattle.ufs_held.specs.Held.{HasFileAlone}
 use Rattle.ufs_held.specs.Together.{HasThemToo, under_numbers}
@@ -19,11 +18,6 @@ module _ {A : Type 0} (part : View → List A) where
   pub all_joined : ((v u : View) → part (both_of v u) ≡ part v ++ part u) → (v : View) (us : List View) → part (with_all v us) ≡ part v ++ all_in part us
   all_joined both v [] = sym (append-nil (part v))
   all_joined both v (u ∷ us) = all_joined both (both_of v u) us ∙ ap (λ xs. xs ++ all_in part us) (both v u) ∙ append_assoc (part v) (part u) (all_in part us)
-
-  -- of which none of them has any
-  pub none_joined : (P : View → Type 0) → ((u : View) → P u → part u ≡ []) → (us : List View) → AllByRecursion P us → all_in part us ≡ []
-  none_joined P none [] each = refl
-  none_joined P none (u ∷ us) each = (λ i. none u each.0 i ++ none_joined P none us each.1 i)
 
 -- ---- files
 

@@ -1,5 +1,6 @@
-mod Joined
+pub mod Joined
 mod Homes
 mod Histories
 mod AllThere
 mod AtEnd
+pub mod Cleaned

@@ -1,7 +1,6 @@
 -- What the actors of a session have in the end, and the hand to which all of it comes.
 use Rattle.std.specs.Prelude.{ℕ, suc, ◌≡◌, ◌≤◌, ◌++◌, eqb, List, [], ◌∷◌, IsSome}
 use Rattle.std.specs.FinMap as fin
-use Rattle.ufs_bitmap.specs.Blocks.{BlockSet}
 use Rattle.ufs_caller.specs.Hands.{IsHome}
 use Rattle.ufs_fds.specs.Descriptors.{Descs}
 use Rattle.ufs_held.specs.Together.{under_numbers}
@@ -23,9 +22,6 @@ all_in part (v ∷ vs) = part v ++ all_in part vs
 abbrev pub clients_in : List View → List (ℕ × ClientPart)
 clients_in vs = all_in (λ v. v.clients) vs
 
-abbrev pub pools_in : List View → List (ℕ × BlockSet)
-pools_in vs = all_in (λ v. v.pools) vs
-
 -- The hand has pools, and nothing else.
 pub record HasPoolsAlone (v : View) : Type 0 where
   pub clients : v.clients ≡ []
@@ -44,14 +40,14 @@ abbrev pub AreHome : List (List Entry) → List View → Type 0
 AreHome lists vs = AreHomeFrom 0 lists vs
 
 -- Each client and each pool of the beginning is among them, and each file that the names know.
-pub record AreAllBack (k : Start) (names : NamesCell) (files : List FileCell) (pools clients : List View) : Type 0 where
+pub record AreAllBack (k : Start) (names : NamesCell) (files : List FileCell) (pools : View) (clients : List View) : Type 0 where
   pub clients_back : (c : ℕ) → count eqb c k.view.clients ≤ count eqb c (clients_in clients)
-  pub pools_back : (n : ℕ) → count eqb n k.view.pools ≤ count eqb n (pools_in pools)
+  pub pools_back : (n : ℕ) → count eqb n k.view.pools ≤ count eqb n pools.pools
   pub files_back : (file : ℕ) → IsSome (fin.get names.value.held file) → 1 ≤ count eqb file (under_numbers files)
 
 -- The hand has what all of them have.
-pub record HasAllOf (names : NamesCell) (files : List FileCell) (pools clients : List View) (v : View) : Type 0 where
+pub record HasAllOf (names : NamesCell) (files : List FileCell) (pools : View) (clients : List View) (v : View) : Type 0 where
   pub clients_are : v.clients ≡ clients_in clients
   pub files_are : v.files ≡ under_numbers files
-  pub pools_are : v.pools ≡ pools_in pools
+  pub pools_are : v.pools ≡ pools.pools
   pub names_are : v.names ≡ (tt, names) ∷ []

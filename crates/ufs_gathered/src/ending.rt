@@ -1,6 +1,5 @@
 // A session on hands ends.
 ghost use Rattle.std.specs.Prelude.{List};
-ghost use Rattle.std.specs.List.{AllByRecursion};
 ghost use Rattle.ufs_gathered.specs.Ended.{HasEnded};
 ghost use Rattle.ufs_gathered.specs.Gathered.{AreAllBack, AreHome, HasPoolsAlone};
 ghost use Rattle.ufs_model.specs.declared.data.Entry.{Entry};
@@ -29,8 +28,8 @@ pub struct Ended<S: Door> {
 /// committed, and the store goes on, whatever a crash leaves stands for the last tree.
 pub fn end<N: Naming, S: Door, L: Ledger>(table: HandTable<N>, actors: Actors<N, S, L>) -> Ended<S>
     requires home { (lists : List (List Entry)) × AreHome lists actors.clients.items }
-    requires pools { AllByRecursion HasPoolsAlone actors.pools.items }
-    requires back { AreAllBack N.start actors.names actors.files.items actors.pools.items actors.clients.items }
+    requires pools { HasPoolsAlone actors.pools }
+    requires back { AreAllBack N.start actors.names actors.files.items actors.pools actors.clients.items }
     ensures ended { (lists : List (List Entry)) → AreHome lists actors.clients.items → HasEnded N.start result.tickets lists actors.names actors.files.items (S.store result.store) }
     ensures store { IsHeldStore N.start S.visible S.keeps actors.store (S.store result.store) }
 {

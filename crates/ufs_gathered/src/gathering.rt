@@ -1,6 +1,5 @@
 // The rights of all actors come to one hand.
 ghost use Rattle.std.specs.Prelude.{◌≡◌, List};
-ghost use Rattle.std.specs.List.{AllByRecursion};
 ghost use Rattle.ufs_gathered.specs.Gathered.{AreHome, HasAllOf, HasPoolsAlone, with_all};
 ghost use Rattle.ufs_held.specs.Together.{HasThemToo};
 ghost use Rattle.ufs_model.specs.declared.data.Entry.{Entry};
@@ -18,8 +17,8 @@ pub struct Actors<N: Naming, S: Door, L: Ledger> {
     pub names: HeldNames<N>,
     pub files: Vec<HeldFile<N>>,
     pub store: HeldStore<N, S, L>,
-    /// The rights to the servers' pools.
-    pub pools: Vec<Hand<N>>,
+    /// The right to the servers' pools.
+    pub pools: Hand<N>,
     /// The clients' hands, that of client 0 first.
     pub clients: Vec<Hand<N>>,
 }
@@ -40,11 +39,7 @@ pub(crate) fn gather_hands<N: Naming>(table: &HandTable<N>, hand: &mut Hand<N>, 
 }
 
 // The rights to the cells of these files come to the hand. The files themselves are let go.
-pub(crate) fn gather_files<N: Naming>(
-    table: &HandTable<N>,
-    hand: &mut Hand<N>,
-    files: Vec<HeldFile<N>>,
-)
+pub(crate) fn gather_files<N: Naming>(table: &HandTable<N>, hand: &mut Hand<N>, files: Vec<HeldFile<N>>)
     ensures { HasThemToo files.items hand.old hand.new }
 {
     for file in files {
@@ -61,8 +56,8 @@ pub(crate) fn gather<N: Naming, S: Door, L: Ledger>(
     actors: Actors<N, S, L>,
 ) -> Gathered<N, S>
     requires home { (lists : List (List Entry)) × AreHome lists actors.clients.items }
-    requires pools { AllByRecursion HasPoolsAlone actors.pools.items }
-    ensures all { HasAllOf actors.names actors.files.items actors.pools.items actors.clients.items result.hand }
+    requires pools { HasPoolsAlone actors.pools }
+    ensures all { HasAllOf actors.names actors.files.items actors.pools actors.clients.items result.hand }
     ensures store { IsStoreIn N.start S.visible S.keeps result.hand (S.store result.store) }
     ensures its { IsHeldStore N.start S.visible S.keeps actors.store (S.store result.store) }
 {
@@ -78,7 +73,7 @@ pub(crate) fn gather<N: Naming, S: Door, L: Ledger>(
     let (own, store) = store.into_parts();
     hand.join(table, own);
     gather_files(table, &mut hand, files);
-    gather_hands(table, &mut hand, pools);
+    hand.join(table, pools);
     gather_hands(table, &mut hand, clients);
     Gathered { hand, store }
 }

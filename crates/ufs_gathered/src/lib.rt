@@ -2,7 +2,10 @@
 #![tactic(auto)]
 
 mod ending;
+mod finishing;
 mod gathering;
+mod straight;
 
 pub use ending::{Ended, end};
+pub use finishing::{Finished, finish};
 pub use gathering::Actors;

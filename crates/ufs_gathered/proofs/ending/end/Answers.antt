@@ -38,7 +38,7 @@ close-tickets-requires-clause-all g c =
     let cell = cell_of home.stamp home.past (g.S.Door.store c.gather-hand.result.store) in
     let n = c.mark.result in
     let is : c.mark.new.self ≡ turn_begun n cell v = c.mark.ensures.cells ∙ (λ i. begun_in (home.has i) v n) in
-    subst (HoldsAll g.N.Naming.start) (sym is) (begun_all g.N.Naming.start a.names a.files.items a.pools.items a.clients.items v n cell c.requires.back c.gather-hand.ensures.all)
+    subst (HoldsAll g.N.Naming.start) (sym is) (begun_all g.N.Naming.start a.names a.files.items a.pools a.clients.items v n cell c.requires.back c.gather-hand.ensures.all)
 
 pub returns-clause-ended : goal.returns-clause-ended
 returns-clause-ended g c lists at_home =
@@ -47,7 +47,7 @@ returns-clause-ended g c lists at_home =
     let home = c.gather-hand.ensures.store in
     let store = c.gather-hand.result.store in
     let form : c.geometry-geometry.result ≡ g.N.Naming.start.geometry = c.geometry-geometry.ensures.is ∙ home.formed in
-    has_ended g.N.Naming.start g.S.Door.visible g.S.Door.keeps a.names a.files.items a.pools.items a.clients.items c.gather-hand.result.hand (g.S.Door.store store) all home
+    has_ended g.N.Naming.start g.S.Door.visible g.S.Door.keeps a.names a.files.items a.pools a.clients.items c.gather-hand.result.hand (g.S.Door.store store) all home
     c.mark.result c.mark.ensures.knows c.close-tickets.result c.mark.new.self c.mark.ensures.cells c.close-tickets.ensures lists at_home
     (λ file live. has_count eqb itself alike file c.gather-hand.result.hand.files (subst (λ (ps : List (ℕ × FileCell)). 1 ≤ count eqb file ps) (sym all.files_are) (c.requires.back.files_back file live)))
     (subst RestIsExplained form c.always_law.ensures.rest) (subst AllAreThere form c.all_law.ensures) (subst AllIsLast form c.last_law.ensures)

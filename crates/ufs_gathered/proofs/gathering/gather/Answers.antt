@@ -13,10 +13,10 @@ returns-clause-all g c =
     let own = c.into_parts-own.result.0 in
     let v = c.gather_files.new.hand in
     let them : HasThemToo a.files.items (both_of right own) v = subst (λ (u : View). HasThemToo a.files.items u v) c.join.ensures c.gather_files.ensures in
-    let is = c.gather_hands-2.ensures ∙ ap (λ (u : View). with_all u a.clients.items) c.gather_hands.ensures in
-    subst (HasAllOf a.names a.files.items a.pools.items a.clients.items) (sym is)
+    let is = c.gather_hands.ensures ∙ ap (λ (u : View). with_all u a.clients.items) c.join-2.ensures in
+    subst (HasAllOf a.names a.files.items a.pools a.clients.items) (sym is)
     (has_all a.names right c.into_parts-noted.ensures.hand g.N.Naming.start g.S.Door.visible g.S.Door.keeps own (g.S.Door.store c.into_parts-own.result.1) c.into_parts-own.ensures.home
-    a.files.items v them a.pools.items c.requires.pools a.clients.items c.requires.home.0 c.requires.home.1)
+    a.files.items v them a.pools c.requires.pools a.clients.items c.requires.home.0 c.requires.home.1)
 
 pub returns-clause-store : goal.returns-clause-store
 returns-clause-store g c =
@@ -25,10 +25,10 @@ returns-clause-store g c =
     let own = c.into_parts-own.result.0 in
     let v = c.gather_files.new.hand in
     let them : HasThemToo a.files.items (both_of right own) v = subst (λ (u : View). HasThemToo a.files.items u v) c.join.ensures c.gather_files.ensures in
-    let is = c.gather_hands-2.ensures ∙ ap (λ (u : View). with_all u a.clients.items) c.gather_hands.ensures in
+    let is = c.gather_hands.ensures ∙ ap (λ (u : View). with_all u a.clients.items) c.join-2.ensures in
     subst (λ (u : View). IsStoreIn g.N.Naming.start g.S.Door.visible g.S.Door.keeps u (g.S.Door.store c.into_parts-own.result.1)) (sym is)
     (store_there a.names right c.into_parts-noted.ensures.hand g.N.Naming.start g.S.Door.visible g.S.Door.keeps own (g.S.Door.store c.into_parts-own.result.1) c.into_parts-own.ensures.home
-    a.files.items v them a.pools.items c.requires.pools a.clients.items c.requires.home.0 c.requires.home.1)
+    a.files.items v them a.pools c.requires.pools a.clients.items c.requires.home.0 c.requires.home.1)
 
 pub returns-clause-its : goal.returns-clause-its
 returns-clause-its g c =

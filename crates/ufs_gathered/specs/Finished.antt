@@ -1,0 +1,69 @@
+-- What is known of a session on hands that has ended, and of the disk on which it ran, once everything was committed and its image was
+-- made clean, or once that failed.
+use Rattle.std.specs.Prelude.{ℕ, ◌≡◌, ◌⊎◌, Bool, true, false, List, IfErr, OnOk, Option, None, Some, Result, Ok, Err}
+use Rattle.ufs_base.specs.Faults.{RoseTo}
+use Rattle.ufs_base.specs.declared.lack.Lack.TheVariants as lack
+use Rattle.ufs_disk.specs.Disk.{Leaves}
+use Rattle.ufs_disk.specs.Moments.{Moments, reads}
+use Rattle.ufs_engine.specs.Closes.{closing_fault, stopped_at, tells_unsound}
+use Rattle.ufs_engine.specs.declared.closing.CloseFault.{CloseFault}
+use Rattle.ufs_engine.specs.declared.closing.CloseFault.TheVariants as cause
+use Rattle.ufs_image.specs.Volume.{superblock_of}
+use Rattle.ufs_joint.specs.Cells.{FileCell, NamesCell, Start}
+use Rattle.ufs_last.specs.Last.{StandsForTree}
+use Rattle.ufs_model.specs.History.{tree_after}
+use Rattle.ufs_model.specs.declared.data.Entry.{Entry}
+use Rattle.ufs_recovery.specs.Recovered.{IsCleanDisk, IsRecovered}
+use Rattle.ufs_store.specs.Refusals.{IsTold}
+use Rattle.ufs_store.specs.State.{StoreState}
+use Rattle.ufs_store.specs.declared.fault.StoreFault.{StoreFault}
+use Rattle.ufs_store.specs.declared.fault.StoreFault.TheVariants as refusal
+use Rattle.ufs_stored.specs.OnDisk.{IsExplainedBetween}
+use Rattle.ufs_gathered.specs.Ended.{HasEnded}
+
+-- ---- how it ends
+
+-- What a refusal of a commit ends it with, by where the store has stopped then. One by a stop of which the store doesn't know isn't sound.
+abbrev pub ended_by : StoreFault → Option ℕ → CloseFault
+ended_by (refusal.Device fault) stop = cause.Device fault
+ended_by (refusal.Stopped fault) None = cause.Lack lack.Unsound
+ended_by (refusal.Stopped fault) (Some n) = cause.Stopped n
+ended_by (refusal.NoSpace need had) None = cause.Lack lack.Unsound
+ended_by (refusal.NoSpace need had) (Some n) = cause.Stopped n
+ended_by (refusal.Lack why) stop = cause.Lack why
+
+-- Once everything was committed the image was made clean, or that failed; else the disk was left with its count.
+abbrev pub EndsBehind : Result (Unit {0}) StoreFault → (stop : Option ℕ) → (before now : ℕ) → Result (Unit {0}) CloseFault → Type 0
+EndsBehind (Ok x) stop before now ended = IsTold before now (closing_fault ended) × IfErr ended (λ fault. stopped_at fault ≡ None)
+EndsBehind (Err fault) stop before now ended = (now ≡ before) × (ended ≡ Err (ended_by fault stop))
+
+-- How it ended, by whether everything was committed, by where the store has stopped and by the disk's count of faults behind the commits
+-- and now: well; by the fault at which the store stopped in a commit, or by one of the closing; by the stop of a store that commits
+-- nothing more; or by a lack, of a commit or of the closing.
+abbrev pub EndsBy : (all : Bool) → (stop : Option ℕ) → (before now : ℕ) → Result (Unit {0}) CloseFault → Type 0
+EndsBy all stop before now (Ok x) = (all ≡ true) × (stop ≡ None) × (now ≡ before)
+EndsBy all stop before now (Err (cause.Device fault)) = ((all ≡ false) × (stop ≡ Some fault) × (now ≡ before)) ⊎ ((all ≡ true) × (stop ≡ None) × RoseTo before now fault)
+EndsBy all stop before now (Err (cause.Stopped fault)) = (all ≡ false) × (stop ≡ Some fault) × (now ≡ before)
+EndsBy all stop before now (Err (cause.Lack why)) = (stop ≡ None) × (now ≡ before)
+
+-- ---- the whole
+
+-- The session ended so, with names, files and store as they were behind the commits, and so the disk was left.
+pub record HasFinished (k : Start) (keeps : Bool) (tickets : ℕ) (lists : List (List Entry)) (sectors faults : ℕ) (now : Moments) (ended : Result (Unit {0}) CloseFault) : Type 0 where
+  pub names : NamesCell
+  pub files : List FileCell
+  pub store : StoreState
+  pub session : HasEnded k tickets lists names files store
+  -- whether everything was committed
+  pub all : Bool
+  pub ends : EndsBy all store.stop store.faults faults ended
+  pub size : sectors ≡ store.sectors
+  -- Over a visible disk: at each moment since then what a crash leaves is explained by the whole history, and proper.
+  pub moments : k.is_visible ≡ true → IsExplainedBetween keeps store.sectors session.start session.history store.moments now
+  -- Once everything was committed it stands for the last tree, also where the image couldn't be made clean then,
+  pub last : k.is_visible ≡ true → all ≡ true → Leaves (StandsForTree store.sectors (tree_after session.start session.history)) now.state
+  -- for which only the disk is to blame, or want of memory or of a number.
+  pub sound : k.is_visible ≡ true → all ≡ true → IfErr ended (λ fault. tells_unsound fault ≡ false)
+  -- Where it ended well the disk is clean, and an image that was in use is as a recovery makes it.
+  pub clean : k.is_visible ≡ true → OnOk ended (IsCleanDisk store.sectors now.state)
+  pub recovered : k.is_visible ≡ true → OnOk ended ((superblock_of (reads store.moments)).clean ≡ false → IsRecovered (reads store.moments) (reads now))

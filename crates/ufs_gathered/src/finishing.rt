@@ -1,0 +1,168 @@
+// A session on hands is ended over a disk: everything is committed, and the image is made clean.
+ghost use Rattle.std.specs.Prelude.{ℕ, ◌≡◌, ◌<◌, ◌↔◌, eqb, List, IfErr, IsTrue, OnOk, Some, Err, false, true};
+ghost use Rattle.ufs_disk.specs.Disk.{Leaves};
+ghost use Rattle.ufs_disk.specs.Moments.{LeavesOnly, reads};
+ghost use Rattle.ufs_engine.specs.Closes.{OpensAsLeft, tells_unsound};
+ghost use Rattle.ufs_engine.specs.declared.closing.CloseFault.TheVariants as cause;
+ghost use Rattle.ufs_gathered.specs.Ended.{AreAllKnown};
+ghost use Rattle.ufs_gathered.specs.Finished.{EndsBehind, HasFinished, ended_by};
+ghost use Rattle.ufs_gathered.specs.Gathered.{AreAllBack, AreHome, HasPoolsAlone};
+ghost use Rattle.ufs_held.specs.Together.{under_numbers};
+ghost use Rattle.ufs_image.specs.Proper.{IsProperImage};
+ghost use Rattle.ufs_image.specs.Volume.{superblock_of};
+ghost use Rattle.ufs_layout.specs.Areas.{IsGeometry};
+ghost use Rattle.ufs_model.specs.declared.data.Entry.{Entry};
+ghost use Rattle.ufs_recovery.specs.Recovered.{IsCleanDisk, IsRecovered};
+ghost use Rattle.ufs_sound.specs.Owned.{count};
+ghost use Rattle.ufs_store.specs.Refusals.{fault_in, stop_after};
+ghost use Rattle.ufs_store.specs.declared.fault.StoreFault.TheVariants as refusal;
+ghost use Rattle.ufs_turns.specs.Lent.{stop_in};
+
+use crate::ending::{Ended, end};
+use crate::gathering::Actors;
+use crate::straight::Straight;
+use std::alloc::Global;
+use std::sync::ledger::{Ledger, Share};
+use ufs_base::Lack;
+use ufs_disk::Disk;
+use ufs_engine::{CloseFault, clean};
+use ufs_held::HeldFile;
+use ufs_held_names::HeldNames;
+use ufs_joint::{Hand, HandTable, Naming};
+use ufs_layout::Geometry;
+use ufs_store::{Door, Store, StoreFault};
+use ufs_turns::HeldStore;
+
+/// A disk behind a session on hands, and how that ended.
+#[derive(Drop)]
+pub struct Finished<D: Disk> {
+    /// How many entries the session has.
+    pub tickets: u64,
+    pub disk: D,
+    pub ended: Result<(), CloseFault>,
+}
+
+/// Ends a session whose actors are all done: commits the names and each file, closes it, and makes the image clean. The hand of the pools
+/// is lent to the commits. Where one fails no other call of the disk is made, and the image is left in use.
+///
+/// What a crash leaves is explained by the session's history at each moment, and stands for the last tree once everything is committed.
+pub fn finish<N: Naming, D: Disk, L: Ledger>(
+    alloc: Global,
+    table: HandTable<N>,
+    geometry: &Geometry,
+    actors: Actors<N, Store<D>, L>,
+    share: Share<L>,
+) -> Finished<D>
+    requires formed { IsGeometry geometry.now }
+    requires its { geometry.now ≡ N.start.geometry }
+    requires share { 0 < share.parts }
+    requires home { (lists : List (List Entry)) × AreHome lists actors.clients.items }
+    requires pools { HasPoolsAlone actors.pools }
+    requires back { AreAllBack N.start actors.names actors.files.items actors.pools actors.clients.items }
+    ensures finished { (lists : List (List Entry)) → AreHome lists actors.clients.items
+        → HasFinished N.start D.keeps result.tickets lists (D.size result.disk) (D.faults result.disk) (D.moments result.disk) result.ended }
+    ensures stopped { (fault : ℕ) → (result.ended ≡ Err (cause.Stopped fault)) ↔ (stop_in actors.store.store ≡ Some fault) }
+{
+    let Actors {
+        mut names,
+        mut files,
+        store,
+        mut pools,
+        clients,
+    } = actors;
+    let (done, store) = commit_straight(
+        &table,
+        store,
+        share,
+        &mut names,
+        files.as_mut_slice(),
+        &mut pools,
+        geometry,
+    );
+    let actors = Actors {
+        names,
+        files,
+        store,
+        pools,
+        clients,
+    };
+    let Ended { tickets, store } = end(table, actors);
+    let stop = store.stopped();
+    let mut disk = store.into_disk();
+    let ended = clean_if(alloc, &mut disk, done, stop);
+    Finished {
+        tickets,
+        disk,
+        ended,
+    }
+}
+
+// Commits the names and each file, straight at the store. One that had stopped commits nothing.
+fn commit_straight<N: Naming, S: Door, L: Ledger>(
+    table: &HandTable<N>,
+    held: HeldStore<N, S, L>,
+    share: Share<L>,
+    names: &mut HeldNames<N>,
+    files: &mut [HeldFile<N>],
+    pools: &mut Hand<N>,
+    geometry: &Geometry,
+) -> (Result<(), StoreFault>, HeldStore<N, S, L>)
+    requires formed { IsGeometry geometry.now }
+    requires its { geometry.now ≡ N.start.geometry }
+    requires share { 0 < share.parts }
+    requires alone { HasPoolsAlone pools.old }
+    ensures there { names.new.value.held ≡ names.old.value.held }
+    ensures numbers { (file : ℕ) → count eqb file (under_numbers files.new) ≡ count eqb file (under_numbers files.old) }
+    ensures alone { HasPoolsAlone pools.new }
+    ensures pools { pools.new.pools ≡ pools.old.pools }
+    ensures known { OnOk result.0 (N.start.is_visible ≡ true → AreAllKnown names.new files.new) }
+    ensures halts { stop_in result.1.store ≡ stop_after (stop_in held.store) (fault_in result.0) }
+    ensures halted { (fault : ℕ) → stop_in held.store ≡ Some fault → result.0 ≡ Err (refusal.Stopped fault) }
+{
+    let mut door = Straight { table, held, share };
+    let done = names.commit_all(table, files, pools, &mut door, geometry);
+    let Straight {
+        table: _,
+        held,
+        share,
+    } = door;
+    drop(share);
+    (done, held)
+}
+
+// Makes the image clean, if everything is committed.
+fn clean_if<D: Disk>(
+    alloc: Global,
+    disk: &mut D,
+    done: Result<(), StoreFault>,
+    stop: Option<u64>,
+) -> Result<(), CloseFault>
+    ensures ends { EndsBehind done stop (D.faults disk.old) (D.faults disk.new) result }
+    ensures tree { IsTrue D.visible → Leaves (IsProperImage (D.size disk.old)) (D.moments disk.old).state
+        → LeavesOnly D.keeps (OpensAsLeft (D.size disk.old) (D.moments disk.old).state) (D.moments disk.old) (D.moments disk.new) }
+    ensures clean { IsTrue D.visible → OnOk result (Leaves (IsProperImage (D.size disk.old)) (D.moments disk.old).state → IsCleanDisk (D.size disk.old) (D.moments disk.new).state) }
+    ensures size { D.size disk.new ≡ D.size disk.old }
+    ensures sound { IsTrue D.visible → OnOk done (Leaves (IsProperImage (D.size disk.old)) (D.moments disk.old).state → IfErr result (λ fault. tells_unsound fault ≡ false)) }
+    ensures recovered { IsTrue D.visible → OnOk result (Leaves (IsProperImage (D.size disk.old)) (D.moments disk.old).state → (superblock_of (reads (D.moments disk.old))).clean ≡ false
+        → IsRecovered (reads (D.moments disk.old)) (reads (D.moments disk.new))) }
+{
+    match done {
+        Ok(()) => clean(alloc, disk),
+        Err(fault) => Err(fault_of(fault, stop)),
+    }
+}
+
+// Why everything isn't committed, by where the store has stopped.
+fn fault_of(fault: StoreFault, stop: Option<u64>) -> CloseFault
+    ensures { result ≡ ended_by fault stop }
+{
+    match fault {
+        StoreFault::Device { fault } => CloseFault::Device { fault },
+        StoreFault::Lack(lack) => CloseFault::Lack(lack),
+        // A commit asks for no blocks, so the store has stopped.
+        StoreFault::Stopped { .. } | StoreFault::NoSpace { .. } => match stop {
+            Some(fault) => CloseFault::Stopped { fault },
+            None => CloseFault::Lack(Lack::Unsound),
+        },
+    }
+}
