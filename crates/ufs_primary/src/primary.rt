@@ -50,6 +50,7 @@ impl<N: Naming> Primary<N> {
     ghost use Rattle.ufs_layout.specs.Areas.{IsGeometry};
     ghost use Rattle.ufs_model.specs.declared.data.Actor.TheVariants.{Primary as primary, Worker};
     ghost use Rattle.ufs_msg.specs.There.{worker_count};
+    ghost use Rattle.ufs_owner.specs.Owners.{count_out};
     ghost use Rattle.ufs_primary.specs.Orders.{IsFileOrdered, dropped_by};
     ghost use Rattle.ufs_primary.specs.Primary.{AreHere, stock_of, primary_of};
     ghost use Rattle.ufs_primary.specs.Turns.{IsTurn};
@@ -79,6 +80,23 @@ impl<N: Naming> Primary<N> {
             answers: VecDeque::new(alloc),
             waiting: VecDeque::new(alloc),
         }
+    }
+
+    /// The names, the files that are at it, its pool and that one's hand, for who closes the session. What it keeps is dropped.
+    pub fn into_parts(self) -> (HeldNames<N>, Home<N>, Pool, Hand<N>)
+        ensures parts { stock_of result.0 result.1 result.2 ≡ self.stock }
+        ensures hand { HasPoolAlone (pool_of 0) result.2 result.3 }
+        ensures few { set.len result.2 ≤ most_at_rest }
+        ensures here { AreHere result.0 result.1 }
+    {
+        self.stock.into_parts()
+    }
+
+    /// How many files aren't at the primary.
+    pub fn count_out(&self) -> u32
+        ensures { result ≡ count_out self.now.stock.home.owners }
+    {
+        self.stock.count_out()
     }
 
     /// One turn. First what is kept goes, as far as rings have room: the letters in order, then the answers. Then the front letter is

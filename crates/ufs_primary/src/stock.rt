@@ -61,6 +61,7 @@ impl<N: Naming> Stock<N> {
     ghost use Rattle.ufs_layout.specs.Areas.{IsGeometry};
     ghost use Rattle.ufs_model.specs.declared.data.Actor.TheVariants.{Worker};
     ghost use Rattle.ufs_msg.specs.There.{worker_count};
+    ghost use Rattle.ufs_owner.specs.Owners.{count_out};
     ghost use Rattle.ufs_primary.specs.Letters.{IsFrontDone};
     ghost use Rattle.ufs_primary.specs.Orders.{IsFileOrdered, dropped_by};
     ghost use Rattle.ufs_primary.specs.Primary.{AreHere, stock_of};
@@ -92,6 +93,23 @@ impl<N: Naming> Stock<N> {
             pool,
             right,
         }
+    }
+
+    /// What it serves with, and the pool's hand.
+    pub(crate) fn into_parts(self) -> (HeldNames<N>, Home<N>, Pool, Hand<N>)
+        ensures parts { stock_of result.0 result.1 result.2 ≡ self }
+        ensures hand { HasPoolAlone (pool_of 0) result.2 result.3 }
+        ensures few { set.len result.2 ≤ most_at_rest }
+        ensures here { AreHere result.0 result.1 }
+    {
+        (self.names, self.home, self.pool, self.right)
+    }
+
+    /// How many files aren't at the primary.
+    pub(crate) fn count_out(&self) -> u32
+        ensures { result ≡ count_out self.now.home.owners }
+    {
+        self.home.count_out()
     }
 
     /// Letters to workers that are kept go, as far as there is room.
