@@ -215,11 +215,7 @@ fn deal_all<N: Naming, D: Disk, L: Ledger, R: Abort + AllocGlobal>(
 }
 
 // These two hands.
-fn both<N: Naming, R: Abort + AllocGlobal>(
-    rt: &R,
-    one: Hand<N>,
-    other: Hand<N>,
-) -> Vec<Hand<N>>
+fn both<N: Naming, R: Abort + AllocGlobal>(rt: &R, one: Hand<N>, other: Hand<N>) -> Vec<Hand<N>>
     ensures { result.items ≡ one ∷ other ∷ [] }
 {
     let Ok(hands) = Vec::from_array(rt.alloc(), [one, other]) else {

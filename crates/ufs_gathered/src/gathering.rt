@@ -39,7 +39,11 @@ pub(crate) fn gather_hands<N: Naming>(table: &HandTable<N>, hand: &mut Hand<N>, 
 }
 
 // The rights to the cells of these files come to the hand. The files themselves are let go.
-pub(crate) fn gather_files<N: Naming>(table: &HandTable<N>, hand: &mut Hand<N>, files: Vec<HeldFile<N>>)
+pub(crate) fn gather_files<N: Naming>(
+    table: &HandTable<N>,
+    hand: &mut Hand<N>,
+    files: Vec<HeldFile<N>>,
+)
     ensures { HasThemToo files.items hand.old hand.new }
 {
     for file in files {

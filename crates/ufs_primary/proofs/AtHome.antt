@@ -46,7 +46,7 @@ use Rattle.ufs_primary.specs.Letters.{IsFrontDone, IsLetterDone, IsNextDone, IsS
 use Rattle.ufs_primary.specs.Named.{IsDoneByNames}
 use Rattle.ufs_primary.specs.Orders.{IsFileOrdered, IsNoFile, IsObeyed, IsReadied}
 use Rattle.ufs_primary.specs.Primary.{AreHere, StockState}
-use Rattle.ufs_primary.specs.Served.{All, ByNames, IsServed, IsTried, OnFile, OnNone, back_in, emptied, lent_with, made_in, places_then}
+use Rattle.ufs_primary.specs.Served.{All, ByNames, IsServed, IsTried, Lacked, OnFile, OnNone, back_in, emptied, lent_with, made_in, places_then}
 use Rattle.ufs_primary.specs.Turns.{unwaited, unwaited_of}
 use Rattle.ufs_primary.specs.Waiting.{IsPutOff, Waits}
 use Rattle.ufs_primary.specs.declared.ordered.Ordered.{Ordered}
@@ -390,6 +390,7 @@ module _ (visible : Bool) (before after : Option View) (s t : StockState) (here 
       let home : t.home ≡ record s.home { places = put_all x.lent x.nows } = ap (λ (y : StockState). y.home) x.rest in
       subst (AreHere t.names) (sym home) (λ f live at. alike_put f x.olds x.nows x.lent x.lent x.served.numbers (λ is. is)
       (subst (λ (p : Places). IsSome (file_here p f)) (sym x.here.back) (here_names s.home s.names t.names same here f live at)))
+  here_served ask told (Lacked x) = here_of s t x.rest here
 
   pub here_tried : {N : Type 0} (r : Asked) (x : Tried N) → IsTried visible before after s t r x → AreHere t.names t.home
   here_tried r (tried.Answered a) is = here_served r.ask is.0 is.2

@@ -2,13 +2,15 @@
 use Rattle.std.proofs.Common.{◌≡◌, ℕ, Bool, List, [], ◌∷◌, ◌++◌, inl, inr, Option, refl, ap, ◌∙◌, subst}
 use Rattle.ufs_base.specs.declared.lack.Lack.{Lack}
 use Rattle.ufs_joint.specs.Cells.{FileCell, View}
+use Rattle.ufs_model.specs.declared.data.Ask.{Ask}
 use Rattle.ufs_msg.specs.Answers.{Told}
 use Rattle.ufs_msg.specs.Requests.{Asked}
 use Rattle.ufs_msg.specs.declared.answer.Answer.{Answer}
 use Rattle.ufs_serving.specs.Posts.{AnswersGo, Said, said}
+use Rattle.ufs_primary.specs.Excused.{IsExcusedHere}
 use Rattle.ufs_primary.specs.Primary.{StockState, primary_of}
-use Rattle.ufs_primary.specs.Served.{IsAway, IsLackFor, IsSentOn, IsServed, IsStill}
-use Rattle.ufs_primary.specs.Turns.{IsFront, IsIdle, IsMadeWait, IsOldest, IsRequestDone, IsTakenUp, at_once}
+use Rattle.ufs_primary.specs.Served.{IsAway, IsLackFor, IsSentOn, IsServed, IsStill, Lacked}
+use Rattle.ufs_primary.specs.Turns.{IsFront, IsIdle, IsMadeWait, IsOldest, IsRequestDone, IsTakenUp}
 use Rattle.ufs_primary.specs.Waiting.{AllWait, IsPutOff, Waits}
 use Rattle.ufs_primary.specs.declared.turn.PrimaryTurn.{PrimaryTurn}
 use Rattle.ufs_primary.specs.declared.turn.PrimaryTurn.TheVariants as turn
@@ -55,21 +57,21 @@ module _ {N Q : Type 0} (answers : Q → ℕ → Answer N → Q → Type 0) (sam
       → IsPutOff t.home u.home old new asked (awaited.File file) file o → u ≡ record t { home = u.home }
       → IsRequestDone answers same full visible before after (primary_of h coming answer old) (primary_of u coming answer new) r p p o
   is_waiting h t u coming answer old new r asked file p (turn.Waiting f) still cause same' put rest = made_wait h t u coming answer old new r asked file p (turn.Waiting f) still cause same' put rest
-  is_waiting h t u coming answer old new r asked file p (turn.Lack l) still cause same' put rest = inl (made_wait h t u coming answer old new r asked file p (turn.Lack l) still cause same' put rest)
+  is_waiting h t u coming answer old new r asked file p (turn.Lack l) still cause same' put rest = made_wait h t u coming answer old new r asked file p (turn.Lack l) still cause same' put rest
   is_waiting h t u coming answer old new r asked file p turn.Settled still cause same' put rest = absurd put
   is_waiting h t u coming answer old new r asked file p turn.Noted still cause same' put rest = absurd put
   is_waiting h t u coming answer old new r asked file p turn.Served still cause same' put rest = absurd put
   is_waiting h t u coming answer old new r asked file p (turn.Redirected f) still cause same' put rest = absurd put
   is_waiting h t u coming answer old new r asked file p turn.Idle still cause same' put rest = absurd put
 
-  pub is_kept : (h t : StockState) (coming : Option FileCell) (answer : List Said) (old new : List Waits) (r asked : Asked) (what : Lack) (p : Q) → IsStill r asked → IsLackFor h r.ask what → t ≡ h → new ≡ old ++ at_once asked ∷ []
-      → IsRequestDone answers same full visible before after (primary_of h coming answer old) (primary_of t coming answer new) r p p (turn.Lack what)
-  is_kept h t coming answer old new r asked what p still cause same' put = inr (record {
+  -- it was as before, and so was the store, when it was excused
+  pub is_lacked : (h t u : StockState) (r asked : Asked) (what : Lack) (told : Told) → IsStill r asked → IsLackFor h r.ask what → t ≡ h → after ≡ before → IsExcusedHere t.home.owners asked.ask told → u ≡ t → IsServed visible before after h u r.ask told
+  is_lacked h t u r asked what told still cause same' store excused rest = Lacked (record {
+    what = what;
     cause = cause;
-    asked = asked;
-    still = still;
-    nothing = refl;
-    rest = (λ i. primary_of (same' i) coming answer (put i));
+    excused = subst (λ (x : StockState × Ask). IsExcusedHere x.0.home.owners x.1 told) (λ i. (same' i, still.ask i)) excused;
+    rest = rest ∙ same';
+    store = store;
   })
 
   -- ---- which request it is

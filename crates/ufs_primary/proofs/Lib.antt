@@ -1,6 +1,7 @@
 mod Turning
 pub mod Asked
 mod NamesTold
+mod Excuses
 mod DirsTold
 mod AllTold
 mod SyncedHere

@@ -1,6 +1,7 @@
 pub mod Letters
 pub mod Here
 pub mod Named
+pub mod Excused
 pub mod Waiting
 pub mod Dirs
 pub mod All

@@ -21,6 +21,7 @@ use Rattle.ufs_owner.specs.declared.owner.Owner.TheVariants as owner
 use Rattle.ufs_sound.specs.Parts.{ClientPart}
 use Rattle.ufs_primary.specs.All.{IsAllSynced}
 use Rattle.ufs_primary.specs.Dirs.{IsDirServed}
+use Rattle.ufs_primary.specs.Excused.{IsExcusedHere}
 use Rattle.ufs_primary.specs.Here.{IsServedHere}
 use Rattle.ufs_primary.specs.Kinds.{IsByNames, IsOnFile, IsOnNone}
 use Rattle.ufs_primary.specs.Named.{IsNamesServed}
@@ -52,6 +53,19 @@ back_in None (Some file) places = fin.remove places file
 
 abbrev pub places_then : Places → ℕ → Option FileCell → Option FileCell → Option FileCell → Places
 places_then places next touched still young = back_in still (number_of touched) (made_in young next (lent_with places touched next))
+
+-- ---- what may be wanting
+
+-- no number is left for a new file
+abbrev pub HasNoNumber : StockState → Type 0
+HasNoNumber s = (2 ^ 31 ≤ s.names.value.next) ⊎ IsSome (file_here s.home.places s.names.value.next)
+
+-- For want of this it is excused: of memory, or, where it is of the names, of a number for a new file.
+abbrev pub IsLackFor : StockState → Ask → Lack → Type 0
+IsLackFor s ask (lack.Memory refused) = ⊤
+IsLackFor s ask lack.AtEnd = IsByNames ask × HasNoNumber s
+IsLackFor s ask lack.Unsound = ⊥
+IsLackFor s ask lack.Told = ⊥
 
 -- ---- a request is served
 
@@ -94,11 +108,20 @@ module _ (visible : Bool) (before after : Option View) (s t : StockState) (ask :
     pub served : IsAllSynced visible before after s.names t.names olds nows ask told
     pub rest : t ≡ record s { names = t.names; home = record s.home { places = put_all lent nows } }
 
+  -- one that is excused for want of this: all else is as it was
+  pub record IsLackedHere : Type 0 where
+    pub what : Lack
+    pub cause : IsLackFor s ask what
+    pub excused : IsExcusedHere s.home.owners ask told
+    pub rest : t ≡ s
+    pub store : after ≡ before
+
 pub data IsServed (visible : Bool) (before after : Option View) (s t : StockState) (ask : Ask) (told : Told) : Type 0 where
   OnFile : IsOnFileHere visible before after s t ask told → IsServed visible before after s t ask told
   ByNames : IsByNamesHere visible before after s t ask told → IsServed visible before after s t ask told
   OnNone : IsOnNoneHere visible before after s t ask told → IsServed visible before after s t ask told
   All : IsAllHere visible before after s t ask told → IsServed visible before after s t ask told
+  Lacked : IsLackedHere visible before after s t ask told → IsServed visible before after s t ask told
 
 -- ---- or it isn't
 
@@ -115,17 +138,6 @@ pub data IsAway (s : StockState) (ask : Ask) (file : ℕ) : Type 0 where
   FromNames : IsByNames ask → IsNeeded s.names.value ask (Some file) → file_here s.home.places file ≡ None → IsAway s ask file
   FromAll : ask.op ≡ op.Sync → (owner_at s.home.owners file ≡ owner.Primary → ⊥) → IsAway s ask file
 
--- no number is left for a new file
-abbrev pub HasNoNumber : StockState → Type 0
-HasNoNumber s = (2 ^ 31 ≤ s.names.value.next) ⊎ IsSome (file_here s.home.places s.names.value.next)
-
--- For want of this it isn't served: of memory, or, where it is of the names, of a number for a new file.
-abbrev pub IsLackFor : StockState → Ask → Lack → Type 0
-IsLackFor s ask (lack.Memory refused) = ⊤
-IsLackFor s ask lack.AtEnd = IsByNames ask × HasNoNumber s
-IsLackFor s ask lack.Unsound = ⊥
-IsLackFor s ask lack.Told = ⊥
-
 module _ {N : Type 0} where
   -- A worker has its file, which isn't here: the answer sends it on there.
   pub record IsSentOn (s : StockState) (r : Asked) (a : Answer N) (file : ℕ) : Type 0 where
@@ -136,7 +148,7 @@ module _ {N : Type 0} where
     pub has : owner_at s.home.owners file ≡ owner.Worker worker
     pub answer : a ≡ says.Redirect (record { request = r; to = actor.Worker worker })
 
-  -- It is served; or all is as it was, and it is sent on, or is to be tried again.
+  -- It is served; or all is as it was, and it is sent on, or is to wait, or to be excused.
   abbrev pub IsTried : (visible : Bool) (before after : Option View) → StockState → StockState → Asked → Tried N → Type 0
   IsTried visible before after s t r (tried.Answered a) = (told : Told) × (a ≡ says.Served told) × IsServed visible before after s t r.ask told
   IsTried visible before after s t r (tried.Redirected a file) = IsSentOn s r a file × (t ≡ s) × (after ≡ before)

@@ -1,7 +1,6 @@
 -- One turn of the primary.
 use Rattle.std.specs.Prelude.{ℕ, ◌≡◌, ◌⊎◌, ◌++◌, Bool, true, List, [], ◌∷◌, Option, Some, None, filter}
 use Rattle.std.proofs.Common.{inl, inr}
-use Rattle.ufs_base.specs.declared.lack.Lack.{Lack}
 use Rattle.ufs_base.specs.declared.lack.Lack.TheVariants as lack
 use Rattle.ufs_base.specs.declared.memory.Memory.{Memory}
 use Rattle.ufs_home.specs.Home.{HomeState}
@@ -21,7 +20,7 @@ use Rattle.ufs_serving.specs.Posts.{AnswersGo}
 use Rattle.ufs_primary.specs.Kinds.{IsOnFile}
 use Rattle.ufs_primary.specs.Letters.{IsFrontDone}
 use Rattle.ufs_primary.specs.Primary.{StockState, PrimaryState}
-use Rattle.ufs_primary.specs.Served.{IsAway, IsLackFor, IsServed, IsStill}
+use Rattle.ufs_primary.specs.Served.{IsAway, IsServed, IsStill}
 use Rattle.ufs_primary.specs.Waiting.{AllWait, IsPutOff, TakesOldest, Waits}
 use Rattle.ufs_primary.specs.declared.turn.PrimaryTurn.{PrimaryTurn}
 use Rattle.ufs_primary.specs.declared.turn.PrimaryTurn.TheVariants as turn
@@ -64,12 +63,8 @@ pub record IsTakenUp (s t : StockState) (old new : List Waits) (r : Asked) : Typ
   pub taken : TakesOldest s.home.owners old new one
   pub rest : t ≡ record s { home = unwaited s.home one }
 
--- It is to be looked at again.
-abbrev pub at_once : Asked → Waits
-at_once q = record { request = q; awaited = awaited.Room }
-
 module _ {N Q : Type 0} (answers : Q → ℕ → Answer N → Q → Type 0) (same : Q → Q → Type 0) (full : Q → ℕ → Type 0) (visible : Bool) (before after : Option View) where
-  -- It is served, and its answer goes behind those that are kept.
+  -- It is served or excused, and its answer goes behind those that are kept.
   pub record IsServedNow (s t : PrimaryState) (r : Asked) (p q : Q) : Type 0 where
     pub told : Told
     pub served : IsServed visible before after s.stock t.stock r.ask told
@@ -96,19 +91,11 @@ module _ {N Q : Type 0} (answers : Q → ℕ → Answer N → Q → Type 0) (sam
     pub nothing : q ≡ p
     pub rest : t ≡ record s { stock = record s.stock { home = t.stock.home }; waiting = t.waiting }
 
-  -- There was no room for it, or no number is left for a new file: it is to be looked at again.
-  pub record IsKept (s t : PrimaryState) (r : Asked) (p q : Q) (what : Lack) : Type 0 where
-    pub cause : IsLackFor s.stock r.ask what
-    pub asked : Asked
-    pub still : IsStill r asked
-    pub nothing : q ≡ p
-    pub rest : t ≡ record s { waiting = s.waiting ++ at_once asked ∷ [] }
-
   abbrev pub IsRequestDone : PrimaryState → PrimaryState → Asked → Q → Q → PrimaryTurn → Type 0
   IsRequestDone s t r p q turn.Served = IsServedNow s t r p q
   IsRequestDone s t r p q (turn.Redirected file) = IsRedirected s t r file p q
   IsRequestDone s t r p q (turn.Waiting file) = IsMadeWait s t r p q (turn.Waiting file)
-  IsRequestDone s t r p q (turn.Lack what) = IsMadeWait s t r p q (turn.Lack what) ⊎ IsKept s t r p q what
+  IsRequestDone s t r p q (turn.Lack what) = IsMadeWait s t r p q (turn.Lack what)
   IsRequestDone s t r p q _ = ⊥
 
   -- The oldest of those that wait and whose files have come is taken up, and done.

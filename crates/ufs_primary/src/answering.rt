@@ -10,7 +10,7 @@ ghost use Rattle.ufs_primary.specs.declared.turn.PrimaryTurn.TheVariants as turn
 use crate::stock::Stock;
 use crate::tried::Tried;
 use crate::turn::PrimaryTurn;
-use crate::waiting::{Awaited, Waiting};
+use crate::waiting::Waiting;
 use std::collections::VecDeque;
 use ufs_base::Lack;
 use ufs_joint::{HandTable, Naming};
@@ -34,7 +34,7 @@ fn say<N: Naming, Q: ServerPost<N, Letter<Parcel<N>>>>(
     send_answers(answers, post);
 }
 
-// Serves the request, and tells its client; or it waits.
+// Serves or excuses the request, and tells its client; or it waits.
 fn do_request<N: Naming, Q: ServerPost<N, Letter<Parcel<N>>>, T: Turns<N>>(
     table: &HandTable<N>,
     stock: &mut Stock<N>,
@@ -64,8 +64,9 @@ fn do_request<N: Naming, Q: ServerPost<N, Letter<Parcel<N>>>, T: Turns<N>>(
         }
         Tried::Away { request, file } => stock.put_off(waiting, request, file),
         Tried::Lacks { request, lack } => {
-            waiting.push_back_reserved(Waiting::new(request, Awaited::Room));
-            PrimaryTurn::Lack(lack)
+            let answer = stock.excuse(table, request, lack);
+            say(answers, answer, post);
+            PrimaryTurn::Served
         }
     }
 }

@@ -4,6 +4,7 @@
 mod all;
 mod answering;
 mod dirs;
+mod excusing;
 mod here;
 mod kinds;
 mod letters;

@@ -34,8 +34,8 @@ pub struct NamesAnswered<N: Naming> {
     pub made: Option<Newborn<N>>,
 }
 
-// Who has the file, if there is one.
-fn server_of<N: Naming>(home: &Home<N>, file: Option<u32>) -> Option<Actor>
+/// Who has the file, if there is one.
+pub(crate) fn server_of<N: Naming>(home: &Home<N>, file: Option<u32>) -> Option<Actor>
     ensures is { result ≡ server_at home.now.owners file }
     ensures there { IfSome result (IsServerThere N.start) }
 {

@@ -101,7 +101,7 @@ impl<N: Naming> Primary<N> {
 
     /// One turn. First what is kept goes, as far as rings have room: the letters in order, then the answers. Then the front letter is
     /// done: a file that was coming is here, or goes on; else the oldest request that waits and whose files have come, or else the front
-    /// one: it is served with what is here, or sent on to the worker that has its file, or waits for that.
+    /// one: it is served with what is here, or sent on to the worker that has its file, or waits for that, or is excused.
     pub fn poll<Q: ServerPost<N, Letter<Parcel<N>>>, T: Turns<N>>(
         &mut self,
         table: &HandTable<N>,

@@ -2,6 +2,7 @@
 ghost use Rattle.std.specs.Prelude.{◌≡◌};
 ghost use Rattle.ufs_primary.specs.Turns.{unwaited_of};
 
+use crate::excusing::excuse;
 use crate::letters::take_letter;
 use crate::ordered::Ordered;
 use crate::ordering::order_file;
@@ -11,12 +12,13 @@ use crate::turn::PrimaryTurn;
 use crate::waiting::{Awaited, Waiting, put_off, take_oldest};
 use std::collections::VecDeque;
 use std::marker::Model;
+use ufs_base::Lack;
 use ufs_bitmap::Pool;
 use ufs_held_names::HeldNames;
 use ufs_home::Home;
 use ufs_joint::{Hand, HandTable, Naming};
 use ufs_layout::Geometry;
-use ufs_msg::{Letter, Request, ServerPost};
+use ufs_msg::{Answer, Letter, Request, ServerPost};
 use ufs_parcel::Parcel;
 use ufs_turns::Turns;
 
@@ -60,8 +62,11 @@ impl<N: Naming> Stock<N> {
     ghost use Rattle.ufs_home.specs.Letters.{RingsGo, letter_of};
     ghost use Rattle.ufs_layout.specs.Areas.{IsGeometry};
     ghost use Rattle.ufs_model.specs.declared.data.Actor.TheVariants.{Worker};
+    ghost use Rattle.ufs_msg.specs.Answers.{Told};
     ghost use Rattle.ufs_msg.specs.There.{worker_count};
+    ghost use Rattle.ufs_msg.specs.declared.answer.Answer.TheVariants as answer;
     ghost use Rattle.ufs_owner.specs.Owners.{count_out};
+    ghost use Rattle.ufs_primary.specs.Excused.{IsExcusedHere};
     ghost use Rattle.ufs_primary.specs.Letters.{IsFrontDone};
     ghost use Rattle.ufs_primary.specs.Orders.{IsFileOrdered, dropped_by};
     ghost use Rattle.ufs_primary.specs.Primary.{AreHere, stock_of};
@@ -166,6 +171,19 @@ impl<N: Naming> Stock<N> {
             &mut self.right,
             door,
         )
+    }
+
+    /// Excuses the request for want of this.
+    pub(crate) fn excuse(
+        &mut self,
+        table: &HandTable<N>,
+        request: Request<N>,
+        lack: Lack,
+    ) -> Answer<N>
+        ensures excused { (told : Told) × (result ≡ answer.Served told) × IsExcusedHere self.old.home.owners request.ask told }
+        ensures rest { self.new ≡ self.old }
+    {
+        excuse(table, &self.home, request, lack, &mut self.right)
     }
 
     /// The request waits for the file, which is asked for.

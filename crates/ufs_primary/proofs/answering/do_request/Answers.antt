@@ -1,8 +1,7 @@
-use Rattle.std.proofs.Common.{[], ◌∷◌, ◌++◌, ap, refl, subst, ◌∙◌}
+use Rattle.std.proofs.Common.{ap, refl, subst}
 use Rattle.ufs_serving.specs.Posts.{all_said, said}
 use Rattle.ufs_primary.specs.Served.{IsTried}
-use Rattle.ufs_primary.specs.Waiting.{Waits}
-use Rattle.ufs_primary.proofs.Doing.{is_kept, is_redirected, is_served, is_waiting}
+use Rattle.ufs_primary.proofs.Doing.{is_lacked, is_redirected, is_served, is_waiting}
 use Rattle.ufs_primary.proofs.answering.do_request.Goals as goal
 
 pub returns-in-Answered-clause-done : goal.returns-in-Answered-clause-done
@@ -38,12 +37,14 @@ returns-in-Away-clause-store g c = λ _.
 
 pub returns-in-Lacks-clause-done : goal.returns-in-Lacks-clause-done
 returns-in-Lacks-clause-done g c = λ coming.
-    let is = subst (IsTried g.N.Naming.start.is_visible (g.T.Turns.tells c.args.door.now) (g.T.Turns.tells c.serve.new.door) c.args.stock.now c.serve.new.self c.args.request) c.in-Lacks.is c.serve.ensures in
-    is_kept g.Q.ServerPost.answers g.Q.ServerPost.same g.Q.ServerPost.answers_full g.N.Naming.start.is_visible (g.T.Turns.tells c.args.door.now) (g.T.Turns.tells c.serve.new.door)
-    c.args.stock.now c.serve.new.self coming (all_said c.args.answers.now.items) c.args.waiting.now.items c.push_back_reserved.new.self.items c.args.request c.in-Lacks.request c.in-Lacks.lack c.args.post.now is.0 is.1 is.2
-    (c.push_back_reserved.ensures.items ∙ ap (λ (w : Waits). c.args.waiting.now.items ++ w ∷ []) c.new.ensures)
+    let before = g.T.Turns.tells c.args.door.now in
+    let after = g.T.Turns.tells c.serve.new.door in
+    let is = subst (IsTried g.N.Naming.start.is_visible before after c.args.stock.now c.serve.new.self c.args.request) c.in-Lacks.is c.serve.ensures in
+    let x = c.excuse-answer.ensures.excused in
+    is_served g.Q.ServerPost.answers g.Q.ServerPost.same g.Q.ServerPost.answers_full g.N.Naming.start.is_visible before after
+    c.args.stock.now c.excuse-answer.new.self coming (all_said c.args.answers.now.items) (all_said c.say-in-Lacks.new.answers.items) c.args.waiting.now.items c.args.request (said c.excuse-answer.result) c.args.post.now c.say-in-Lacks.new.post x.0 (ap said x.1)
+    (is_lacked g.Q.ServerPost.answers g.Q.ServerPost.same g.Q.ServerPost.answers_full g.N.Naming.start.is_visible before after c.args.stock.now c.serve.new.self c.excuse-answer.new.self c.args.request c.in-Lacks.request c.in-Lacks.lack x.0 is.0 is.1 is.2 is.3 x.2 c.excuse-answer.ensures.rest)
+    c.say-in-Lacks.ensures.goes
 
 pub returns-in-Lacks-clause-store : goal.returns-in-Lacks-clause-store
-returns-in-Lacks-clause-store g c = λ _.
-    let is = subst (IsTried g.N.Naming.start.is_visible (g.T.Turns.tells c.args.door.now) (g.T.Turns.tells c.serve.new.door) c.args.stock.now c.serve.new.self c.args.request) c.in-Lacks.is c.serve.ensures in
-    is.3
+returns-in-Lacks-clause-store g c = λ no. absurd (no refl)
