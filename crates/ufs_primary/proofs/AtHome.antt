@@ -1,10 +1,9 @@
 -- Each live file that the table has at the primary is here, still.
-use Rattle.std.proofs.Common.{◌≡◌, ◌≢◌, ℕ, zero, suc, ◌⊎◌, inl, inr, Bool, true, false, cond, List, [], ◌∷◌, Option, Some, None, is_some, refl, ap, sym, ◌∙◌, subst}
+use Rattle.std.proofs.Common.{◌≡◌, ◌≢◌, ℕ, zero, suc, ◌⊎◌, inl, inr, Bool, true, false, cond, List, [], ◌∷◌, Option, Some, None, is_some, Result, Ok, Err, OnOk, OnErr, refl, ap, sym, ◌∙◌, subst}
 use Rattle.std.specs.Prelude.{IfSome, IsSome}
 use Rattle.std.specs.Cmp.{nat_cmp_total}
 use Rattle.std.specs.FinMap as fin
 use Rattle.std.specs.FinMap.{nat_cmp-IsAntisymmetric}
-use Rattle.ufs_base.specs.declared.lack.Lack.TheVariants as lack
 use Rattle.ufs_bitmap.specs.Blocks.{BlockSet}
 use Rattle.ufs_held.specs.Asking.{IsSyncReply}
 use Rattle.ufs_held_names.specs.Asked.{number_of}
@@ -46,9 +45,9 @@ use Rattle.ufs_primary.specs.Letters.{IsFrontDone, IsLetterDone, IsNextDone, IsS
 use Rattle.ufs_primary.specs.Named.{IsDoneByNames}
 use Rattle.ufs_primary.specs.Orders.{IsFileOrdered, IsNoFile, IsObeyed, IsReadied}
 use Rattle.ufs_primary.specs.Primary.{AreHere, StockState}
-use Rattle.ufs_primary.specs.Served.{All, ByNames, IsServed, IsTried, Lacked, OnFile, OnNone, back_in, emptied, lent_with, made_in, places_then}
+use Rattle.ufs_primary.specs.Served.{All, ByNames, IsServed, IsTried, Lacked, OnFile, OnNone, Unnoted, back_in, emptied, lent_with, made_in, places_then}
 use Rattle.ufs_primary.specs.Turns.{unwaited, unwaited_of}
-use Rattle.ufs_primary.specs.Waiting.{IsPutOff, Waits}
+use Rattle.ufs_primary.specs.Waiting.{IsPutOff, IsUnnoted, Waits}
 use Rattle.ufs_primary.specs.declared.ordered.Ordered.{Ordered}
 use Rattle.ufs_primary.specs.declared.ordered.Ordered.TheVariants as ordered
 use Rattle.ufs_primary.specs.declared.tried.Tried.{Tried}
@@ -130,21 +129,13 @@ here_unwaited names h w here = by w.awaited
     by awaited.Room = here
     by (awaited.File file) = here_waiting names h file _ here
 
-pub here_put : (names : NamesCell) (h g : HomeState) (old new : List Waits) (r : Asked) (a : Awaited) (file : ℕ) (o : PrimaryTurn) → IsPutOff h g old new r a file o → AreHere names h → AreHere names g
-here_put names h g old new r a file (turn.Waiting f) is here = subst (AreHere names) (sym is.1) (here_waiting names (called_for h file) file _ (here_called names h file here))
-here_put names h g old new r a file (turn.Lack (lack.Memory refused)) is here = by is.0
-  where
-    by : (g ≡ h) ⊎ (g ≡ called_for h file) → AreHere names g
-    by (inl e) = subst (AreHere names) (sym e) here
-    by (inr e) = subst (AreHere names) (sym e) (here_called names h file here)
-here_put names h g old new r a file (turn.Lack lack.AtEnd) is here = absurd is
-here_put names h g old new r a file (turn.Lack lack.Unsound) is here = absurd is
-here_put names h g old new r a file (turn.Lack lack.Told) is here = absurd is
-here_put names h g old new r a file turn.Settled is here = absurd is
-here_put names h g old new r a file turn.Noted is here = absurd is
-here_put names h g old new r a file turn.Served is here = absurd is
-here_put names h g old new r a file (turn.Redirected f) is here = absurd is
-here_put names h g old new r a file turn.Idle is here = absurd is
+here_unnoted : (names : NamesCell) (h g : HomeState) (file : ℕ) → IsUnnoted h g file → AreHere names h → AreHere names g
+here_unnoted names h g file (inl e) here = subst (AreHere names) (sym e) here
+here_unnoted names h g file (inr e) here = subst (AreHere names) (sym e) (here_called names h file here)
+
+pub here_put : {A E : Type 0} (names : NamesCell) (h g : HomeState) (old new : List Waits) (r : Asked) (a : Awaited) (file : ℕ) (x : Result A E) → OnOk x (IsPutOff h g old new r a file) → OnErr x (IsUnnoted h g file) → AreHere names h → AreHere names g
+here_put names h g old new r a file (Ok x) put unnoted here = subst (AreHere names) (sym put.0) (here_waiting names (called_for h file) file _ (here_called names h file here))
+here_put names h g old new r a file (Err e) put unnoted here = here_unnoted names h g file unnoted here
 
 pub here_gone : {Q : Type 0} (sends : ℕ → Q → Mailed → Q → Type 0) (same : Q → Q → Type 0) (full : Q → ℕ → Type 0) (n : ℕ) (names : NamesCell) (h g : HomeState) (p q : Q) → RingsGo sends same full n h.letters g.letters h.owners g.owners p q
     → g.places ≡ h.places → AreHere names h → AreHere names g
@@ -391,6 +382,7 @@ module _ (visible : Bool) (before after : Option View) (s t : StockState) (here 
       subst (AreHere t.names) (sym home) (λ f live at. alike_put f x.olds x.nows x.lent x.lent x.served.numbers (λ is. is)
       (subst (λ (p : Places). IsSome (file_here p f)) (sym x.here.back) (here_names s.home s.names t.names same here f live at)))
   here_served ask told (Lacked x) = here_of s t x.rest here
+  here_served ask told (Unnoted x) = subst (λ (n : NamesCell). AreHere n t.home) (sym (ap (λ (y : StockState). y.names) x.rest)) (here_unnoted s.names s.home t.home x.file x.home here)
 
   pub here_tried : {N : Type 0} (r : Asked) (x : Tried N) → IsTried visible before after s t r x → AreHere t.names t.home
   here_tried r (tried.Answered a) is = here_served r.ask is.0 is.2

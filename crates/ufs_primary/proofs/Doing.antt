@@ -1,5 +1,5 @@
 -- A request that is done, and what is told of it.
-use Rattle.std.proofs.Common.{◌≡◌, ℕ, Bool, List, [], ◌∷◌, ◌++◌, inl, inr, Option, refl, ap, ◌∙◌, subst}
+use Rattle.std.proofs.Common.{◌≡◌, ℕ, Bool, List, [], ◌∷◌, ◌++◌, inl, Option, refl, ap, sym, ◌∙◌, subst}
 use Rattle.ufs_base.specs.declared.lack.Lack.{Lack}
 use Rattle.ufs_joint.specs.Cells.{FileCell, View}
 use Rattle.ufs_model.specs.declared.data.Ask.{Ask}
@@ -9,22 +9,22 @@ use Rattle.ufs_msg.specs.declared.answer.Answer.{Answer}
 use Rattle.ufs_serving.specs.Posts.{AnswersGo, Said, said}
 use Rattle.ufs_primary.specs.Excused.{IsExcusedHere}
 use Rattle.ufs_primary.specs.Primary.{StockState, primary_of}
-use Rattle.ufs_primary.specs.Served.{IsAway, IsLackFor, IsSentOn, IsServed, IsStill, Lacked}
-use Rattle.ufs_primary.specs.Turns.{IsFront, IsIdle, IsMadeWait, IsOldest, IsRequestDone, IsTakenUp}
-use Rattle.ufs_primary.specs.Waiting.{AllWait, IsPutOff, Waits}
+use Rattle.ufs_primary.specs.Served.{IsAway, IsLackFor, IsSentOn, IsServed, IsStill, Lacked, Unnoted}
+use Rattle.ufs_primary.specs.Turns.{IsFront, IsIdle, IsOldest, IsRequestDone, IsTakenUp}
+use Rattle.ufs_primary.specs.Waiting.{AllWait, IsPutOff, IsUnnoted, Waits}
 use Rattle.ufs_primary.specs.declared.turn.PrimaryTurn.{PrimaryTurn}
 use Rattle.ufs_primary.specs.declared.turn.PrimaryTurn.TheVariants as turn
 use Rattle.ufs_primary.specs.declared.waiting.Awaited.TheVariants as awaited
 
 module _ {N Q : Type 0} (answers : Q → ℕ → Answer N → Q → Type 0) (same : Q → Q → Type 0) (full : Q → ℕ → Type 0) (visible : Bool) (before after : Option View) where
-  pub is_served : (h t : StockState) (coming : Option FileCell) (old new : List Said) (waiting : List Waits) (r : Asked) (a : Said) (p q : Q) (told : Told) → a ≡ inl told → IsServed visible before after h t r.ask told
+  pub is_served : (h t : StockState) (coming : Option FileCell) (old new : List Said) (waiting now : List Waits) (r : Asked) (a : Said) (p q : Q) (told : Told) → a ≡ inl told → IsServed visible before after h t r.ask told → now ≡ waiting
       → AnswersGo answers same full (old ++ a ∷ []) new p q
-      → IsRequestDone answers same full visible before after (primary_of h coming old waiting) (primary_of t coming new waiting) r p q turn.Served
-  is_served h t coming old new waiting r a p q told is served goes = record {
+      → IsRequestDone answers same full visible before after (primary_of h coming old waiting) (primary_of t coming new now) r p q turn.Served
+  is_served h t coming old new waiting now r a p q told is served wait goes = record {
     told = told;
     served = served;
     answer = subst (λ (x : Said). AnswersGo answers same full (old ++ x ∷ []) new p q) is goes;
-    rest = refl;
+    rest = ap (λ (x : List Waits). primary_of t coming new x) wait;
   }
 
   pub is_redirected : (h t : StockState) (coming : Option FileCell) (old new : List Said) (waiting : List Waits) (r : Asked) (a : Answer N) (file : ℕ) (p q : Q) → IsSentOn h r a file → t ≡ h
@@ -40,29 +40,29 @@ module _ {N Q : Type 0} (answers : Q → ℕ → Answer N → Q → Type 0) (sam
     rest = ap (λ (x : StockState). primary_of x coming new waiting) still;
   }
 
-  made_wait : (h t u : StockState) (coming : Option FileCell) (answer : List Said) (old new : List Waits) (r asked : Asked) (file : ℕ) (p : Q) (o : PrimaryTurn) → IsStill r asked → IsAway h r.ask file → t ≡ h
-      → IsPutOff t.home u.home old new asked (awaited.File file) file o → u ≡ record t { home = u.home }
-      → IsMadeWait answers same full visible before after (primary_of h coming answer old) (primary_of u coming answer new) r p p o
-  made_wait h t u coming answer old new r asked file p o still cause same' put rest = record {
-    file = file;
+  pub is_waiting : (h t u : StockState) (coming : Option FileCell) (answer : List Said) (old new : List Waits) (r asked : Asked) (file : ℕ) (p : Q) → IsStill r asked → IsAway h r.ask file → t ≡ h
+      → IsPutOff t.home u.home old new asked (awaited.File file) file → u ≡ record t { home = u.home }
+      → IsRequestDone answers same full visible before after (primary_of h coming answer old) (primary_of u coming answer new) r p p (turn.Waiting file)
+  is_waiting h t u coming answer old new r asked file p still cause same' put rest = record {
     cause = cause;
     asked = asked;
     still = still;
-    put = subst (λ (x : StockState). IsPutOff x.home u.home old new asked (awaited.File file) file o) same' put;
+    put = subst (λ (x : StockState). IsPutOff x.home u.home old new asked (awaited.File file) file) same' put;
     nothing = refl;
     rest = ap (λ (x : StockState). primary_of x coming answer new) (rest ∙ ap (λ (x : StockState). record x { home = u.home }) same');
   }
 
-  pub is_waiting : (h t u : StockState) (coming : Option FileCell) (answer : List Said) (old new : List Waits) (r asked : Asked) (file : ℕ) (p : Q) (o : PrimaryTurn) → IsStill r asked → IsAway h r.ask file → t ≡ h
-      → IsPutOff t.home u.home old new asked (awaited.File file) file o → u ≡ record t { home = u.home }
-      → IsRequestDone answers same full visible before after (primary_of h coming answer old) (primary_of u coming answer new) r p p o
-  is_waiting h t u coming answer old new r asked file p (turn.Waiting f) still cause same' put rest = made_wait h t u coming answer old new r asked file p (turn.Waiting f) still cause same' put rest
-  is_waiting h t u coming answer old new r asked file p (turn.Lack l) still cause same' put rest = made_wait h t u coming answer old new r asked file p (turn.Lack l) still cause same' put rest
-  is_waiting h t u coming answer old new r asked file p turn.Settled still cause same' put rest = absurd put
-  is_waiting h t u coming answer old new r asked file p turn.Noted still cause same' put rest = absurd put
-  is_waiting h t u coming answer old new r asked file p turn.Served still cause same' put rest = absurd put
-  is_waiting h t u coming answer old new r asked file p (turn.Redirected f) still cause same' put rest = absurd put
-  is_waiting h t u coming answer old new r asked file p turn.Idle still cause same' put rest = absurd put
+  -- it came back, and its file may have been asked for
+  pub is_unnoted : (h t u w : StockState) (r asked back : Asked) (file : ℕ) (told : Told) → IsStill r asked → IsAway h r.ask file → t ≡ h → after ≡ before → IsUnnoted t.home u.home file → u ≡ record t { home = u.home } → back ≡ asked
+      → IsExcusedHere u.home.owners back.ask told → w ≡ u → IsServed visible before after h w r.ask told
+  is_unnoted h t u w r asked back file told still cause same' store home rest came excused then = Unnoted (record {
+    file = file;
+    cause = cause;
+    home = subst (λ (x : StockState × StockState). IsUnnoted x.0.home x.1.home file) (λ i. (same' i, sym then i)) home;
+    excused = subst (λ (x : StockState × Ask). IsExcusedHere x.0.home.owners x.1 told) (λ i. (sym then i, (ap (λ (q : Asked). q.ask) came ∙ still.ask) i)) excused;
+    rest = then ∙ rest ∙ (λ i. record (same' i) { home = (sym then i).home });
+    store = store;
+  })
 
   -- it was as before, and so was the store, when it was excused
   pub is_lacked : (h t u : StockState) (r asked : Asked) (what : Lack) (told : Told) → IsStill r asked → IsLackFor h r.ask what → t ≡ h → after ≡ before → IsExcusedHere t.home.owners asked.ask told → u ≡ t → IsServed visible before after h u r.ask told

@@ -1,5 +1,5 @@
 -- A request may be excused by want of memory, and what is told of it.
-use Rattle.std.proofs.Common.{◌≡◌, ℕ, inr, cond, eqb, Bool, true, List, [], ◌∷◌, Option, Some, None, refl, sym, ap, ◌∙◌, subst, arith}
+use Rattle.std.proofs.Common.{◌≡◌, ℕ, inr, cond, eqb, Bool, List, [], ◌∷◌, Option, Some, None, refl, sym, ap, ◌∙◌, subst, arith}
 use Rattle.std.specs.Prelude.{IfSome}
 use Rattle.ufs_bitmap.specs.Blocks.{BlockSet}
 use Rattle.ufs_file.specs.Hand.{IsEntryOf}

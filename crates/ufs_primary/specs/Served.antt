@@ -26,6 +26,7 @@ use Rattle.ufs_primary.specs.Here.{IsServedHere}
 use Rattle.ufs_primary.specs.Kinds.{IsByNames, IsOnFile, IsOnNone}
 use Rattle.ufs_primary.specs.Named.{IsNamesServed}
 use Rattle.ufs_primary.specs.Primary.{StockState}
+use Rattle.ufs_primary.specs.Waiting.{IsUnnoted}
 use Rattle.ufs_primary.specs.declared.tried.Tried.{Tried}
 use Rattle.ufs_primary.specs.declared.tried.Tried.TheVariants as tried
 
@@ -54,7 +55,7 @@ back_in None (Some file) places = fin.remove places file
 abbrev pub places_then : Places → ℕ → Option FileCell → Option FileCell → Option FileCell → Places
 places_then places next touched still young = back_in still (number_of touched) (made_in young next (lent_with places touched next))
 
--- ---- what may be wanting
+-- ---- what may be away or wanting
 
 -- no number is left for a new file
 abbrev pub HasNoNumber : StockState → Type 0
@@ -66,6 +67,13 @@ IsLackFor s ask (lack.Memory refused) = ⊤
 IsLackFor s ask lack.AtEnd = IsByNames ask × HasNoNumber s
 IsLackFor s ask lack.Unsound = ⊥
 IsLackFor s ask lack.Told = ⊥
+
+-- Why it waits: it is on a file that isn't here, and isn't with a worker to which its client is sent; or it is of the names, and the file
+-- that it touches isn't here; or it is a `sync`, and this file is elsewhere.
+pub data IsAway (s : StockState) (ask : Ask) (file : ℕ) : Type 0 where
+  FromFile : IsOnFile ask file → file_here s.home.places file ≡ None → (is_by_hint ask.op ≡ true → (worker : ℕ) → owner_at s.home.owners file ≡ owner.Worker worker → ⊥) → IsAway s ask file
+  FromNames : IsByNames ask → IsNeeded s.names.value ask (Some file) → file_here s.home.places file ≡ None → IsAway s ask file
+  FromAll : ask.op ≡ op.Sync → (owner_at s.home.owners file ≡ owner.Primary → ⊥) → IsAway s ask file
 
 -- ---- a request is served
 
@@ -116,12 +124,22 @@ module _ (visible : Bool) (before after : Option View) (s t : StockState) (ask :
     pub rest : t ≡ s
     pub store : after ≡ before
 
+  -- one that wants a file which isn't here, and is excused for want of memory to note that it waits: the file may have been asked for
+  pub record IsUnnotedHere : Type 0 where
+    pub file : ℕ
+    pub cause : IsAway s ask file
+    pub home : IsUnnoted s.home t.home file
+    pub excused : IsExcusedHere t.home.owners ask told
+    pub rest : t ≡ record s { home = t.home }
+    pub store : after ≡ before
+
 pub data IsServed (visible : Bool) (before after : Option View) (s t : StockState) (ask : Ask) (told : Told) : Type 0 where
   OnFile : IsOnFileHere visible before after s t ask told → IsServed visible before after s t ask told
   ByNames : IsByNamesHere visible before after s t ask told → IsServed visible before after s t ask told
   OnNone : IsOnNoneHere visible before after s t ask told → IsServed visible before after s t ask told
   All : IsAllHere visible before after s t ask told → IsServed visible before after s t ask told
   Lacked : IsLackedHere visible before after s t ask told → IsServed visible before after s t ask told
+  Unnoted : IsUnnotedHere visible before after s t ask told → IsServed visible before after s t ask told
 
 -- ---- or it isn't
 
@@ -130,13 +148,6 @@ pub record IsStill (r q : Asked) : Type 0 where
   pub ask : q.ask ≡ r.ask
   pub leases_back : q.leases_back ≡ r.leases_back
   pub hand : (self : ClientPart) → HasClientAlone r.ask.client self r.hand → HasClientAlone r.ask.client self q.hand
-
--- Why it waits: it is on a file that isn't here, and isn't with a worker to which its client is sent; or it is of the names, and the file
--- that it touches isn't here; or it is a `sync`, and this file is elsewhere.
-pub data IsAway (s : StockState) (ask : Ask) (file : ℕ) : Type 0 where
-  FromFile : IsOnFile ask file → file_here s.home.places file ≡ None → (is_by_hint ask.op ≡ true → (worker : ℕ) → owner_at s.home.owners file ≡ owner.Worker worker → ⊥) → IsAway s ask file
-  FromNames : IsByNames ask → IsNeeded s.names.value ask (Some file) → file_here s.home.places file ≡ None → IsAway s ask file
-  FromAll : ask.op ≡ op.Sync → (owner_at s.home.owners file ≡ owner.Primary → ⊥) → IsAway s ask file
 
 module _ {N : Type 0} where
   -- A worker has its file, which isn't here: the answer sends it on there.

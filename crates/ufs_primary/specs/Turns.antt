@@ -82,20 +82,18 @@ module _ {N Q : Type 0} (answers : Q → ℕ → Answer N → Q → Type 0) (sam
     pub rest : t ≡ record s { answers = t.answers }
 
   -- A file that it wants isn't here: it waits, and the file is asked for.
-  pub record IsMadeWait (s t : PrimaryState) (r : Asked) (p q : Q) (o : PrimaryTurn) : Type 0 where
-    pub file : ℕ
+  pub record IsMadeWait (s t : PrimaryState) (r : Asked) (file : ℕ) (p q : Q) : Type 0 where
     pub cause : IsAway s.stock r.ask file
     pub asked : Asked
     pub still : IsStill r asked
-    pub put : IsPutOff s.stock.home t.stock.home s.waiting t.waiting asked (awaited.File file) file o
+    pub put : IsPutOff s.stock.home t.stock.home s.waiting t.waiting asked (awaited.File file) file
     pub nothing : q ≡ p
     pub rest : t ≡ record s { stock = record s.stock { home = t.stock.home }; waiting = t.waiting }
 
   abbrev pub IsRequestDone : PrimaryState → PrimaryState → Asked → Q → Q → PrimaryTurn → Type 0
   IsRequestDone s t r p q turn.Served = IsServedNow s t r p q
   IsRequestDone s t r p q (turn.Redirected file) = IsRedirected s t r file p q
-  IsRequestDone s t r p q (turn.Waiting file) = IsMadeWait s t r p q (turn.Waiting file)
-  IsRequestDone s t r p q (turn.Lack what) = IsMadeWait s t r p q (turn.Lack what)
+  IsRequestDone s t r p q (turn.Waiting file) = IsMadeWait s t r file p q
   IsRequestDone s t r p q _ = ⊥
 
   -- The oldest of those that wait and whose files have come is taken up, and done.

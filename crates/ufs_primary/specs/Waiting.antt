@@ -2,13 +2,10 @@
 use Rattle.std.specs.Prelude.{ℕ, ◌≡◌, ◌⊎◌, ◌<◌, ◌++◌, Bool, true, false, List, [], ◌∷◌, Some, refl, slice_get}
 use Rattle.std.specs.List.{remove}
 use Rattle.std.specs.Coded.{Coded, code_by, coded×}
-use Rattle.ufs_base.specs.declared.lack.Lack.TheVariants.{Memory}
 use Rattle.ufs_home.specs.Home.{HomeState, called_for}
 use Rattle.ufs_msg.specs.Requests.{Asked, asked_code}
 use Rattle.ufs_owner.specs.Owners.{Files, is_primary, owner_at, waiting_at, with_waiting}
 use Rattle.ufs_primary.specs.contracts.waiting.Awaited as awaited'
-use Rattle.ufs_primary.specs.declared.turn.PrimaryTurn.{PrimaryTurn}
-use Rattle.ufs_primary.specs.declared.turn.PrimaryTurn.TheVariants as turn
 use Rattle.ufs_primary.specs.declared.waiting.Awaited.{Awaited}
 use Rattle.ufs_primary.specs.declared.waiting.Awaited.TheVariants.{Room, File}
 
@@ -48,8 +45,10 @@ AllWait owners old = (i : ℕ) (w : Waits) → slice_get old i ≡ Some w → ha
 abbrev pub waited_for : HomeState → ℕ → ℕ → HomeState
 waited_for h file client = record h { owners = with_waiting h.owners file (waiting_at h.owners file ++ client ∷ []) }
 
--- The file is asked for, and the request waits, behind all others. Where there was no room for that it is to be looked at again.
-abbrev pub IsPutOff : HomeState → HomeState → List Waits → List Waits → Asked → Awaited → ℕ → PrimaryTurn → Type 0
-IsPutOff h g old new r awaited file (turn.Waiting f) = (f ≡ file) × (g ≡ waited_for (called_for h file) file r.ask.client) × (new ≡ old ++ record { request = r; awaited = awaited } ∷ [])
-IsPutOff h g old new r awaited file (turn.Lack (Memory refused)) = ((g ≡ h) ⊎ (g ≡ called_for h file)) × (new ≡ old ++ record { request = r; awaited = Room } ∷ [])
-IsPutOff h g old new r awaited file _ = ⊥
+-- The file is asked for, and the request waits, behind all others.
+abbrev pub IsPutOff : HomeState → HomeState → List Waits → List Waits → Asked → Awaited → ℕ → Type 0
+IsPutOff h g old new r awaited file = (g ≡ waited_for (called_for h file) file r.ask.client) × (new ≡ old ++ record { request = r; awaited = awaited } ∷ [])
+
+-- There was no memory to note that; the file may have been asked for.
+abbrev pub IsUnnoted : HomeState → HomeState → ℕ → Type 0
+IsUnnoted h g file = (g ≡ h) ⊎ (g ≡ called_for h file)

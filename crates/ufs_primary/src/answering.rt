@@ -62,7 +62,14 @@ fn do_request<N: Naming, Q: ServerPost<N, Letter<Parcel<N>>>, T: Turns<N>>(
             say(answers, answer, post);
             PrimaryTurn::Redirected { file }
         }
-        Tried::Away { request, file } => stock.put_off(waiting, request, file),
+        Tried::Away { request, file } => match stock.put_off(waiting, request, file) {
+            Ok(()) => PrimaryTurn::Waiting { file },
+            Err((memory, back)) => {
+                let answer = stock.excuse(table, back, Lack::from(memory));
+                say(answers, answer, post);
+                PrimaryTurn::Served
+            }
+        },
         Tried::Lacks { request, lack } => {
             let answer = stock.excuse(table, request, lack);
             say(answers, answer, post);

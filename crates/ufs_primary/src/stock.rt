@@ -12,7 +12,7 @@ use crate::turn::PrimaryTurn;
 use crate::waiting::{Awaited, Waiting, put_off, take_oldest};
 use std::collections::VecDeque;
 use std::marker::Model;
-use ufs_base::Lack;
+use ufs_base::{Lack, Memory};
 use ufs_bitmap::Pool;
 use ufs_held_names::HeldNames;
 use ufs_home::Home;
@@ -55,7 +55,7 @@ fn unwait<N: Naming>(home: &mut Home<N>, awaited: Awaited, client: u8)
 }
 
 impl<N: Naming> Stock<N> {
-    ghost use Rattle.std.specs.Prelude.{◌≡◌, ◌<◌, ◌≤◌, ◌+◌, MatchOption, is_some};
+    ghost use Rattle.std.specs.Prelude.{◌≡◌, ◌<◌, ◌≤◌, ◌+◌, IfErr, MatchOption, OnErr, OnOk, is_some};
     ghost use Rattle.std.specs.FinSet as set;
     ghost use Rattle.std.specs.VecDeque.{deque_capacity, deque_len};
     ghost use Rattle.ufs_first_hand.specs.FirstHand.{HasPoolAlone, pool_of};
@@ -72,7 +72,7 @@ impl<N: Naming> Stock<N> {
     ghost use Rattle.ufs_primary.specs.Primary.{AreHere, stock_of};
     ghost use Rattle.ufs_primary.specs.Served.{IsTried};
     ghost use Rattle.ufs_primary.specs.Turns.{IsTakenUp};
-    ghost use Rattle.ufs_primary.specs.Waiting.{AllWait, IsPutOff};
+    ghost use Rattle.ufs_primary.specs.Waiting.{AllWait, IsPutOff, IsUnnoted};
     ghost use Rattle.ufs_primary.specs.declared.waiting.Awaited.TheVariants as awaited;
     ghost use Rattle.ufs_serving.specs.Pools.{most_at_rest};
     ghost use Rattle.ufs_turns.specs.Lent.{AreTold, StopsByFault};
@@ -186,17 +186,20 @@ impl<N: Naming> Stock<N> {
         excuse(table, &self.home, request, lack, &mut self.right)
     }
 
-    /// The request waits for the file, which is asked for.
+    /// The request waits for the file, which is asked for. Where there is no memory to note that it comes back.
     pub(crate) fn put_off(
         &mut self,
         waiting: &mut VecDeque<Waiting<N>>,
         request: Request<N>,
         file: u32,
-    ) -> PrimaryTurn
+    ) -> Result<(), (Memory, Request<N>)>
         requires room { deque_len waiting.old < deque_capacity waiting.old }
-        ensures put { IsPutOff self.old.home self.new.home waiting.old.items waiting.new.items request (awaited.File file) file result }
+        ensures put { OnOk result (IsPutOff self.old.home self.new.home waiting.old.items waiting.new.items request (awaited.File file) file) }
+        ensures unnoted { OnErr result (IsUnnoted self.old.home self.new.home file) }
+        ensures back { IfErr result (λ refused. refused.1 ≡ request) }
+        ensures same { OnErr result (waiting.new.items ≡ waiting.old.items) }
         ensures rest { self.new ≡ record self.old { home = self.new.home } }
-        ensures len { deque_len waiting.new ≡ deque_len waiting.old + 1 }
+        ensures len { deque_len waiting.new ≤ deque_len waiting.old + 1 }
         ensures capacity { deque_capacity waiting.new ≡ deque_capacity waiting.old }
     {
         put_off(&mut self.home, waiting, request, Awaited::File(file), file)

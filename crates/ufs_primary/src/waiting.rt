@@ -1,13 +1,12 @@
 // Requests that wait at the primary.
-ghost use Rattle.std.specs.Prelude.{◌≡◌, ◌<◌, ◌≤◌, ◌+◌, ◌⊎◌, MatchOption, OnErr, OnOk};
+ghost use Rattle.std.specs.Prelude.{◌≡◌, ◌<◌, ◌≤◌, ◌+◌, IfErr, MatchOption, OnErr, OnOk};
 ghost use Rattle.std.specs.VecDeque.{deque_capacity, deque_len};
 ghost use Rattle.ufs_home.specs.Home.{called_for};
-ghost use Rattle.ufs_primary.specs.Waiting.{AllWait, IsOldest, IsPutOff, TakesOldest, has_come, waited_for};
+ghost use Rattle.ufs_primary.specs.Waiting.{AllWait, IsOldest, IsPutOff, IsUnnoted, TakesOldest, has_come, waited_for};
 
-use crate::turn::PrimaryTurn;
 use std::collections::VecDeque;
 use std::marker::Model;
-use ufs_base::{Lack, Memory};
+use ufs_base::Memory;
 use ufs_home::Home;
 use ufs_joint::Naming;
 use ufs_msg::Request;
@@ -110,34 +109,34 @@ pub fn take_oldest<N: Naming>(
 // The file is asked for, and the client is noted as one that waits for it.
 fn await_file<N: Naming>(home: &mut Home<N>, file: u32, client: u8) -> Result<(), Memory>
     ensures ok { OnOk result (home.new ≡ waited_for (called_for home.old file) file client) }
-    ensures err { OnErr result ((home.new ≡ home.old) ⊎ (home.new ≡ called_for home.old file)) }
+    ensures err { OnErr result (IsUnnoted home.old home.new file) }
 {
     home.call_for(file)?;
     home.wait(file, client)
 }
 
-/// The file, which is elsewhere, is asked for, and the request waits, behind all others. Where there is no room for that it is to be looked
-/// at again.
+/// The file, which is elsewhere, is asked for, and the request waits, behind all others. Where there is no memory to note that it comes
+/// back.
 pub fn put_off<N: Naming>(
     home: &mut Home<N>,
     waiting: &mut VecDeque<Waiting<N>>,
     request: Request<N>,
     awaited: Awaited,
     file: u32,
-) -> PrimaryTurn
+) -> Result<(), (Memory, Request<N>)>
     requires room { deque_len waiting.old < deque_capacity waiting.old }
-    ensures put { IsPutOff home.old home.new waiting.old.items waiting.new.items request awaited file result }
-    ensures len { deque_len waiting.new ≡ deque_len waiting.old + 1 }
+    ensures put { OnOk result (IsPutOff home.old home.new waiting.old.items waiting.new.items request awaited file) }
+    ensures unnoted { OnErr result (IsUnnoted home.old home.new file) }
+    ensures back { IfErr result (λ refused. refused.1 ≡ request) }
+    ensures same { OnErr result (waiting.new.items ≡ waiting.old.items) }
+    ensures len { deque_len waiting.new ≤ deque_len waiting.old + 1 }
     ensures capacity { deque_capacity waiting.new ≡ deque_capacity waiting.old }
 {
     match await_file(home, file, request.client()) {
         Ok(()) => {
             waiting.push_back_reserved(Waiting::new(request, awaited));
-            PrimaryTurn::Waiting { file }
+            Ok(())
         }
-        Err(memory) => {
-            waiting.push_back_reserved(Waiting::new(request, Awaited::Room));
-            PrimaryTurn::Lack(Lack::from(memory))
-        }
+        Err(memory) => Err((memory, request)),
     }
 }

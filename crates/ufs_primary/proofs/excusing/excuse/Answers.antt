@@ -1,4 +1,4 @@
-use Rattle.std.proofs.Common.{ℕ, None, Option, ap, refl, sym, subst, ◌∙◌}
+use Rattle.std.proofs.Common.{ℕ, None, ap, refl, sym, subst, ◌∙◌}
 use Rattle.ufs_first_hand.specs.FirstHand.{HasPoolAlone}
 use Rattle.ufs_held.specs.Asking.{IsGuest}
 use Rattle.ufs_held_names.specs.Dirs.{answered}
