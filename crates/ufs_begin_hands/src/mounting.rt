@@ -1,11 +1,11 @@
 // The disk of an image is mounted, and a session on hands is opened over it.
-ghost use Rattle.std.specs.Prelude.{ℕ, ◌≡◌, ◌≤◌, [], true, Some, IfOk, IfErr, IsTrue, map};
+ghost use Rattle.std.specs.Prelude.{◌≡◌, ◌≤◌, [], true, Some, IfOk, IfErr, IsTrue, map};
 ghost use Rattle.std.specs.FinSet as set;
 ghost use Rattle.ufs_base.specs.Images.{Image};
 ghost use Rattle.ufs_begin_hands.specs.Mounted.{beginning_of};
 ghost use Rattle.ufs_begin_hands.specs.Seen.{sees};
 ghost use Rattle.ufs_begin_hands.specs.Values.{value_of, values_first};
-ghost use Rattle.ufs_catalog.specs.Faults.{HasFaultCause, IsOutside};
+ghost use Rattle.ufs_catalog.specs.Faults.{IsOutside};
 ghost use Rattle.ufs_catalog.specs.declared.fault.RecoverFault.{RecoverFault};
 ghost use Rattle.ufs_disk.specs.Moments.{reads};
 ghost use Rattle.ufs_engine.specs.Begins.{BeginsWith};
@@ -19,11 +19,6 @@ ghost use Rattle.ufs_recovery.specs.Recovered.{IsCleanDisk};
 ghost use Rattle.ufs_start.specs.Begun.{IsBegun};
 ghost use Rattle.ufs_start.specs.Refused.{HasStartCause};
 ghost use Rattle.ufs_start.specs.declared.fault.StartFault.TheVariants as start_fault;
-ghost use Rattle.ufs_base.specs.declared.lack.Lack.{Lack};
-ghost use Rattle.ufs_store.specs.Ends.{IsMemory};
-ghost use Rattle.ufs_store.specs.Refusals.{IsTold};
-ghost use Rattle.ufs_store.specs.Refusals as refusals;
-ghost use Rattle.ufs_store.specs.declared.fault.StoreFault.TheVariants as store_fault;
 ghost use Rattle.ufs_stored.specs.OnDisk.{IsExplainedBetween, IsOnDisk};
 
 use crate::opening::{open_over, parts_before};
@@ -33,13 +28,13 @@ use std::marker::Brand;
 use ufs_base::Lack;
 use ufs_catalog::RecoverFault;
 use ufs_disk::Disk;
-use ufs_engine::{Unbegun, beginning_law, mounted_law};
+use ufs_engine::{Unbegun, beginning_law, mounted_law, why_unmounted};
 use ufs_first_hand::first_hand_law;
 use ufs_joint::Opened;
 use ufs_model::a_request_keeps_the_tree;
 use ufs_noted::{KnownFile, NotedNames};
 use ufs_start::{Start, StartFault};
-use ufs_store::{Door, Store, StoreFault};
+use ufs_store::{Door, Store};
 
 /// What a session on hands over an image begins with. Each value is its cell of the first hand.
 pub struct Ready<D: Disk> {
@@ -116,21 +111,7 @@ pub fn mount<D: Disk>(
         },
         Err(unmounted) => Err(Unbegun {
             disk: unmounted.disk,
-            fault: StartFault::Image(fault_of(unmounted.fault)),
+            fault: StartFault::Image(why_unmounted(unmounted.fault)),
         }),
-    }
-}
-
-// A refusal of a mount, as one of an image.
-fn fault_of(fault: StoreFault) -> RecoverFault
-    requires own { IsTrue (refusals.is_own fault) }
-    requires lack { (w : Lack) → fault ≡ store_fault.Lack w → IsMemory w }
-    ensures cause { (before now : ℕ) → IsTold before now (refusals.fault_of fault) → HasFaultCause before now result }
-    ensures outside { IsOutside result }
-{
-    match fault {
-        StoreFault::Device { fault } => RecoverFault::Device { fault },
-        StoreFault::Lack(lack) => RecoverFault::Lack(lack),
-        StoreFault::Stopped { .. } | StoreFault::NoSpace { .. } => unreachable!(),
     }
 }

@@ -154,7 +154,7 @@ fn mount<D: Disk>(alloc: Global, disk: D, parts: Start) -> Result<Begun<D>, Unbe
             abandon(opened);
             Err(Unbegun {
                 disk: unmounted.disk,
-                fault: StartFault::Image(fault_of(unmounted.fault)),
+                fault: StartFault::Image(why_unmounted(unmounted.fault)),
             })
         }
     }
@@ -169,8 +169,8 @@ fn seen_parts<D: Disk, P: Opening>(disk: &D, parts: Parts) -> Parts
     Parts::picked::<P>()
 }
 
-// A refusal of a mount, as one of an image.
-fn fault_of(fault: StoreFault) -> RecoverFault
+/// Why a store wasn't mounted, as a refusal of its image: the device's fault, or the lack of memory.
+pub fn why_unmounted(fault: StoreFault) -> RecoverFault
     requires own { IsTrue (refusals.is_own fault) }
     requires lack { (w : Lack) → fault ≡ store_fault.Lack w → IsMemory w }
     ensures cause { (before now : ℕ) → IsTold before now (refusals.fault_of fault) → HasFaultCause before now result }

@@ -7,7 +7,7 @@ mod laws;
 mod playing;
 mod starting;
 
-pub use beginning::{Begun, Unbegun, begin};
+pub use beginning::{Begun, Unbegun, begin, why_unmounted};
 pub use closing::{CloseFault, Closed, clean, close};
 pub use laws::{beginning_law, mounted_law};
 pub use playing::{PlayFault, Played, play};

@@ -63,7 +63,7 @@ returns-in-Err-clause-err_moments g c visible clean tree with_tree =
     started g.D.Disk.keeps (IsExplainedImage size tree []) old (clean_explained c.a_request_keeps_the_tree.ensures size old.state tree clean with_tree)
 
 pub returns-in-Err-mount-clause-cause : goal.returns-in-Err-mount-clause-cause
-returns-in-Err-mount-clause-cause g c = c.fault_of.ensures.cause (g.D.Disk.faults c.args.disk) (g.D.Disk.faults c.in-Err-mount.unmounted.disk) c.in-Err-mount.ensures.cause
+returns-in-Err-mount-clause-cause g c = c.why_unmounted.ensures.cause (g.D.Disk.faults c.args.disk) (g.D.Disk.faults c.in-Err-mount.unmounted.disk) c.in-Err-mount.ensures.cause
 
 pub returns-in-Err-mount-clause-err_moments : goal.returns-in-Err-mount-clause-err_moments
 returns-in-Err-mount-clause-err_moments g c visible clean tree with_tree =

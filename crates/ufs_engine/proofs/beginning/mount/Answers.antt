@@ -144,7 +144,7 @@ returns-in-Ok-mount-clause-seen g c read sees =
     (visible, c.mounted_law.ensures.going size state c.args.parts c.in-Ok-open.opened.start.tree _ c.in-Ok.server is with_it same (m.ok visible (c.mounted_law.ensures.mountable size state c.args.parts is)) (m.geometry ∙ sym c.args.parts.superblock.same) m.unassigned)
 
 pub returns-in-Err-mount-clause-cause : goal.returns-in-Err-mount-clause-cause
-returns-in-Err-mount-clause-cause g c = c.fault_of.ensures.cause (g.D.Disk.faults c.args.disk) (g.D.Disk.faults c.in-Err-mount.unmounted.disk) c.in-Err-mount.ensures.cause
+returns-in-Err-mount-clause-cause g c = c.why_unmounted.ensures.cause (g.D.Disk.faults c.args.disk) (g.D.Disk.faults c.in-Err-mount.unmounted.disk) c.in-Err-mount.ensures.cause
 
 pub returns-in-Err-mount-clause-err_moments : goal.returns-in-Err-mount-clause-err_moments
 returns-in-Err-mount-clause-err_moments g c visible clean begun start with_it =
