@@ -2,14 +2,14 @@
 """Makes the scripts of examples/ rows of a test: each is played, with its trace where that stands beside it, and must print
 what stands there.
 
-    python3 tools/examples.py            writes crates/ufs_quiet_tests/src/examples.rt
+    python3 tools/examples.py            writes crates/ufs_command_tests/src/examples.rt
     python3 tools/examples.py --check    ends with status 1 if that file is behind
 """
 import pathlib
 import sys
 
 TOP = pathlib.Path(__file__).resolve().parent.parent
-FILE = TOP / "crates/ufs_quiet_tests/src/examples.rt"
+FILE = TOP / "crates/ufs_command_tests/src/examples.rt"
 HEAD = """\
 // The scripts of `examples/`, each with the words that play it, its status, and what it prints over a new image.
 // `tools/examples.py` writes this file.

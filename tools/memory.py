@@ -23,9 +23,9 @@ MAY = {
     # the one place of the excuse
     "ufs_model/src/lacking.rt": {"Excuse::Memory": 2},
     # the one ending for all of them
-    "ufs_quiet/src/last_line.rt": {"Ending::OutOfMemory": 1},
+    "ufs_command/src/last_line.rt": {"Ending::OutOfMemory": 1},
     # a number at its end
-    "ufs_catalog/src/dirs.rt": {"Lack::AtEnd": 1},
+    "ufs_metadata/src/dirs.rt": {"Lack::AtEnd": 1},
     "ufs_held/src/excuses.rt": {"Lack::AtEnd": 1},
     "ufs_ilog/src/name_notes.rt": {"Lack::AtEnd": 1, ".lose": 1},
     "ufs_ilog/src/names_log.rt": {"Lack::AtEnd": 1},
@@ -40,7 +40,7 @@ MAY = {
     "ufs_start/src/numbers.rt": {"Lack::AtEnd": 1},
     "ufs_store/src/commits.rt": {"Lack::AtEnd": 1},
     "ufs_store/src/homes.rt": {"Lack::AtEnd": 1},
-    "ufs_synced/src/commits.rt": {"Lack::AtEnd": 1},
+    "ufs_names_commit/src/commits.rt": {"Lack::AtEnd": 1},
     "ufs_tree/src/answer.rt": {"Lack::AtEnd": 1},
     "ufs_tree/src/counts.rt": {"Lack::AtEnd": 1},
     "ufs_volume/src/reading.rt": {"Lack::AtEnd": 1},

@@ -1,7 +1,7 @@
 -- Lists that have the same values under the same names, as often.
 use Rattle.std.proofs.Common.{◌≡◌, ℕ, inl, inr, ⊎_elim, Bool, eqb, List, ◌++◌, refl, ap, ◌∙◌, subst, arith}
-use Rattle.ufs_sound.specs.Owned.{Has, count, named, only, without}
-use Rattle.ufs_sound.proofs.Owning.{append_has, has_append, has_cut, weigh_append, weigh_cut}
+use Rattle.ufs_hand_laws.specs.Owned.{Has, count, named, only, without}
+use Rattle.ufs_hand_laws.proofs.Owning.{append_has, has_append, has_cut, weigh_append, weigh_cut}
 
 -- The second has each name as often as the first, and no other value.
 pub record IsAlike {D : Type 0} (ps qs : List (ℕ × D)) : Type 0 where

@@ -1,8 +1,8 @@
 -- What is known of the disk goes over to a hand that has the same store.
 use Rattle.std.proofs.Common.{◌≡◌, List, [], refl, sym, ap, ◌∙◌, subst}
 use Rattle.ufs_model.specs.declared.data.Entry.{Entry}
-use Rattle.ufs_sound.specs.Owned.{Has}
-use Rattle.ufs_sound.specs.Parts.{Cells, Start, StorePart, View}
+use Rattle.ufs_hand_laws.specs.Owned.{Has}
+use Rattle.ufs_hand_laws.specs.Parts.{Cells, Start, StorePart, View}
 use Rattle.ufs_one_hand.specs.OneHand.{IsCoveredIn, IsStampedIn, faults_in, in_store, passed_in, stamp_in, state_in}
 use Rattle.ufs_apart.specs.Apart.{IsBeside}
 

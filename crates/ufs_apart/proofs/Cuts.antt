@@ -1,8 +1,8 @@
 -- What a cut leaves of a list, and what it gives.
 use Rattle.std.proofs.Common.{◌≡◌, ◌≢◌, ℕ, ◌+◌, ◌≤◌, inl, inr, Bool, true, false, cond, eqb, eqb-true, List, [], ◌∷◌, ◌++◌, length, refl, sym, ap, ◌∙◌, arith}
 use Rattle.std.proofs.lemmas.List.{append-nil}
-use Rattle.ufs_sound.specs.Owned.{one, Has, count, only, without}
-use Rattle.ufs_sound.proofs.Owning.{has_cut}
+use Rattle.ufs_hand_laws.specs.Owned.{one, Has, count, only, without}
+use Rattle.ufs_hand_laws.proofs.Owning.{has_cut}
 
 -- ---- nothing is cut
 

@@ -9,11 +9,11 @@ use Rattle.ufs_model.specs.declared.data.Op.{Op}
 use Rattle.ufs_model.specs.declared.data.PartName.TheVariants as part
 use Rattle.ufs_model.proofs.Facts.Lookups as lookups
 use Rattle.ufs_model.proofs.Facts.Lookups.{same_some}
-use Rattle.ufs_prefix.specs.Changes.{changes_of}
-use Rattle.ufs_sound.specs.Owned.{one, Has, count, named, only, without}
-use Rattle.ufs_sound.specs.Parts.{FilePart, Start, View, both_of, either, given_of, kept_of}
-use Rattle.ufs_sound.proofs.Keys.{itself}
-use Rattle.ufs_sound.proofs.Owning.{append_has, has_append, weigh_append}
+use Rattle.ufs_crash_laws.specs.Changes.{changes_of}
+use Rattle.ufs_hand_laws.specs.Owned.{one, Has, count, named, only, without}
+use Rattle.ufs_hand_laws.specs.Parts.{FilePart, Start, View, both_of, either, given_of, kept_of}
+use Rattle.ufs_hand_laws.proofs.Keys.{itself}
+use Rattle.ufs_hand_laws.proofs.Owning.{append_has, has_append, weigh_append}
 use Rattle.ufs_one_hand.specs.Apart.{FileViews, IsHandOfFile}
 use Rattle.ufs_one_hand.specs.OneHand.{IsFileAt, first_pools}
 use Rattle.ufs_one_hand.specs.declared.pools.TheConstants.{PRIMARY_POOL}

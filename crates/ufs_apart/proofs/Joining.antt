@@ -7,8 +7,8 @@ use Rattle.std.specs.Ordering.{nat_cmp}
 use Rattle.ufs_model.specs.History.{tree_after}
 use Rattle.ufs_model.specs.declared.data.Entry.{Entry}
 use Rattle.ufs_model.specs.declared.data.Op.{Op}
-use Rattle.ufs_sound.specs.Owned.{one, count}
-use Rattle.ufs_sound.specs.Parts.{Start, View, both_of}
+use Rattle.ufs_hand_laws.specs.Owned.{one, count}
+use Rattle.ufs_hand_laws.specs.Parts.{Start, View, both_of}
 use Rattle.ufs_one_hand.specs.Apart.{FileViews, HasEachFile}
 use Rattle.ufs_apart.specs.Apart.{AreApart, ApartState, IsBeside, filled, joined, joined_place, joined_places, placed}
 use Rattle.ufs_apart.proofs.Beside.{beside_self, beside_then}

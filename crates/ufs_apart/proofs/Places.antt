@@ -18,7 +18,7 @@ use Rattle.ufs_calls.proofs.Facts.Maps.{looked}
 use Rattle.ufs_model.specs.declared.data.PartName.TheVariants as part
 use Rattle.ufs_model.proofs.Facts.Lookups.{tied}
 use Rattle.ufs_one_hand.specs.Apart.{FileViews}
-use Rattle.ufs_sound.specs.Parts.{View, given_of, kept_of}
+use Rattle.ufs_hand_laws.specs.Parts.{View, given_of, kept_of}
 use Rattle.ufs_apart.specs.Apart.{ApartState, IsSplit, filled, placed}
 use Rattle.ufs_apart.proofs.Files.{absent_stays, one_or_other, put_else, put_here}
 

@@ -4,9 +4,9 @@ use Rattle.std.specs.FinMap as fin
 use Rattle.ufs_model.specs.History.{tree_after}
 use Rattle.ufs_model.specs.declared.data.Entry.{Entry}
 use Rattle.ufs_model.specs.declared.data.Op.{Op}
-use Rattle.ufs_prefix.specs.Changes.{changes_of}
-use Rattle.ufs_sound.specs.Owned.{one, Has, count}
-use Rattle.ufs_sound.specs.Parts.{FilePart, Start, View}
+use Rattle.ufs_crash_laws.specs.Changes.{changes_of}
+use Rattle.ufs_hand_laws.specs.Owned.{one, Has, count}
+use Rattle.ufs_hand_laws.specs.Parts.{FilePart, Start, View}
 use Rattle.ufs_one_hand.specs.Apart.{FileViews, HasEachFile, IsHandOfFile}
 use Rattle.ufs_one_hand.specs.OneHand.{HasSession, IsFileAt, IsStoreAt}
 use Rattle.ufs_one_hand.proofs.Parting.{each_stays}

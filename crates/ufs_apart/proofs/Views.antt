@@ -2,7 +2,7 @@
 use Rattle.std.proofs.Common.{◌≡◌, ℕ, ◌≤◌, List, [], ◌∷◌, ◌++◌, Option, Some, None, length, refl, sym, ap, ◌∙◌, arith, append_assoc}
 use Rattle.std.proofs.lemmas.List.{append-nil}
 use Rattle.ufs_model.specs.declared.data.PartName.{PartName}
-use Rattle.ufs_sound.specs.Parts.{View, both_of, either, given_of, is_asked, is_client, is_file, is_names, is_store, kept_of}
+use Rattle.ufs_hand_laws.specs.Parts.{View, both_of, either, given_of, is_asked, is_client, is_file, is_names, is_store, kept_of}
 use Rattle.ufs_apart.specs.Apart.{IsBeside, given_all, joined, kept_all}
 use Rattle.ufs_apart.proofs.Alike.{IsAlike, alike_append, alike_cut, alike_self, alike_then}
 use Rattle.ufs_apart.proofs.Beside.{beside_self, beside_then}

@@ -8,8 +8,8 @@ use Rattle.ufs_model.specs.Touched.{IsPartOf, touched_parts}
 use Rattle.ufs_model.specs.declared.data.Entry.{Entry}
 use Rattle.ufs_model.specs.declared.data.Op.{Op}
 use Rattle.ufs_model.specs.declared.data.PartName.TheVariants as part
-use Rattle.ufs_sound.specs.Owned.{count}
-use Rattle.ufs_sound.specs.Parts.{Start, View}
+use Rattle.ufs_hand_laws.specs.Owned.{count}
+use Rattle.ufs_hand_laws.specs.Parts.{Start, View}
 use Rattle.ufs_one_hand.specs.Apart.{FileViews, HasEachFile, HasTouched}
 use Rattle.ufs_one_hand.specs.OneHand.{HasSession}
 use Rattle.ufs_apart.specs.Apart.{AreApart, ApartState, IsBeside, joined}

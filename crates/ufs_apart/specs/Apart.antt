@@ -6,8 +6,8 @@ use Rattle.ufs_model.specs.declared.data.Entry.{Entry}
 use Rattle.ufs_model.specs.declared.data.Op.{Op}
 use Rattle.ufs_model.specs.declared.data.PartName.{PartName}
 use Rattle.ufs_model.specs.declared.data.PartName.TheVariants as part
-use Rattle.ufs_sound.specs.Codes.{view_code}
-use Rattle.ufs_sound.specs.Parts.{Start, View, both_of, given_of, kept_of}
+use Rattle.ufs_hand_laws.specs.Codes.{view_code}
+use Rattle.ufs_hand_laws.specs.Parts.{Start, View, both_of, given_of, kept_of}
 use Rattle.ufs_one_hand.specs.Apart.{FileViews, HasEachFile}
 use Rattle.ufs_one_hand.specs.OneHand.{HasSession}
 use Rattle.ufs_one_hand.specs.declared.pools.TheConstants.{PRIMARY_POOL}

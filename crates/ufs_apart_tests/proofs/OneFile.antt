@@ -12,7 +12,7 @@ use Rattle.ufs_model.proofs.Facts.Orders.{path_same, path_total}
 use Rattle.ufs_model.proofs.Facts.Rising.{entries-rising}
 use Rattle.ufs_model.proofs.Facts.Starts.{path_tree_of}
 use Rattle.ufs_one_hand.specs.OneHand.{IsStart}
-use Rattle.ufs_sound.specs.Parts.{Start}
+use Rattle.ufs_hand_laws.specs.Parts.{Start}
 use Rattle.ufs_apart_tests.specs.OneFile.{file_nodes, file_path, with_file}
 
 abbrev tree : PosixTree

@@ -5,7 +5,7 @@ use Rattle.ufs_model.specs.PosixTree.{root}
 use Rattle.ufs_model.specs.Start.{PathNodes}
 use Rattle.ufs_model.specs.declared.data.PathNode.TheVariants.{Dir, File}
 use Rattle.ufs_one_hand.specs.OneHand.{start_with}
-use Rattle.ufs_sound.specs.Parts.{Start}
+use Rattle.ufs_hand_laws.specs.Parts.{Start}
 
 -- `/f`
 abbrev pub file_path : List ℕ

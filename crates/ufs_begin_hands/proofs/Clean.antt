@@ -15,7 +15,7 @@ use Rattle.ufs_image.specs.Volume.{Refusal, Volume, damage_of, superblock_of, vo
 use Rattle.ufs_image.proofs.Journals.{taken}
 use Rattle.ufs_recovery.specs.Recovered.{IsCleanDisk}
 use Rattle.ufs_recovery.proofs.Ends.{none_in_clean, proper_volume}
-use Rattle.ufs_sound.proofs.Keys.{alike, itself}
+use Rattle.ufs_hand_laws.proofs.Keys.{alike, itself}
 use Rattle.ufs_begin_hands.specs.Seen.{is_clean, is_clean_in, is_nothing, is_settled, is_still}
 
 -- ---- each of some sectors

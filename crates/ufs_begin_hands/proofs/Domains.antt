@@ -8,8 +8,8 @@ use Rattle.std.specs.FinMap.Entries.{below_all, same_entries}
 use Rattle.ufs_file.specs.Hand.{FileState}
 use Rattle.ufs_model.specs.PosixTree.{PosixTree}
 use Rattle.ufs_model.proofs.Facts.Rising.{entries-rise}
-use Rattle.ufs_stored.specs.Parts.{Parts}
-use Rattle.ufs_stored.specs.Stored.{ArePartsOf}
+use Rattle.ufs_promise_laws.specs.Parts.{Parts}
+use Rattle.ufs_promise_laws.specs.Stored.{ArePartsOf}
 
 -- the keys alone
 abbrev bare : {X : Type 0} → List (ℕ × X) → List (ℕ × Unit {0})

@@ -20,14 +20,14 @@ use Rattle.ufs_model.specs.Laws.{KeepsTrees}
 use Rattle.ufs_model.specs.PosixTree.{PosixTree}
 use Rattle.ufs_model.proofs.ContentLemmas.{start_has_contents}
 use Rattle.ufs_model.proofs.Facts.Starts.{start_is_tree}
-use Rattle.ufs_names_image.specs.Starts.{image_start}
-use Rattle.ufs_names_image.proofs.Started.{image_is_tree}
-use Rattle.ufs_prefix.proofs.Facts.Ends.{start_explained}
+use Rattle.ufs_tree_laws.specs.Starts.{image_start}
+use Rattle.ufs_tree_laws.proofs.Started.{image_is_tree}
+use Rattle.ufs_crash_laws.proofs.Facts.Ends.{start_explained}
 use Rattle.ufs_recovery.specs.Recovered.{IsCleanDisk}
 use Rattle.ufs_store.specs.declared.fault.StoreFault.{StoreFault}
 use Rattle.ufs_store.specs.declared.fault.StoreFault.TheVariants.{Device, Stopped, NoSpace, Lack}
 use Rattle.ufs_ledger.specs.Kept.{OpensExplained}
-use Rattle.ufs_stored.specs.OnDisk.{IsExplainedImage}
+use Rattle.ufs_promise_laws.specs.OnDisk.{IsExplainedImage}
 use Rattle.ufs_engine.specs.Begins.{BeginsWith}
 
 -- An image that opens to a tree is explained before the first request.

@@ -12,7 +12,7 @@ use Rattle.ufs_file.specs.Hand.{FileState}
 use Rattle.ufs_files.specs.Files.{Files}
 use Rattle.ufs_model.proofs.Facts.Lookups.{one_key}
 use Rattle.ufs_model.proofs.Facts.Rising.{entries-rise, less}
-use Rattle.ufs_sound.specs.Owned.{Has}
+use Rattle.ufs_hand_laws.specs.Owned.{Has}
 
 module _ {X : Type 0} where
   pub sorted_drop : (n : ℕ) (es : List (ℕ × X)) → fin.is_sorted nat_cmp es ≡ true → fin.is_sorted nat_cmp (drop n es) ≡ true

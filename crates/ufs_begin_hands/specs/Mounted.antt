@@ -1,6 +1,6 @@
 -- What a session on hands begins with, of what was read of a disk's image.
 use Rattle.std.specs.Prelude.{ℕ, Bool}
-use Rattle.ufs_first_hand.specs.FirstHand.{Beginning}
+use Rattle.ufs_joint.specs.FirstHand.{Beginning}
 use Rattle.ufs_start.specs.declared.parts.Start.{Start}
 
 abbrev pub beginning_of : Start → (clients workers : ℕ) → Bool → Beginning

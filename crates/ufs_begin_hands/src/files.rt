@@ -2,12 +2,12 @@
 ghost use Rattle.std.specs.Prelude.{ℕ, ◌≡◌, ◌≢◌, Some, IfOk, IsSome, map};
 ghost use Rattle.std.specs.FinMap as fin;
 ghost use Rattle.ufs_begin_hands.specs.Values.{value_of, values_first};
-ghost use Rattle.ufs_stored.specs.Parts.{committed_as};
+ghost use Rattle.ufs_promise_laws.specs.Parts.{committed_as};
 
 use std::alloc::Global;
 use ufs_base::Memory;
-use ufs_durable::FileCommits;
 use ufs_file::FileHand;
+use ufs_file_commits::FileCommits;
 use ufs_files::FileHands;
 use ufs_noted::KnownFile;
 

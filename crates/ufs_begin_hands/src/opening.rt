@@ -2,7 +2,7 @@
 ghost use Rattle.std.specs.Prelude.{◌≡◌, IfOk};
 ghost use Rattle.ufs_begin_hands.specs.Mounted.{beginning_of};
 ghost use Rattle.ufs_begin_hands.specs.Seen.{sees};
-ghost use Rattle.ufs_first_hand.specs.FirstHand.{start_before, with_store};
+ghost use Rattle.ufs_joint.specs.FirstHand.{start_before, with_store};
 ghost use Rattle.ufs_joint.specs.Ends.{CanBegin};
 
 use std::alloc::{AllocError, Global};

@@ -5,8 +5,8 @@ use Rattle.std.specs.Ordering.{eq_by_cmp, nat_cmp}
 use Rattle.std.specs.FinMap as fin
 use Rattle.std.specs.FinMap.{nat_cmp-IsAntisymmetric}
 use Rattle.ufs_model.proofs.Facts.Lookups.{one_key}
-use Rattle.ufs_sound.specs.Owned.{count, one}
-use Rattle.ufs_sound.proofs.Keys.{itself}
+use Rattle.ufs_hand_laws.specs.Owned.{count, one}
+use Rattle.ufs_hand_laws.proofs.Keys.{itself}
 
 module _ {X D : Type 0} (f : X → D) where
   pub counted : (n : ℕ) (x : X) (es : List (ℕ × X)) → fin.find nat_cmp n es ≡ Some x → 1 ≤ count eqb n (map (λ e. (e.0, f e.1)) es)

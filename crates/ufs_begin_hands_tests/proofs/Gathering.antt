@@ -6,15 +6,15 @@ use Rattle.std.specs.FinMap.{get-entries}
 use Rattle.ufs_caller.specs.Hands.{IsHome, IsIdleIn}
 use Rattle.ufs_dealt.specs.Dealt.{AreApart}
 use Rattle.ufs_dealt.specs.First.{rest_first}
-use Rattle.ufs_first_hand.specs.FirstHand.{Beginning, HasPoolAlone, client_of, each_of, file_first, names_first, pool_of, start_first}
-use Rattle.ufs_first_hand.specs.Ready.{IsReady}
+use Rattle.ufs_joint.specs.FirstHand.{Beginning, HasPoolAlone, client_of, each_of, file_first, names_first, pool_of, start_first}
+use Rattle.ufs_joint.specs.Ready.{IsReady}
 use Rattle.ufs_gathered.specs.Gathered.{AreAllBack, HasPoolsAlone, clients_in}
 use Rattle.ufs_held.specs.Together.{under_numbers}
 use Rattle.ufs_joint.specs.Cells.{FileCell, NamesCell, View, both_of}
 use Rattle.ufs_joint.specs.Whole.{no_blocks}
 use Rattle.ufs_model.proofs.Facts.Lookups.{from_some}
-use Rattle.ufs_sound.specs.Owned.{count, without}
-use Rattle.ufs_sound.specs.Whole.{idle_client}
+use Rattle.ufs_hand_laws.specs.Owned.{count, without}
+use Rattle.ufs_hand_laws.specs.Whole.{idle_client}
 use Rattle.ufs_store.specs.State.{StoreState}
 use Rattle.ufs_begin_hands_tests.specs.Mounted.{IsDealt}
 use Rattle.ufs_begin_hands_tests.proofs.Counted.{counted}

@@ -2,9 +2,9 @@
 use Rattle.std.specs.Prelude.{◌≡◌, ◌≤◌, ◌^◌, List, [], ◌∷◌, Some}
 use Rattle.std.specs.FinSet as set
 use Rattle.ufs_begin_hands.specs.Values.{values_first}
-use Rattle.ufs_durable.specs.State.{DurableState}
-use Rattle.ufs_first_hand.specs.FirstHand.{Beginning, start_first}
-use Rattle.ufs_first_hand.specs.Ready.{IsReady}
+use Rattle.ufs_file_commits.specs.State.{DurableState}
+use Rattle.ufs_joint.specs.FirstHand.{Beginning, start_first}
+use Rattle.ufs_joint.specs.Ready.{IsReady}
 use Rattle.ufs_gathered.specs.Gathered.{AreAllBack, AreHome, HasPoolsAlone}
 use Rattle.ufs_joint.specs.Cells.{FileCell, NamesCell, Start, View}
 use Rattle.ufs_joint.specs.Ends.{CanBegin}

@@ -2,7 +2,7 @@
 ghost use Rattle.std.specs.Prelude.{◌≡◌, ◌<◌, ◌∷◌, [], true, IsTrue, map};
 ghost use Rattle.ufs_begin_hands.specs.Values.{value_of};
 ghost use Rattle.ufs_begin_hands_tests.specs.Mounted.{IsDealt, IsMounted};
-ghost use Rattle.ufs_first_hand.specs.FirstHand.{Beginning};
+ghost use Rattle.ufs_joint.specs.FirstHand.{Beginning};
 ghost use Rattle.ufs_layout.specs.Areas.{IsGeometry};
 ghost use Rattle.ufs_turns.specs.Lent.{IsBare};
 

@@ -9,9 +9,9 @@ use Rattle.ufs_model.specs.declared.data.Ask.{Ask}
 use Rattle.ufs_model.specs.declared.data.Lease.{Lease}
 use Rattle.ufs_model.specs.declared.data.Op.{Op}
 use Rattle.ufs_model.specs.declared.data.PartName.TheVariants.{Client}
-use Rattle.ufs_sound.specs.Marks.{asked_by, asking_asked, asking_client}
-use Rattle.ufs_sound.specs.Owned.{Has, each, only, without}
-use Rattle.ufs_sound.specs.Parts.{AskedPart, ClientPart}
+use Rattle.ufs_hand_laws.specs.Marks.{asked_by, asking_asked, asking_client}
+use Rattle.ufs_hand_laws.specs.Owned.{Has, each, only, without}
+use Rattle.ufs_hand_laws.specs.Parts.{AskedPart, ClientPart}
 use Rattle.ufs_msg.specs.Requests.{HasClientAlone, IsAsked}
 use Rattle.ufs_msg.specs.There.{IsClientThere}
 use Rattle.ufs_caller.specs.Hands.{HasAskedAlone, HasBoth, IsAskFor, IsLeft, asked_view, self_in}

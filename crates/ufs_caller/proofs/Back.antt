@@ -18,9 +18,9 @@ use Rattle.ufs_model.specs.declared.data.Op.{Op}
 use Rattle.ufs_model.specs.declared.data.PartName.TheVariants.{Client}
 use Rattle.ufs_msg.specs.Answers.{IsTold}
 use Rattle.ufs_msg.specs.Requests.{HasClientAlone, IsAsked}
-use Rattle.ufs_sound.specs.Asked.{IsAnswered, IsStill}
-use Rattle.ufs_sound.specs.Owned.{Has}
-use Rattle.ufs_sound.specs.Parts.{AskedPart, ClientPart, OwnFds}
+use Rattle.ufs_hand_laws.specs.Asked.{IsAnswered, IsStill}
+use Rattle.ufs_hand_laws.specs.Owned.{Has}
+use Rattle.ufs_hand_laws.specs.Parts.{AskedPart, ClientPart, OwnFds}
 use Rattle.ufs_caller.specs.Hands.{HasAskedAlone, HasBoth, IsBack, IsStillAsked}
 use Rattle.ufs_caller.proofs.Asking.{asked_left, client_given}
 use Rattle.ufs_caller.proofs.Ranges.{ranged_closed, ranged_history}

@@ -23,8 +23,8 @@ use Rattle.ufs_joint.specs.Cells.{Start, View}
 use Rattle.ufs_joint.specs.FileHands.{own_desc}
 use Rattle.ufs_msg.specs.Requests.{Asked}
 use Rattle.ufs_msg.specs.There.{IsByHint, IsClientThere, IsServerThere, MayServe, is_by_hint}
-use Rattle.ufs_sound.specs.Owned.{one}
-use Rattle.ufs_sound.specs.Parts.{AskedPart}
+use Rattle.ufs_hand_laws.specs.Owned.{one}
+use Rattle.ufs_hand_laws.specs.Parts.{AskedPart}
 use Rattle.ufs_caller.specs.Callers.{Caller, IsAskBy, entries_in, file_asked, file_by_hint, file_hinted, server_for, server_of_file, used_for}
 use Rattle.ufs_caller.specs.Hands.{HasAskedAlone, IsAskFor, IsAway, IsHome, request_in, tickets_in}
 use Rattle.ufs_caller.specs.Own.{IsMadeBy}

@@ -16,7 +16,7 @@ use Rattle.ufs_model.specs.declared.data.Op.{Op}
 use Rattle.ufs_model.specs.declared.data.Reply.{Reply}
 use Rattle.ufs_joint.specs.Cells.{View}
 use Rattle.ufs_joint.specs.FileHands.{own_desc}
-use Rattle.ufs_sound.specs.Parts.{AskedPart, OwnFds}
+use Rattle.ufs_hand_laws.specs.Parts.{AskedPart, OwnFds}
 use Rattle.ufs_caller.specs.Callers.{entries_in}
 use Rattle.ufs_caller.specs.Hands.{HasBoth, IsAskFor, IsHome}
 use Rattle.ufs_caller.specs.Own.{IsMadeBy, with_desc}

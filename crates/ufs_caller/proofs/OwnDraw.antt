@@ -10,8 +10,8 @@ use Rattle.ufs_joint.specs.Cells.{FileCell, NamesCell, View}
 use Rattle.ufs_joint.specs.Draws.{DrawsOnDisk, DrawsTo, IsAround, Leaves, MayDraw, drawn}
 use Rattle.ufs_joint.specs.NamesHands.{AreNumberedOnce}
 use Rattle.ufs_joint.proofs.StillDraws.{still_goes}
-use Rattle.ufs_kept.specs.Beside.{FilesStayBeside, NamesStayBeside}
-use Rattle.ufs_kept.specs.Draws.{BesideStaysKept}
+use Rattle.ufs_joint.specs.Beside.{FilesStayBeside, NamesStayBeside}
+use Rattle.ufs_joint.specs.KnownDraws.{BesideStaysKept}
 use Rattle.ufs_layout.specs.declared.geometry.Geometry.{Geometry}
 use Rattle.ufs_model.specs.Asks.{IsAsk, desc_of_fd, fd_told}
 use Rattle.ufs_model.specs.History.{IsLegal, is_excused, tree_after}
@@ -28,12 +28,12 @@ use Rattle.ufs_model.specs.declared.data.Reply.{Reply}
 use Rattle.ufs_model.specs.declared.data.Reply.TheVariants as reply
 use Rattle.ufs_model.proofs.Facts.Histories.{legal-push}
 use Rattle.ufs_model.proofs.Facts.Lookups.{inserted_else, inserted_here, one_or_apart, removed_else, removed_here, same_some}
-use Rattle.ufs_sound.specs.Draws.{client_after, entry_of}
-use Rattle.ufs_sound.specs.Owned.{Has, count, each}
-use Rattle.ufs_sound.specs.Parts.{AskedPart, ClientPart, OwnFds}
-use Rattle.ufs_sound.specs.declared.fresh.Fresh.{Fresh}
-use Rattle.ufs_sound.proofs.Drawing.{tells_new}
-use Rattle.ufs_stored.specs.Parts.{Parts}
+use Rattle.ufs_hand_laws.specs.Draws.{client_after, entry_of}
+use Rattle.ufs_hand_laws.specs.Owned.{Has, count, each}
+use Rattle.ufs_hand_laws.specs.Parts.{AskedPart, ClientPart, OwnFds}
+use Rattle.ufs_hand_laws.specs.declared.fresh.Fresh.{Fresh}
+use Rattle.ufs_hand_laws.proofs.Drawing.{tells_new}
+use Rattle.ufs_promise_laws.specs.Parts.{Parts}
 use Rattle.ufs_caller.specs.Hands.{HasBoth, self_in}
 use Rattle.ufs_caller.specs.Own.{left_by, with_desc}
 use Rattle.ufs_caller.proofs.OwnParts as own_parts

@@ -9,7 +9,7 @@ use Rattle.ufs_model.specs.declared.data.Op.{Op}
 use Rattle.ufs_msg.specs.Answers.{Sent}
 use Rattle.ufs_msg.specs.Requests.{Asked}
 use Rattle.ufs_msg.specs.There.{IsServerThere, MayServe}
-use Rattle.ufs_sound.specs.Owned.{one}
+use Rattle.ufs_hand_laws.specs.Owned.{one}
 use Rattle.ufs_caller.specs.Callers.{Caller, Errand, IsAskBy, entries_in, file_asked}
 use Rattle.ufs_caller.specs.Hands.{HasAskedAlone, IsAway, IsStillAsked, request_in, tickets_in}
 use Rattle.ufs_caller.specs.Lists.{IsListed}

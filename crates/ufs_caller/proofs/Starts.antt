@@ -4,8 +4,8 @@ use Rattle.std.specs.FinMap as fin
 use Rattle.ufs_model.specs.PosixTree.{desc_at}
 use Rattle.ufs_model.specs.declared.data.PartName.TheVariants.{Asked, Client}
 use Rattle.ufs_joint.specs.Cells.{Start, View, both_of, given_of, kept_of}
-use Rattle.ufs_sound.specs.Owned.{only, without}
-use Rattle.ufs_sound.specs.Whole.{idle_asked, idle_client}
+use Rattle.ufs_hand_laws.specs.Owned.{only, without}
+use Rattle.ufs_hand_laws.specs.Whole.{idle_asked, idle_client}
 use Rattle.ufs_caller.specs.Hands.{HasBoth, IsHome, IsIdleIn}
 use Rattle.ufs_caller.proofs.Beginnings.{no_get}
 

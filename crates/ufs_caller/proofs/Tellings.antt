@@ -21,7 +21,7 @@ use Rattle.ufs_model.specs.declared.data.Lease.{Lease}
 use Rattle.ufs_msg.specs.Answers as answers
 use Rattle.ufs_msg.specs.Requests.{Asked}
 use Rattle.ufs_msg.specs.There.{IsServerThere}
-use Rattle.ufs_sound.specs.Owned.{one}
+use Rattle.ufs_hand_laws.specs.Owned.{one}
 use Rattle.ufs_caller.specs.Callers.{Caller, entries_in, file_answered, file_asked}
 use Rattle.ufs_caller.specs.Hands.{IsBack, IsHome, request_in}
 use Rattle.ufs_caller.specs.Tied.{IsTied, IsTripTied}

@@ -12,9 +12,9 @@ use Rattle.ufs_model.specs.declared.data.Op.TheVariants as op
 use Rattle.ufs_joint.specs.Cells.{View}
 use Rattle.ufs_joint.specs.FileHands.{own_desc}
 use Rattle.ufs_joint.specs.Marks.{asking}
-use Rattle.ufs_sound.specs.Parts.{AskedPart, ClientPart, OwnFds}
-use Rattle.ufs_sound.specs.Owned.{only}
-use Rattle.ufs_sound.specs.Whole.{idle_asked, idle_client}
+use Rattle.ufs_hand_laws.specs.Parts.{AskedPart, ClientPart, OwnFds}
+use Rattle.ufs_hand_laws.specs.Owned.{only}
+use Rattle.ufs_hand_laws.specs.Whole.{idle_asked, idle_client}
 
 -- The hand has the client's part and what it asked, and no other part.
 pub record HasBoth (client : ℕ) (self : ClientPart) (before : AskedPart) (v : View) : Type 0 where

@@ -7,8 +7,8 @@ use Rattle.ufs_model.specs.declared.data.Entry.{Entry}
 use Rattle.ufs_model.specs.declared.data.Reply.{Reply}
 use Rattle.ufs_joint.specs.Cells.{View}
 use Rattle.ufs_joint.specs.Draws.{Leaves}
-use Rattle.ufs_sound.specs.Parts.{OwnFds}
-use Rattle.ufs_sound.specs.declared.fresh.Fresh.{Fresh}
+use Rattle.ufs_hand_laws.specs.Parts.{OwnFds}
+use Rattle.ufs_hand_laws.specs.declared.fresh.Fresh.{Fresh}
 use Rattle.std.specs.FinMap as fin
 use Rattle.ufs_model.specs.Asks.{fd_told}
 use Rattle.ufs_caller.specs.Hands.{self_in}

@@ -12,7 +12,7 @@ use Rattle.ufs_model.specs.declared.data.Actor.{Actor}
 use Rattle.ufs_model.specs.declared.data.Op.{Op}
 use Rattle.ufs_msg.specs.Requests.{Asked}
 use Rattle.ufs_msg.specs.There.{IsClientThere, IsServerThere, MayServe}
-use Rattle.ufs_sound.specs.Owned.{one}
+use Rattle.ufs_hand_laws.specs.Owned.{one}
 use Rattle.ufs_caller.specs.Callers.{Errand, IsAskBy, entries_in, file_asked}
 use Rattle.ufs_caller.specs.Hands.{IsAway, IsHome, request_in, tickets_in}
 use Rattle.ufs_caller.specs.declared.told.Told.{Told}

@@ -10,7 +10,7 @@ ghost use Rattle.ufs_model.specs.declared.data.Op.{Op};
 ghost use Rattle.ufs_model.specs.declared.data.PartName.TheVariants as part;
 ghost use Rattle.ufs_msg.specs.Answers.{IsTold};
 ghost use Rattle.ufs_msg.specs.There.{IsClientThere};
-ghost use Rattle.ufs_sound.specs.Parts.{AskedPart, ClientPart};
+ghost use Rattle.ufs_hand_laws.specs.Parts.{AskedPart, ClientPart};
 ghost use Rattle.std.specs.FinMap as fin;
 ghost use Rattle.ufs_caller.specs.Hands.{HasAskedAlone, HasBoth, IsAskFor, IsBack, IsHome, IsIdleIn, IsLeft, IsStillAsked, asked_view};
 

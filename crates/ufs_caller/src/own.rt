@@ -12,7 +12,7 @@ ghost use Rattle.ufs_fds.specs.Descriptors.{AreInRange, AreOf};
 ghost use Rattle.ufs_caller.specs.Callers.{entries_in};
 ghost use Rattle.ufs_joint.specs.Draws.{drawn};
 ghost use Rattle.ufs_joint.specs.Rule.{MayDrawAny};
-ghost use Rattle.ufs_sound.specs.Parts.{AskedPart, ClientPart};
+ghost use Rattle.ufs_hand_laws.specs.Parts.{AskedPart, ClientPart};
 ghost use Rattle.ufs_caller.specs.Hands.{HasBoth, IsAskFor, IsHome};
 ghost use Rattle.ufs_caller.specs.Own.{IsMadeBy, left_by, with_desc};
 
@@ -22,11 +22,10 @@ use std::alloc::Global;
 use std::marker::Brand;
 use ufs_client::{OwnAnswer, keep};
 use ufs_fds::FdTable;
-use ufs_joint::{Hand, HandTable, Leaving, Naming};
-use ufs_kept::{beside_law, draw_law};
+use ufs_hand_laws::Fresh;
+use ufs_joint::{Hand, HandTable, Leaving, Naming, beside_law, draw_law};
 use ufs_layout::Geometry;
 use ufs_model::{Actor, Ask, Desc, Entry};
-use ufs_sound::Fresh;
 
 /// The client answers the request itself: its transcript has the entry, and its descriptors go on as POSIX's.
 pub fn answer_itself<N: Naming>(

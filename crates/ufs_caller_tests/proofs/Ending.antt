@@ -6,9 +6,9 @@ use Rattle.ufs_bitmap.specs.Blocks.{BlockSet}
 use Rattle.ufs_model.specs.PosixTree.{root_alone}
 use Rattle.ufs_model.specs.declared.data.PartName.TheVariants.{Asked, Client}
 use Rattle.ufs_names.specs.NamesPart.{IsNamesPart, NamesPart}
-use Rattle.ufs_sound.specs.Owned.{count}
-use Rattle.ufs_sound.specs.Parts.{AskedPart, ClientPart}
-use Rattle.ufs_sound.specs.Whole.{idle_client}
+use Rattle.ufs_hand_laws.specs.Owned.{count}
+use Rattle.ufs_hand_laws.specs.Parts.{AskedPart, ClientPart}
+use Rattle.ufs_hand_laws.specs.Whole.{idle_client}
 use Rattle.ufs_store.specs.State.{StoreState}
 use Rattle.ufs_joint.specs.Cells.{View, both_of, kept_of}
 use Rattle.ufs_joint.specs.Disks.{cell_of}

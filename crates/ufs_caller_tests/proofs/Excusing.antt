@@ -13,14 +13,14 @@ use Rattle.ufs_model.specs.declared.data.Op.{Op}
 use Rattle.ufs_model.specs.declared.data.Op.TheVariants.{Sync}
 use Rattle.ufs_model.specs.declared.data.Reply.TheVariants.{Excused}
 use Rattle.ufs_model.proofs.Facts.Histories.{legal-push, tree_after-push}
-use Rattle.ufs_sound.specs.Draws.{client_after, entry_of}
-use Rattle.ufs_sound.specs.Owned.{Has, count, each}
-use Rattle.ufs_sound.specs.Parts.{ClientPart}
-use Rattle.ufs_sound.specs.declared.fresh.Fresh.{Fresh}
-use Rattle.ufs_sound.proofs.Drawing.{tells_new}
-use Rattle.ufs_stored.specs.Parts.{Parts}
-use Rattle.ufs_stored.specs.Stored.{ArePartsOf}
-use Rattle.ufs_stored.proofs.Entries.{excuse_leaves}
+use Rattle.ufs_hand_laws.specs.Draws.{client_after, entry_of}
+use Rattle.ufs_hand_laws.specs.Owned.{Has, count, each}
+use Rattle.ufs_hand_laws.specs.Parts.{ClientPart}
+use Rattle.ufs_hand_laws.specs.declared.fresh.Fresh.{Fresh}
+use Rattle.ufs_hand_laws.proofs.Drawing.{tells_new}
+use Rattle.ufs_promise_laws.specs.Parts.{Parts}
+use Rattle.ufs_promise_laws.specs.Stored.{ArePartsOf}
+use Rattle.ufs_promise_laws.proofs.Entries.{excuse_leaves}
 use Rattle.ufs_joint.specs.Cells.{FileCell, NamesCell, Start, View}
 use Rattle.ufs_joint.specs.Draws.{DrawsTo, IsAround, Leaves, MayDraw, drawn}
 use Rattle.ufs_joint.specs.NamesHands.{AreNumberedOnce}

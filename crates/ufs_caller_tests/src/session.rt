@@ -7,7 +7,7 @@ ghost use Rattle.ufs_model.specs.PosixTree.{root_alone};
 ghost use Rattle.ufs_model.specs.declared.data.Op.TheVariants as op;
 ghost use Rattle.ufs_msg.specs.There.{IsClientThere, client_count, worker_count};
 ghost use Rattle.ufs_names.specs.NamesPart.{IsNamesPart};
-ghost use Rattle.ufs_sound.specs.Parts.{AskedPart, ClientPart};
+ghost use Rattle.ufs_hand_laws.specs.Parts.{AskedPart, ClientPart};
 ghost use Rattle.ufs_store.specs.State.{geometry_of_store};
 ghost use Rattle.ufs_caller.specs.Hands.{HasBoth};
 

@@ -9,10 +9,10 @@ ghost use Rattle.ufs_caller.specs.Own.{left_by};
 use crate::asserts::holds;
 use std::marker::Brand;
 use std::process::Abort;
+use ufs_hand_laws::Fresh;
 use ufs_joint::{Hand, HandTable, Leaving, Naming};
 use ufs_model::{Actor, Ask, Entry, Excuse, Op, Reply};
 use ufs_msg::{Answer, PlainPost, Redirected, Request, Served, ServerPost};
-use ufs_sound::Fresh;
 
 fn next_ask<N: Naming, R: Abort>(rt: &R, post: &mut PlainPost<N, ()>) -> Request<N> {
     post.turn_of_server(Actor::Primary);

@@ -5,9 +5,9 @@ use Rattle.ufs_base.specs.Images.{Image}
 use Rattle.ufs_image.specs.Damage.{Damage, damage}
 use Rattle.ufs_image.specs.Volume.{Refusal, Volume, volume}
 use Rattle.ufs_image.specs.Opens.{damage_in, damage_list}
-use Rattle.ufs_catalog.specs.Faults.{IsWhyNot}
-use Rattle.ufs_catalog.proofs.Outside.{why_then}
-use Rattle.ufs_catalog.specs.declared.fault.RecoverFault.{RecoverFault}
+use Rattle.ufs_metadata.specs.Faults.{IsWhyNot}
+use Rattle.ufs_metadata.proofs.Outside.{why_then}
+use Rattle.ufs_metadata.specs.declared.fault.RecoverFault.{RecoverFault}
 
 module _ (sectors : ℕ) (disk : Image) where
   -- there is no volume

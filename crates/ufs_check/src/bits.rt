@@ -8,15 +8,15 @@ ghost use Rattle.ufs_layout.specs.declared.geometry.Geometry.{Geometry};
 ghost use Rattle.ufs_image.specs.Nodes.{Node};
 ghost use Rattle.ufs_image.specs.Damage.{BitmapDiffers, differing, all_bits};
 ghost use Rattle.ufs_damage.specs.Taken.{AreTaken};
-ghost use Rattle.ufs_catalog.specs.Faults.{HasFaultCause, IsOutside};
-ghost use Rattle.ufs_catalog.specs.Folded.{IsFolded};
-ghost use Rattle.ufs_catalog.specs.Reading.{AreSectors, IsReadOnly};
+ghost use Rattle.ufs_metadata.specs.Faults.{HasFaultCause, IsOutside};
+ghost use Rattle.ufs_metadata.specs.Folded.{IsFolded};
+ghost use Rattle.ufs_metadata.specs.Reading.{AreSectors, IsReadOnly};
 
 use ufs_base::{BLOCK, Memory, SECTOR};
-use ufs_catalog::{RecoverFault, read_block};
 use ufs_damage::{DamageList, TakenBlocks};
 use ufs_disk::Disk;
 use ufs_layout::Geometry;
+use ufs_metadata::{RecoverFault, read_block};
 use ufs_overlay::Overlay;
 
 // The sectors of a block.

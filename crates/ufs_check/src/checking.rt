@@ -8,17 +8,17 @@ ghost use Rattle.ufs_image.specs.Nodes.{sound_nodes};
 ghost use Rattle.ufs_image.specs.Opens.{damage_list};
 ghost use Rattle.ufs_damage.specs.Findings.{AreFindingsOf};
 ghost use Rattle.ufs_damage.specs.Taken.{AreTaken};
-ghost use Rattle.ufs_catalog.specs.Faults.{BlamesNone, HasFaultCause, IsOutside, IsWhyNot};
-ghost use Rattle.ufs_catalog.specs.Folded.{IsFolded};
-ghost use Rattle.ufs_catalog.specs.Reading.{IsReadOnly};
+ghost use Rattle.ufs_metadata.specs.Faults.{BlamesNone, HasFaultCause, IsOutside, IsWhyNot};
+ghost use Rattle.ufs_metadata.specs.Folded.{IsFolded};
+ghost use Rattle.ufs_metadata.specs.Reading.{IsReadOnly};
 
 use crate::bits::compare_bits;
 use std::alloc::Global;
 use ufs_base::Memory;
-use ufs_catalog::{RecoverFault, read_findings};
 use ufs_damage::{DamageList, Findings, TakenBlocks, damage_of, taken_blocks};
 use ufs_disk::Disk;
 use ufs_layout::Geometry;
+use ufs_metadata::{RecoverFault, read_findings};
 use ufs_overlay::Overlay;
 use ufs_volume::{FoldedVolume, read_volume};
 

@@ -5,10 +5,10 @@ use crate::found::small;
 use std::alloc::Global;
 use std::test::Fail;
 use ufs_base::SECTOR;
-use ufs_catalog::RecoverFault;
 use ufs_check::check;
 use ufs_damage::Damage;
 use ufs_disk::{Disk, PlainDisk};
+use ufs_metadata::RecoverFault;
 use ufs_recover::format;
 
 fn has_damage(alloc: Global, disk: &mut PlainDisk, wanted: &[Damage]) -> bool

@@ -1,8 +1,8 @@
 -- What a split gives, and what it leaves.
 use Rattle.std.proofs.Common.{◌≡◌, ◌⊎◌, inl, inr, ℕ, ◌+◌, ◌≤◌, Bool, true, false, cond, eqb, List, [], ◌∷◌, ap, sym, refl, ◌∙◌, arith}
-use Rattle.ufs_sound.specs.Owned.{Has, count, one, only, without}
-use Rattle.ufs_sound.proofs.Keys.{alike, itself}
-use Rattle.ufs_sound.proofs.Owning.{count_has}
+use Rattle.ufs_hand_laws.specs.Owned.{Has, count, one, only, without}
+use Rattle.ufs_hand_laws.proofs.Keys.{alike, itself}
+use Rattle.ufs_hand_laws.proofs.Owning.{count_has}
 
 -- no name is meant
 module _ {K D : Type 0} (q : K → Bool) (none : (k : K) → q k ≡ false) where

@@ -1,10 +1,10 @@
 -- One file after the other is taken out of a hand.
 use Rattle.std.proofs.Common.{◌≡◌, ◌≤◌, ℕ, List, [], ◌∷◌, ◌++◌, length, inl, eqb, ap, sym, refl, ◌∙◌, subst, arith}
-use Rattle.ufs_durable.specs.State.{DurableState, state_of}
+use Rattle.ufs_file_commits.specs.State.{DurableState, state_of}
 use Rattle.ufs_held.specs.Together.{under_numbers}
 use Rattle.ufs_joint.specs.Cells.{FileCell, View}
 use Rattle.ufs_noted.specs.declared.known.KnownFile.{KnownFile}
-use Rattle.ufs_sound.specs.Owned.{Has, count, without}
+use Rattle.ufs_hand_laws.specs.Owned.{Has, count, without}
 use Rattle.ufs_dealt.specs.Dealt.{AreApart, values_in, values_of}
 use Rattle.ufs_dealt.proofs.Cutting.{without_this}
 use Rattle.ufs_dealt.proofs.Hands.{file_once}

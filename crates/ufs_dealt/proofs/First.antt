@@ -7,21 +7,21 @@ use Rattle.std.specs.FinMap.{get-entries, nat_cmp-IsAntisymmetric}
 use Rattle.std.specs.FinMap.Entries.{below_all}
 use Rattle.std.proofs.lemmas.Bool.{and_parts}
 use native.Mathlib.Decide.{dec_le}
-use Rattle.ufs_durable.specs.State.{DurableState, state_of}
+use Rattle.ufs_file_commits.specs.State.{DurableState, state_of}
 use Rattle.ufs_file.specs.Hand.{FileState}
-use Rattle.ufs_first_hand.specs.FirstHand.{Beginning, client_of, each_of, file_first, files_first, pool_of, start_first}
-use Rattle.ufs_first_hand.specs.Ready.{IsReady}
+use Rattle.ufs_joint.specs.FirstHand.{Beginning, client_of, each_of, file_first, files_first, pool_of, start_first}
+use Rattle.ufs_joint.specs.Ready.{IsReady}
 use Rattle.ufs_joint.specs.Ends.{CanBegin}
 use Rattle.ufs_joint.specs.Whole.{no_blocks}
 use Rattle.ufs_model.specs.declared.data.PartName.TheVariants.{Asked, Client}
 use Rattle.ufs_model.proofs.Facts.Lookups.{one_key}
 use Rattle.ufs_model.proofs.Facts.Rising.{entries-rise, less}
 use Rattle.ufs_noted.specs.declared.known.KnownFile.{KnownFile}
-use Rattle.ufs_sound.specs.Owned.{Has, count, one, only, without}
-use Rattle.ufs_sound.specs.Parts.{is_asked, is_client, is_file, is_names, is_store}
-use Rattle.ufs_sound.specs.Whole.{idle_asked, idle_client}
-use Rattle.ufs_sound.proofs.Keys.{alike, itself}
-use Rattle.ufs_sound.proofs.Owning.{has_count}
+use Rattle.ufs_hand_laws.specs.Owned.{Has, count, one, only, without}
+use Rattle.ufs_hand_laws.specs.Parts.{is_asked, is_client, is_file, is_names, is_store}
+use Rattle.ufs_hand_laws.specs.Whole.{idle_asked, idle_client}
+use Rattle.ufs_hand_laws.proofs.Keys.{alike, itself}
+use Rattle.ufs_hand_laws.proofs.Owning.{has_count}
 use Rattle.ufs_store.specs.State.{StoreState}
 use Rattle.ufs_dealt.specs.Dealt.{AreApart, values_in, values_of}
 use Rattle.ufs_dealt.specs.First.{ClientsAreIdle, ClientsLeaveRest, FirstFilesAreHere, FirstIsApart, OthersStayIdle, PoolsAreThere, TakePart, rest_first}

@@ -3,7 +3,7 @@ use Rattle.std.proofs.Common.{◌≡◌, ◌≤◌, ℕ, Bool, true, eqb, [], �
 use Rattle.std.specs.Prelude.{IsTrue}
 use Rattle.ufs_bitmap.specs.Blocks.{BlockSet}
 use Rattle.ufs_disk.specs.Moments.{all}
-use Rattle.ufs_durable.specs.State.{DurableState}
+use Rattle.ufs_file_commits.specs.State.{DurableState}
 use Rattle.ufs_held.specs.Held.{IsHeld}
 use Rattle.ufs_held_names.specs.HeldNames.{HasNamesAlone, HoldsNames, noted_in}
 use Rattle.ufs_joint.specs.Cells.{FileCell, NamesCell, Start, StoreCell, View, given_of, kept_of}
@@ -12,14 +12,14 @@ use Rattle.ufs_joint.proofs.Disks.{nothing_behind}
 use Rattle.ufs_model.specs.declared.data.PartName.{PartName}
 use Rattle.ufs_model.specs.declared.data.PartName.TheVariants.{File, Names, Store}
 use Rattle.ufs_noted.specs.Noted.{Noted}
-use Rattle.ufs_sound.specs.Owned.{Has, count, named, only, without}
-use Rattle.ufs_sound.specs.Parts.{is_asked, is_client, is_file, is_names, is_store}
-use Rattle.ufs_sound.proofs.Keys.{alike, itself}
-use Rattle.ufs_sound.proofs.Owning.{count_has, weigh_cut}
+use Rattle.ufs_hand_laws.specs.Owned.{Has, count, named, only, without}
+use Rattle.ufs_hand_laws.specs.Parts.{is_asked, is_client, is_file, is_names, is_store}
+use Rattle.ufs_hand_laws.proofs.Keys.{alike, itself}
+use Rattle.ufs_hand_laws.proofs.Owning.{count_has, weigh_cut}
 use Rattle.ufs_store.specs.State.{StoreState, geometry_of_store}
 use Rattle.ufs_store_steps.specs.Cells.{cells_of}
 use Rattle.ufs_turns.specs.HeldStore.{HasStoreAlone, IsHeldStore, counted_in}
-use Rattle.ufs_first_hand.specs.FirstHand.{HasPoolAlone}
+use Rattle.ufs_joint.specs.FirstHand.{HasPoolAlone}
 use Rattle.ufs_dealt.specs.Dealt.{AreApart, rest_of}
 use Rattle.ufs_dealt.proofs.Cutting.{only_absent, only_none, only_this, without_absent, without_none}
 

@@ -1,9 +1,9 @@
 -- How the first hand of a session is dealt to who takes part.
 use Rattle.std.specs.Prelude.{ℕ, ◌+◌, ◌≤◌, eqb, List, [], map}
-use Rattle.ufs_durable.specs.State.{DurableState, state_of}
+use Rattle.ufs_file_commits.specs.State.{DurableState, state_of}
 use Rattle.ufs_joint.specs.Cells.{FileCell, View}
 use Rattle.ufs_noted.specs.declared.known.KnownFile.{KnownFile}
-use Rattle.ufs_sound.specs.Owned.{count}
+use Rattle.ufs_hand_laws.specs.Owned.{count}
 
 -- what is left once names and store are dealt: each client, each pool and each file
 abbrev pub rest_of : View → View

@@ -3,16 +3,16 @@ use Rattle.std.specs.Prelude.{ℕ, ◌≡◌, ◌≢◌, ◌<◌, ◌≤◌, ◌
 use Rattle.std.specs.FinMap as fin
 use Rattle.ufs_bitmap.specs.Blocks.{BlockSet}
 use Rattle.ufs_caller.specs.Hands.{IsIdleIn}
-use Rattle.ufs_durable.specs.State.{state_of}
-use Rattle.ufs_first_hand.specs.FirstHand.{Beginning, file_first, pool_of, start_before, start_first}
-use Rattle.ufs_first_hand.specs.Ready.{IsReady}
+use Rattle.ufs_file_commits.specs.State.{state_of}
+use Rattle.ufs_joint.specs.FirstHand.{Beginning, file_first, pool_of, start_before, start_first}
+use Rattle.ufs_joint.specs.Ready.{IsReady}
 use Rattle.ufs_joint.specs.Cells.{View, kept_of}
 use Rattle.ufs_joint.specs.Ends.{CanBegin}
 use Rattle.ufs_joint.specs.Whole.{no_blocks}
 use Rattle.ufs_model.specs.declared.data.PartName.TheVariants as part
 use Rattle.ufs_msg.specs.There.{client_count, worker_count}
 use Rattle.ufs_noted.specs.declared.known.KnownFile.{KnownFile}
-use Rattle.ufs_sound.specs.Owned.{Has, without}
+use Rattle.ufs_hand_laws.specs.Owned.{Has, without}
 use Rattle.ufs_store.specs.State.{StoreState}
 use Rattle.ufs_dealt.specs.Dealt.{AreApart, rest_of, values_in, values_of}
 

@@ -2,22 +2,22 @@
 ghost use Rattle.std.specs.Prelude.{◌≡◌, ◌+◌, ◌≤◌, ◌∷◌, ◌++◌, [], true, eqb, length, IsTrue};
 ghost use Rattle.std.specs.Vec.{vec_capacity, vec_len};
 ghost use Rattle.ufs_bitmap.specs.Blocks.{BlockSet};
-ghost use Rattle.ufs_first_hand.specs.FirstHand.{HasPoolAlone};
+ghost use Rattle.ufs_joint.specs.FirstHand.{HasPoolAlone};
 ghost use Rattle.ufs_dealt.specs.Dealt.{AreApart, rest_of, values_in, values_of};
-ghost use Rattle.ufs_durable.specs.State.{state_of};
+ghost use Rattle.ufs_file_commits.specs.State.{state_of};
 ghost use Rattle.ufs_held.specs.Together.{under_numbers};
 ghost use Rattle.ufs_held_names.specs.HeldNames.{noted_in};
 ghost use Rattle.ufs_joint.specs.Cells.{FileCell, NamesCell};
 ghost use Rattle.ufs_joint.specs.Disks.{cell_of};
 ghost use Rattle.ufs_joint.specs.NamesTurns.{live_files};
 ghost use Rattle.ufs_joint.specs.Rule.{first_view};
-ghost use Rattle.ufs_sound.specs.Owned.{Has, without};
+ghost use Rattle.ufs_hand_laws.specs.Owned.{Has, without};
 ghost use Rattle.ufs_store.specs.State.{geometry_of_store};
 ghost use Rattle.ufs_turns.specs.HeldStore.{HasStoreAlone};
 
 use std::sync::ledger::{Book, Ledger};
-use ufs_durable::FileCommits;
 use ufs_file::FileHand;
+use ufs_file_commits::FileCommits;
 use ufs_held::HeldFile;
 use ufs_held_names::HeldNames;
 use ufs_joint::{Begun, Hand, HandTable, Naming, Opened};

@@ -10,8 +10,8 @@ use Rattle.ufs_disk.specs.Moments.{LeavesOnly, Moments, reads}
 use Rattle.ufs_disk.proofs.Images.{seen_is_image}
 use Rattle.ufs_disk.proofs.Runs.{goes_on, weaker}
 use Rattle.ufs_image.specs.Proper.{IsProperImage}
-use Rattle.ufs_last.specs.Last.{StandsForTree}
-use Rattle.ufs_last.specs.Laws.{AllIsLast}
+use Rattle.ufs_promise_laws.specs.Last.{StandsForTree}
+use Rattle.ufs_promise_laws.specs.LastLaws.{AllIsLast}
 use Rattle.ufs_layout.specs.declared.geometry.Geometry.{Geometry}
 use Rattle.ufs_ledger.specs.Kept.{OpensExplained}
 use Rattle.ufs_model.specs.History.{tree_after}
@@ -24,9 +24,9 @@ use Rattle.ufs_recovery.specs.Recovered.{IsCleanDisk, IsProperDisk}
 use Rattle.ufs_server.specs.Answered.{device_of, stopped_of}
 use Rattle.ufs_store.specs.Refusals.{IsTold}
 use Rattle.ufs_store.specs.State.{StoreState, geometry_of_store}
-use Rattle.ufs_stored.specs.OnDisk.{HasAll, IsExplainedBetween, IsExplainedImage, IsOnDisk}
-use Rattle.ufs_stored.specs.OnDiskLaws.{OnDiskIsExplained, OnDiskIsProper}
-use Rattle.ufs_stored.specs.Parts.{Parts}
+use Rattle.ufs_promise_laws.specs.OnDisk.{HasAll, IsExplainedBetween, IsExplainedImage, IsOnDisk}
+use Rattle.ufs_promise_laws.specs.OnDiskLaws.{OnDiskIsExplained, OnDiskIsProper}
+use Rattle.ufs_promise_laws.specs.Parts.{Parts}
 
 -- ---- the image is made clean
 

@@ -2,7 +2,7 @@
 use Rattle.std.proofs.Common.{◌≡◌, false, refl}
 use Rattle.ufs_base.specs.declared.lack.Lack.{Lack}
 use Rattle.ufs_base.specs.declared.lack.Lack.TheVariants.{Memory, AtEnd, Unsound, Told}
-use Rattle.ufs_catalog.specs.Lacks.{IsOfNumbers}
+use Rattle.ufs_metadata.specs.Lacks.{IsOfNumbers}
 use Rattle.ufs_engine.specs.Closes.{tells_unsound}
 use Rattle.ufs_engine.specs.declared.closing.CloseFault.TheVariants as cause
 use Rattle.ufs_store.specs.Ends.{IsMemory}

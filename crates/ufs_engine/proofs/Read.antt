@@ -2,10 +2,10 @@
 use Rattle.std.proofs.Common.{◌≡◌, ℕ, [], Bool, true, false, ap, sym, refl, ◌∙◌, subst}
 use Rattle.std.specs.Prelude.{Ok}
 use Rattle.ufs_base.specs.Images as images
-use Rattle.ufs_catalog.specs.Faults.{IsOutside, IsWhyNot}
-use Rattle.ufs_catalog.specs.Reading.{IsReadOnly}
-use Rattle.ufs_catalog.specs.declared.fault.RecoverFault.{RecoverFault}
-use Rattle.ufs_catalog.specs.declared.fault.RecoverFault.TheVariants.{NoSuperblock, BadVersion, BadGeometry, BadRecord, BadTree, Device, Lack}
+use Rattle.ufs_metadata.specs.Faults.{IsOutside, IsWhyNot}
+use Rattle.ufs_metadata.specs.Reading.{IsReadOnly}
+use Rattle.ufs_metadata.specs.declared.fault.RecoverFault.{RecoverFault}
+use Rattle.ufs_metadata.specs.declared.fault.RecoverFault.TheVariants.{NoSuperblock, BadVersion, BadGeometry, BadRecord, BadTree, Device, Lack}
 use Rattle.ufs_disk.specs.Disk.{IsImage, Leaves, State, seen}
 use Rattle.ufs_disk.specs.Moments.{Moments, reads}
 use Rattle.ufs_disk.proofs.Images.{seen_is_image}
@@ -18,9 +18,9 @@ use Rattle.ufs_model.specs.Laws.{KeepsTrees}
 use Rattle.ufs_model.specs.PosixTree.{PosixTree}
 use Rattle.ufs_model.proofs.ContentLemmas.{start_has_contents}
 use Rattle.ufs_model.proofs.Facts.Starts.{start_is_tree}
-use Rattle.ufs_names_image.specs.Starts.{image_start}
-use Rattle.ufs_names_image.proofs.Started.{image_is_tree}
-use Rattle.ufs_prefix.proofs.Facts.Ends.{start_explained}
+use Rattle.ufs_tree_laws.specs.Starts.{image_start}
+use Rattle.ufs_tree_laws.proofs.Started.{image_is_tree}
+use Rattle.ufs_crash_laws.proofs.Facts.Ends.{start_explained}
 use Rattle.ufs_opening.specs.Told.{TellsWhy}
 use Rattle.ufs_recovery.specs.Home.{KeepsTree, OpensAlike}
 use Rattle.ufs_recovery.specs.Recovered.{IsCleanDisk, IsProperDisk, log_of}
@@ -29,7 +29,7 @@ use Rattle.ufs_recovery.proofs.SuperblockPut.{keeps_settled, kept_quietly}
 use Rattle.ufs_start.specs.Refused.{TellsNoStart}
 use Rattle.ufs_start.specs.declared.fault.StartFault.{StartFault}
 use Rattle.ufs_start.specs.declared.fault.StartFault.TheVariants.{Image, Unreached, Unnamed, ExtraBlocks}
-use Rattle.ufs_stored.specs.OnDisk.{IsExplainedBetween, IsExplainedImage}
+use Rattle.ufs_promise_laws.specs.OnDisk.{IsExplainedBetween, IsExplainedImage}
 use Rattle.ufs_engine.specs.Begins.{BeginsWith, TellsNoSession, is_mended}
 
 -- ---- a tree, and what begins with it

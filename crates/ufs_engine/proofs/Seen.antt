@@ -7,16 +7,16 @@ use Rattle.ufs_image.specs.Proper.{IsProperImage}
 use Rattle.ufs_image.specs.Volume.{superblock_of}
 use Rattle.ufs_ledger.specs.Kept.{path_node_of, paths_of}
 use Rattle.ufs_model.specs.Start.{start_of}
-use Rattle.ufs_names_image.specs.Starts.{image_start}
+use Rattle.ufs_tree_laws.specs.Starts.{image_start}
 use Rattle.ufs_one_hand.specs.OneHand.{IsStart, disk_with, in_store, seeing, state_in}
-use Rattle.ufs_prefix.specs.Mapped.{mapped}
+use Rattle.ufs_crash_laws.specs.Mapped.{mapped}
 use Rattle.ufs_recovery.specs.Recovered.{IsCleanDisk}
 use Rattle.ufs_recovery.proofs.Ends.{none_in_clean}
-use Rattle.ufs_sound.specs.DiskBytes.{state_of}
-use Rattle.ufs_sound.specs.Opened.{opened_store}
-use Rattle.ufs_sound.specs.Parts.{Cells, Start, StorePart}
-use Rattle.ufs_sound.specs.Shown.{node_of, nodes_of}
-use Rattle.ufs_sound.specs.Visible.{IsDiskVisible}
+use Rattle.ufs_hand_laws.specs.DiskBytes.{state_of}
+use Rattle.ufs_hand_laws.specs.Opened.{opened_store}
+use Rattle.ufs_hand_laws.specs.Parts.{Cells, Start, StorePart}
+use Rattle.ufs_hand_laws.specs.Shown.{node_of, nodes_of}
+use Rattle.ufs_hand_laws.specs.Visible.{IsDiskVisible}
 use Rattle.ufs_store_steps.specs.Cells.{cells_of}
 use Rattle.ufs_store_steps.proofs.Cells.{cells_are_there, whole_cells}
 

@@ -10,9 +10,9 @@ use Rattle.ufs_engine.specs.Plays.{IsStampedThroughout}
 use Rattle.ufs_model.specs.PosixTree.{PosixTree}
 use Rattle.ufs_model.specs.declared.data.Entry.{Entry}
 use Rattle.ufs_session.specs.Throughout.{IsExplainedThroughout}
-use Rattle.ufs_sound.specs.Owned.{Has}
+use Rattle.ufs_hand_laws.specs.Owned.{Has}
 use Rattle.ufs_store_steps.specs.Cells.{cells_of}
-use Rattle.ufs_stored.specs.OnDisk.{IsExplainedBetween, IsExplainedImage}
+use Rattle.ufs_promise_laws.specs.OnDisk.{IsExplainedBetween, IsExplainedImage}
 
 module _ (keeps : Bool) (sectors : ℕ) (start : PosixTree) where
   -- where no session ran

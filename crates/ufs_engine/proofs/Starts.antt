@@ -29,21 +29,21 @@ use Rattle.ufs_model.specs.Order.{fd_cmp}
 use Rattle.ufs_model.specs.PosixTree.{PosixTree}
 use Rattle.ufs_model.proofs.Facts.Lookups.{same_some}
 use Rattle.ufs_names.proofs.NotedLemmas.{beside}
-use Rattle.ufs_names_image.specs.Starts.{image_start}
+use Rattle.ufs_tree_laws.specs.Starts.{image_start}
 use Rattle.ufs_session.specs.Played.{MayBegin}
 use Rattle.ufs_store.specs.Laws.{CleanDisksMount}
 use Rattle.ufs_store.specs.Ledgers.{HasLedger}
 use Rattle.ufs_store.specs.Mounting.{IsMountable, in_use, marking}
 use Rattle.ufs_store.specs.State.{StoreState, geometry_of_store}
-use Rattle.ufs_stored.specs.OnDisk.{IsOnDisk}
-use Rattle.ufs_stored.specs.Sound.{IsSoundServer}
-use Rattle.ufs_stored.specs.Stored.{ArePartsOf}
-use Rattle.ufs_begun.specs.Laws.{BeginsOnDisk, BeginsSound, BeginsStored, WholeHaveNone}
-use Rattle.ufs_begun.specs.Parts.{AreOrphaned, IsOpened, begun_counts}
-use Rattle.ufs_mounted.specs.Laws.{StartsAreNamed, StartsAreOpened}
+use Rattle.ufs_promise_laws.specs.OnDisk.{IsOnDisk}
+use Rattle.ufs_promise_laws.specs.Sound.{IsSoundServer}
+use Rattle.ufs_promise_laws.specs.Stored.{ArePartsOf}
+use Rattle.ufs_start_laws.specs.Laws.{BeginsOnDisk, BeginsSound, BeginsStored, WholeHaveNone}
+use Rattle.ufs_start_laws.specs.Parts.{AreOrphaned, IsOpened, begun_counts}
+use Rattle.ufs_start_laws.specs.MountedLaws.{StartsAreNamed, StartsAreOpened}
 use Rattle.ufs_start.specs.Begun.{IsBegun, tree_under, volume_under}
 use Rattle.ufs_start.specs.declared.parts.Start.{Start}
-use Rattle.ufs_stored.specs.Parts.{Parts}
+use Rattle.ufs_promise_laws.specs.Parts.{Parts}
 use Rattle.ufs_engine.specs.Begins.{BeginsWith}
 use Rattle.ufs_engine.specs.Laws.{IsReadClean, parts_of}
 

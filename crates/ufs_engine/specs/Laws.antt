@@ -14,10 +14,10 @@ use Rattle.ufs_session.specs.Played.{MayBegin}
 use Rattle.ufs_store.specs.Ledgers.{HasLedger}
 use Rattle.ufs_store.specs.Mounting.{IsMountable, in_use, marking}
 use Rattle.ufs_store.specs.State.{StoreState, geometry_of_store}
-use Rattle.ufs_stored.specs.OnDisk.{IsOnDisk}
-use Rattle.ufs_stored.specs.Parts.{Parts}
-use Rattle.ufs_stored.specs.Sound.{IsSoundServer}
-use Rattle.ufs_begun.specs.Parts.{begun_parts}
+use Rattle.ufs_promise_laws.specs.OnDisk.{IsOnDisk}
+use Rattle.ufs_promise_laws.specs.Parts.{Parts}
+use Rattle.ufs_promise_laws.specs.Sound.{IsSoundServer}
+use Rattle.ufs_start_laws.specs.Parts.{begun_parts}
 use Rattle.ufs_start.specs.Begun.{IsBegun}
 use Rattle.ufs_start.specs.declared.parts.Start.{Start}
 use Rattle.ufs_engine.specs.Begins.{BeginsWith}

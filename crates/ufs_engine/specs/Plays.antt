@@ -18,8 +18,8 @@ use Rattle.ufs_server.specs.Sizes.{total_size}
 use Rattle.ufs_session.specs.Played.{IsPlayedFrom}
 use Rattle.ufs_session.specs.Throughout.{AreMomentsStamped}
 use Rattle.ufs_session.specs.Told.{AreFaultsCaused, AreToldStop, HasRisen, IsCountStill, devices_in, reads_in}
-use Rattle.ufs_sound.specs.Owned.{Has}
-use Rattle.ufs_stored.specs.OnDisk.{IsExplainedBetween}
+use Rattle.ufs_hand_laws.specs.Owned.{Has}
+use Rattle.ufs_promise_laws.specs.OnDisk.{IsExplainedBetween}
 
 -- what the promise asks of the disk as the session begins: it is visible, and is proper
 pub record MayPlay (visible : Bool) (sectors : ℕ) (state : State) : Type 0 where

@@ -1,8 +1,8 @@
 ghost use Rattle.std.specs.Prelude.{ℕ, ◌≡◌, ◌↔◌, List, Some, None, Err, IsTrue, IfErr, OnOk, false};
 ghost use Rattle.ufs_base.specs.declared.lack.Lack.{Lack};
 ghost use Rattle.ufs_base.specs.declared.lack.Lack.TheVariants as lack;
-ghost use Rattle.ufs_catalog.specs.Faults.{HasFaultCause, IsOutside};
-ghost use Rattle.ufs_catalog.specs.declared.fault.RecoverFault.TheVariants as recovery;
+ghost use Rattle.ufs_metadata.specs.Faults.{HasFaultCause, IsOutside};
+ghost use Rattle.ufs_metadata.specs.declared.fault.RecoverFault.TheVariants as recovery;
 ghost use Rattle.ufs_engine.specs.Numbers.{ClosesFrom};
 ghost use Rattle.ufs_image.specs.Volume.{superblock_of};
 ghost use Rattle.ufs_engine.specs.Closes.{OpensAsLeft, closing_fault, device_told_by, stopped_at, tells_unsound};
@@ -10,7 +10,7 @@ ghost use Rattle.ufs_engine.specs.declared.closing.CloseFault.TheVariants as cau
 ghost use Rattle.ufs_disk.specs.Disk.{Leaves};
 ghost use Rattle.ufs_disk.specs.Moments.{LeavesOnly, reads};
 ghost use Rattle.ufs_image.specs.Proper.{IsProperImage};
-ghost use Rattle.ufs_last.specs.Last.{StandsForTree};
+ghost use Rattle.ufs_promise_laws.specs.Last.{StandsForTree};
 ghost use Rattle.ufs_model.specs.History.{tree_after};
 ghost use Rattle.ufs_model.specs.PosixTree.{PosixTree};
 ghost use Rattle.ufs_model.specs.declared.data.Entry.{Entry};
@@ -18,19 +18,18 @@ ghost use Rattle.ufs_recovery.specs.Recovered.{IsCleanDisk, IsRecovered};
 ghost use Rattle.ufs_server.specs.Answered.{device_of, stopped_of};
 ghost use Rattle.ufs_store.specs.Refusals.{IsTold};
 ghost use Rattle.ufs_store.specs.State.{geometry_of_store};
-ghost use Rattle.ufs_stored.specs.OnDisk.{IsExplainedBetween, IsOnDisk};
-ghost use Rattle.ufs_stored.specs.Sound.{IsSoundServer};
+ghost use Rattle.ufs_promise_laws.specs.OnDisk.{IsExplainedBetween, IsOnDisk};
+ghost use Rattle.ufs_promise_laws.specs.Sound.{IsSoundServer};
 
 use std::alloc::Global;
 use ufs_base::Lack;
-use ufs_catalog::RecoverFault;
 use ufs_disk::Disk;
-use ufs_last::last_law;
+use ufs_metadata::RecoverFault;
 use ufs_model::Excuse;
+use ufs_promise_laws::{last_law, on_disk_law};
 use ufs_recovery::recover;
 use ufs_server::DiskServer;
 use ufs_store::{Door, Store};
-use ufs_stored::on_disk_law;
 
 /// Why an image isn't made clean at a session's end. It is left in use.
 #[derive(Clone, Copy, Debug, PartialEq, Eq)]

@@ -2,10 +2,9 @@
 ghost use Rattle.ufs_engine.specs.Laws.{CleanStartsMount, MarkingIsExplained, MarkingIsProper, StartsAreSound, StartsGoOn, StartsMayBegin};
 ghost use Rattle.ufs_layout.specs.Areas.{IsGeometry};
 
-use ufs_begun::{begun_law, parts_law};
 use ufs_layout::Geometry;
 use ufs_ledger::{opening_law, promise_law, proper_law};
-use ufs_mounted::start_law;
+use ufs_start_laws::{begun_law, parts_law, start_law};
 use ufs_store::mounting_law;
 
 /// What is read of a disk makes a server that a session may begin with.

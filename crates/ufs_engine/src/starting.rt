@@ -1,7 +1,7 @@
 // What a server begins with, of a disk whose image may be mended first.
 ghost use Rattle.std.specs.Prelude.{ℕ, ◌≡◌, Ok, Err, IsTrue, IfOk, IfErr, OnOk};
 ghost use Rattle.ufs_base.specs.Images.{Image};
-ghost use Rattle.ufs_catalog.specs.declared.fault.RecoverFault.{RecoverFault};
+ghost use Rattle.ufs_metadata.specs.declared.fault.RecoverFault.{RecoverFault};
 ghost use Rattle.ufs_disk.specs.Moments.{reads};
 ghost use Rattle.ufs_engine.specs.Begins as begins;
 ghost use Rattle.ufs_engine.specs.Begins.{TellsNoSession};

@@ -8,8 +8,8 @@ use Rattle.ufs_joint.specs.Cells.{FileCell, NamesCell, Start, StoreCell, View, b
 use Rattle.ufs_joint.specs.Ends.{HoldsAll}
 use Rattle.ufs_joint.specs.Turns.{begun_at, turn_begun}
 use Rattle.ufs_model.specs.declared.data.Entry.{Entry}
-use Rattle.ufs_sound.specs.Owned.{count}
-use Rattle.ufs_sound.specs.Parts.{ClientPart}
+use Rattle.ufs_hand_laws.specs.Owned.{count}
+use Rattle.ufs_hand_laws.specs.Parts.{ClientPart}
 use Rattle.ufs_store.specs.State.{StoreState}
 use Rattle.ufs_turns.specs.HeldStore.{IsHeldStore, IsStoreIn}
 use Rattle.ufs_gathered.specs.Gathered.{AreAllBack, AreHome, HasAllOf, HasPoolsAlone, clients_in, with_all}

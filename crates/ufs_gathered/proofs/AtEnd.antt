@@ -12,27 +12,27 @@ use Rattle.ufs_bitmap.specs.Taking.{has}
 use Rattle.ufs_client.specs.Played.{transcript}
 use Rattle.ufs_client.proofs.Lists.{get_past, rising_from}
 use Rattle.ufs_disk.specs.Disk.{IsWhole as IsDiskWhole, Leaves, State}
-use Rattle.ufs_last.specs.Last.{StandsForTree}
-use Rattle.ufs_last.specs.Laws.{AllIsLast}
+use Rattle.ufs_promise_laws.specs.Last.{StandsForTree}
+use Rattle.ufs_promise_laws.specs.LastLaws.{AllIsLast}
 use Rattle.ufs_ledger.specs.Kept.{Counts}
 use Rattle.ufs_model.specs.History.{IsComplete, IsInOrder, entries_of, requests_of, tree_after}
 use Rattle.ufs_model.specs.PosixTree.{PosixTree}
 use Rattle.ufs_model.specs.declared.data.Entry.{Entry}
 use Rattle.ufs_model.specs.declared.data.Op.{Op}
 use Rattle.ufs_names.specs.NamesPart.{NamesPart}
-use Rattle.ufs_on_disk.specs.Requests.{with_free}
-use Rattle.ufs_prefix.specs.Changes.{changes_of, name_changes}
-use Rattle.ufs_sound.specs.DiskBytes.{state_of}
-use Rattle.ufs_sound.specs.Owned.{Has}
-use Rattle.ufs_sound.specs.Parts.{Cells}
-use Rattle.ufs_sound.proofs.Ending.{mine_has}
+use Rattle.ufs_event_laws.specs.FileRequests.{with_free}
+use Rattle.ufs_crash_laws.specs.Changes.{changes_of, name_changes}
+use Rattle.ufs_hand_laws.specs.DiskBytes.{state_of}
+use Rattle.ufs_hand_laws.specs.Owned.{Has}
+use Rattle.ufs_hand_laws.specs.Parts.{Cells}
+use Rattle.ufs_hand_laws.proofs.Ending.{mine_has}
 use Rattle.ufs_store.specs.State.{StoreState}
 use Rattle.ufs_store_steps.specs.Cells.{cells_of}
 use Rattle.ufs_store_steps.proofs.Cells.{whole_cells}
-use Rattle.ufs_stored.specs.AlwaysLaws.{RestIsExplained}
-use Rattle.ufs_stored.specs.Known.{IsKeptGoing}
-use Rattle.ufs_stored.specs.OnDisk.{HasAll, HasFiles, IsExplainedImage}
-use Rattle.ufs_synced.specs.Laws.{AllAreThere}
+use Rattle.ufs_promise_laws.specs.AlwaysLaws.{RestIsExplained}
+use Rattle.ufs_promise_laws.specs.Known.{IsKeptGoing}
+use Rattle.ufs_promise_laws.specs.OnDisk.{HasAll, HasFiles, IsExplainedImage}
+use Rattle.ufs_names_commit.specs.Laws.{AllAreThere}
 use Rattle.ufs_joint.specs.Cells.{FileCell, NamesCell, Start, StoreCell, View, store_of}
 use Rattle.ufs_joint.specs.Disks.{cell_of, states_behind}
 use Rattle.ufs_joint.specs.Ends.{IsAlwaysExplained, IsWhole}

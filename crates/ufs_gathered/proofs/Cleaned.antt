@@ -16,15 +16,15 @@ use Rattle.ufs_held_names.specs.SyncAll.{AreSynced, AtFile, AtNames, IsFileKept,
 use Rattle.ufs_image.specs.Proper.{IsProperImage}
 use Rattle.ufs_joint.specs.Cells.{FileCell, NamesCell, Start, View}
 use Rattle.ufs_joint.specs.NamesTurns.{live_files}
-use Rattle.ufs_last.specs.Last.{StandsForTree}
+use Rattle.ufs_promise_laws.specs.Last.{StandsForTree}
 use Rattle.ufs_model.specs.History.{tree_after}
 use Rattle.ufs_model.specs.declared.data.Entry.{Entry}
-use Rattle.ufs_sound.specs.Owned.{Has, count, one}
+use Rattle.ufs_hand_laws.specs.Owned.{Has, count, one}
 use Rattle.ufs_store.specs.Refusals.{fault_in, stop_after}
 use Rattle.ufs_store.specs.State.{StoreState}
 use Rattle.ufs_store.specs.declared.fault.StoreFault.{StoreFault}
 use Rattle.ufs_store.specs.declared.fault.StoreFault.TheVariants as refusal
-use Rattle.ufs_stored.specs.OnDisk.{IsExplainedBetween, IsExplainedImage}
+use Rattle.ufs_promise_laws.specs.OnDisk.{IsExplainedBetween, IsExplainedImage}
 use Rattle.ufs_turns.specs.HeldStore.{IsHeldStore}
 use Rattle.ufs_turns.specs.Lent.{GainsBlocks, IsBare, IsBeside, stop_in}
 use Rattle.ufs_gathered.specs.Ended.{AreAllKnown, HasEnded}

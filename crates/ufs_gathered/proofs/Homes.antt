@@ -4,9 +4,9 @@ use Rattle.std.specs.Prelude.{slice_get, unwrap_or}
 use Rattle.ufs_caller.specs.Hands.{HasBoth}
 use Rattle.ufs_joint.specs.Cells.{View}
 use Rattle.ufs_model.specs.declared.data.Entry.{Entry}
-use Rattle.ufs_sound.specs.Owned.{Has}
-use Rattle.ufs_sound.specs.Parts.{AskedPart, ClientPart}
-use Rattle.ufs_sound.proofs.Owning.{append_has, has_append}
+use Rattle.ufs_hand_laws.specs.Owned.{Has}
+use Rattle.ufs_hand_laws.specs.Parts.{AskedPart, ClientPart}
+use Rattle.ufs_hand_laws.proofs.Owning.{append_has, has_append}
 use Rattle.ufs_gathered.specs.Gathered.{AreHomeFrom, all_in, clients_in}
 
 -- each of the first ones stands there, with its transcript

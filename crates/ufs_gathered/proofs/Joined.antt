@@ -4,8 +4,8 @@ use Rattle.std.proofs.lemmas.List.{append-nil}
 use Rattle.ufs_held.specs.Held.{HasFileAlone}
 use Rattle.ufs_held.specs.Together.{HasThemToo, under_numbers}
 use Rattle.ufs_joint.specs.Cells.{FileCell, View, both_of}
-use Rattle.ufs_sound.specs.Owned.{Has}
-use Rattle.ufs_sound.specs.Parts.{either}
+use Rattle.ufs_hand_laws.specs.Owned.{Has}
+use Rattle.ufs_hand_laws.specs.Parts.{either}
 use Rattle.ufs_gathered.specs.Gathered.{all_in, with_all}
 
 -- the last one

@@ -2,20 +2,20 @@
 use Rattle.std.specs.Prelude.{ℕ, ◌≡◌, ◌≤◌, ◌<◌, ◌-◌, ◌^◌, true, List, length, map, take, Some, None}
 use Rattle.ufs_client.specs.Played.{IsMerged, transcript}
 use Rattle.ufs_disk.specs.Disk.{Leaves}
-use Rattle.ufs_last.specs.Last.{StandsForTree}
+use Rattle.ufs_promise_laws.specs.Last.{StandsForTree}
 use Rattle.ufs_model.specs.History.{IsComplete, IsInOrder, IsLegal, requests_of, tree_after}
 use Rattle.ufs_model.specs.PosixTree.{PosixTree}
 use Rattle.ufs_model.specs.declared.data.Entry.{Entry}
 use Rattle.ufs_model.specs.declared.data.Excuse.TheVariants as excuse
 use Rattle.ufs_model.specs.declared.data.Op.{Op}
 use Rattle.ufs_model.specs.declared.data.Reply.TheVariants as reply
-use Rattle.ufs_sound.specs.FaultsOnce.{told}
-use Rattle.ufs_sound.specs.Owned.{Has}
-use Rattle.ufs_sound.specs.Parts.{Cells}
+use Rattle.ufs_hand_laws.specs.FaultsOnce.{told}
+use Rattle.ufs_hand_laws.specs.Owned.{Has}
+use Rattle.ufs_hand_laws.specs.Parts.{Cells}
 use Rattle.ufs_store.specs.State.{StoreState}
-use Rattle.ufs_stored.specs.OnDisk.{IsExplainedImage}
-use Rattle.ufs_stored.specs.Parts.{Parts}
-use Rattle.ufs_stored.specs.Stored.{ArePartsOf}
+use Rattle.ufs_promise_laws.specs.OnDisk.{IsExplainedImage}
+use Rattle.ufs_promise_laws.specs.Parts.{Parts}
+use Rattle.ufs_promise_laws.specs.Stored.{ArePartsOf}
 use Rattle.ufs_joint.specs.Cells.{FileCell, NamesCell, Start}
 use Rattle.ufs_joint.specs.Disks.{states_behind}
 use Rattle.ufs_joint.specs.Faults.{faults_in}

@@ -10,7 +10,7 @@ use Rattle.ufs_engine.specs.declared.closing.CloseFault.{CloseFault}
 use Rattle.ufs_engine.specs.declared.closing.CloseFault.TheVariants as cause
 use Rattle.ufs_image.specs.Volume.{superblock_of}
 use Rattle.ufs_joint.specs.Cells.{FileCell, NamesCell, Start}
-use Rattle.ufs_last.specs.Last.{StandsForTree}
+use Rattle.ufs_promise_laws.specs.Last.{StandsForTree}
 use Rattle.ufs_model.specs.History.{tree_after}
 use Rattle.ufs_model.specs.declared.data.Entry.{Entry}
 use Rattle.ufs_recovery.specs.Recovered.{IsCleanDisk, IsRecovered}
@@ -18,7 +18,7 @@ use Rattle.ufs_store.specs.Refusals.{IsTold}
 use Rattle.ufs_store.specs.State.{StoreState}
 use Rattle.ufs_store.specs.declared.fault.StoreFault.{StoreFault}
 use Rattle.ufs_store.specs.declared.fault.StoreFault.TheVariants as refusal
-use Rattle.ufs_stored.specs.OnDisk.{IsExplainedBetween}
+use Rattle.ufs_promise_laws.specs.OnDisk.{IsExplainedBetween}
 use Rattle.ufs_gathered.specs.Ended.{HasEnded}
 
 -- ---- how it ends

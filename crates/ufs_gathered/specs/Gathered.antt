@@ -6,8 +6,8 @@ use Rattle.ufs_fds.specs.Descriptors.{Descs}
 use Rattle.ufs_held.specs.Together.{under_numbers}
 use Rattle.ufs_joint.specs.Cells.{FileCell, NamesCell, Start, View, both_of}
 use Rattle.ufs_model.specs.declared.data.Entry.{Entry}
-use Rattle.ufs_sound.specs.Owned.{count}
-use Rattle.ufs_sound.specs.Parts.{ClientPart}
+use Rattle.ufs_hand_laws.specs.Owned.{count}
+use Rattle.ufs_hand_laws.specs.Parts.{ClientPart}
 
 -- the hand once these came to it, one after the other
 abbrev pub with_all : View → List View → View

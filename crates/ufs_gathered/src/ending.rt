@@ -9,10 +9,9 @@ use crate::gathering::{Actors, Gathered, gather};
 use std::marker::Brand;
 use std::sync::ledger::Ledger;
 use ufs_joint::{HandTable, Naming};
-use ufs_last::last_law;
+use ufs_names_commit::all_law;
+use ufs_promise_laws::{always_law, last_law};
 use ufs_store::Door;
-use ufs_stored::always_law;
-use ufs_synced::all_law;
 
 /// A session that has ended, and the store that it ran over.
 pub struct Ended<S: Door> {

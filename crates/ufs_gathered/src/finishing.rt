@@ -13,7 +13,7 @@ ghost use Rattle.ufs_image.specs.Volume.{superblock_of};
 ghost use Rattle.ufs_layout.specs.Areas.{IsGeometry};
 ghost use Rattle.ufs_model.specs.declared.data.Entry.{Entry};
 ghost use Rattle.ufs_recovery.specs.Recovered.{IsCleanDisk, IsRecovered};
-ghost use Rattle.ufs_sound.specs.Owned.{count};
+ghost use Rattle.ufs_hand_laws.specs.Owned.{count};
 ghost use Rattle.ufs_store.specs.Refusals.{fault_in, stop_after};
 ghost use Rattle.ufs_store.specs.declared.fault.StoreFault.TheVariants as refusal;
 ghost use Rattle.ufs_turns.specs.Lent.{stop_in};

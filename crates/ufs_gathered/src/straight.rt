@@ -3,8 +3,8 @@ ghost use Rattle.std.specs.Prelude.{◌<◌};
 
 use std::sync::ledger::{Ledger, Share};
 use ufs_bitmap::Pool;
-use ufs_durable::FileCommits;
 use ufs_file::FileHand;
+use ufs_file_commits::FileCommits;
 use ufs_joint::{Hand, HandTable, Naming};
 use ufs_model::{Desc, Op};
 use ufs_names::Names;

@@ -4,13 +4,13 @@ use mathlib.Core.Option.{some, some-injective}
 use lib.ListN.{get_elem?}
 use Rattle.atomic_table.specs.Table.{Final, Seen}
 use Rattle.ufs_model.specs.Laws.{KeepsTrees}
-use Rattle.ufs_sound.specs.ByImages.{by_images}
-use Rattle.ufs_sound.specs.Parts.{View, Start}
-use Rattle.ufs_sound.specs.Rule.{clock_step, word_number, IsRuled}
-use Rattle.ufs_sound.specs.Whole.{HoldsAll}
-use Rattle.ufs_sound.proofs.Durable.{durable}
-use Rattle.ufs_sound.proofs.Ending.{opens, ends_whole}
-use Rattle.ufs_sound.proofs.Ruling.{few, tickets_of, clock_of}
+use Rattle.ufs_hand_laws.specs.ByImages.{by_images}
+use Rattle.ufs_hand_laws.specs.Parts.{View, Start}
+use Rattle.ufs_hand_laws.specs.Rule.{clock_step, word_number, IsRuled}
+use Rattle.ufs_hand_laws.specs.Whole.{HoldsAll}
+use Rattle.ufs_hand_laws.proofs.Durable.{durable}
+use Rattle.ufs_hand_laws.proofs.Ending.{opens, ends_whole}
+use Rattle.ufs_hand_laws.proofs.Ruling.{few, tickets_of, clock_of}
 use Rattle.ufs_hand.specs.Session.{CanBegin, KnowsAll, word_of, first_view}
 
 pub begins : (k : Start) → CanBegin k → IsRuled by_images k (record { words = 0 ∷ []; homes = []; views = first_view k ∷ [] })

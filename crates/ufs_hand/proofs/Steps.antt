@@ -2,11 +2,11 @@
 use Rattle.std.proofs.Common.{ℕ, sym, subst, ⊎_elim}
 use Rattle.atomic_table.specs.Table.{Me, Allows}
 use Rattle.ufs_model.specs.Laws.{KeepsTrees}
-use Rattle.ufs_sound.specs.ByImages.{by_images}
-use Rattle.ufs_sound.specs.Marks.{MayRemake}
-use Rattle.ufs_sound.specs.Parts.{Start, View}
-use Rattle.ufs_sound.specs.Rule.{IsRuled, Marked}
-use Rattle.ufs_sound.proofs.Ruling.{ask_keeps, give_back_keeps, grant_keeps, mark_keeps}
+use Rattle.ufs_hand_laws.specs.ByImages.{by_images}
+use Rattle.ufs_hand_laws.specs.Marks.{MayRemake}
+use Rattle.ufs_hand_laws.specs.Parts.{Start, View}
+use Rattle.ufs_hand_laws.specs.Rule.{IsRuled, Marked}
+use Rattle.ufs_hand_laws.proofs.Ruling.{ask_keeps, give_back_keeps, grant_keeps, mark_keeps}
 use Rattle.ufs_hand.specs.Session.{AsksRequest, GivesLeasesBack, GrantsLease, IsEvent}
 
 pub event_keeps : KeepsTrees → (k : Start) (slots i : ℕ) (w : ℕ → View) (me : Me (Unit {0}) View) → IsEvent k me.0 w → Allows (IsRuled by_images k) slots i me 0 (λ n. n) (Marked k w me)

@@ -3,8 +3,8 @@ use Rattle.std.specs.Prelude.{Bool, refl}
 use Rattle.std.specs.Coded.{Coded, code_by, coded×, coded_bool}
 use Rattle.atomic_table.specs.Seated.{TableId, table_id_coded}
 use Rattle.ufs_model.specs.PosixTree.{PosixTree, tree_code}
-use Rattle.ufs_sound.specs.Codes.{view_code}
-use Rattle.ufs_sound.specs.Parts.{Start, View}
+use Rattle.ufs_hand_laws.specs.Codes.{view_code}
+use Rattle.ufs_hand_laws.specs.Parts.{Start, View}
 use Rattle.ufs_hand.specs.Session.{Session}
 
 abbrev pub start_code : Coded Start

@@ -10,20 +10,20 @@ use Rattle.ufs_model.specs.declared.data.Op.TheVariants.{Sync}
 use Rattle.ufs_model.specs.declared.data.PartName.{PartName}
 use Rattle.ufs_model.specs.declared.data.PartName.TheVariants as part
 use Rattle.ufs_model.specs.declared.data.Reply.TheVariants.{Done}
-use Rattle.ufs_sound.specs.declared.fresh.Fresh.{Fresh}
-use Rattle.ufs_sound.specs.ByImages.{by_images}
-use Rattle.ufs_sound.specs.Clock.{looked}
-use Rattle.ufs_sound.specs.Draws.{Leaves, drawn}
+use Rattle.ufs_hand_laws.specs.declared.fresh.Fresh.{Fresh}
+use Rattle.ufs_hand_laws.specs.ByImages.{by_images}
+use Rattle.ufs_hand_laws.specs.Clock.{looked}
+use Rattle.ufs_hand_laws.specs.Draws.{Leaves, drawn}
 use Rattle.ufs_hand.specs.declared.hand.Drawn.{Drawn}
 use Rattle.ufs_hand.specs.declared.hand.Drawn.TheVariants as drew
-use Rattle.ufs_sound.specs.Rule.{clock_step, word_at, IsSeenBy}
-use Rattle.ufs_sound.specs.Durable.{IsDurable}
-use Rattle.ufs_sound.specs.Parts.{NamesPart, StorePart, Start, View, Word, spent}
-use Rattle.ufs_sound.specs.Leasing.{MayGrant, granting, MayGiveBack, giving_back}
-use Rattle.ufs_sound.specs.Marks.{MayAsk, asking, MayRemake}
-use Rattle.ufs_sound.specs.Owned.{count}
-use Rattle.ufs_sound.specs.Visible.{IsDiskVisible}
-use Rattle.ufs_sound.specs.Whole.{CanOpen, IsWhole}
+use Rattle.ufs_hand_laws.specs.Rule.{clock_step, word_at, IsSeenBy}
+use Rattle.ufs_hand_laws.specs.Durable.{IsDurable}
+use Rattle.ufs_hand_laws.specs.Parts.{NamesPart, StorePart, Start, View, Word, spent}
+use Rattle.ufs_hand_laws.specs.Leasing.{MayGrant, granting, MayGiveBack, giving_back}
+use Rattle.ufs_hand_laws.specs.Marks.{MayAsk, asking, MayRemake}
+use Rattle.ufs_hand_laws.specs.Owned.{count}
+use Rattle.ufs_hand_laws.specs.Visible.{IsDiskVisible}
+use Rattle.ufs_hand_laws.specs.Whole.{CanOpen, IsWhole}
 
 -- which table a session has, and what it started from
 pub record Session : Type 0 where

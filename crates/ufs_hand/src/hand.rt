@@ -1,10 +1,10 @@
 // The hands of one session, and the table that they share.
 ghost use Rattle.std.specs.Prelude.{◌≡◌, ◌≢◌, ◌≤◌, ◌<◌, ◌⊎◌, ◌/◌, ◌%◌, [], ◌∷◌, IfOk};
-ghost use Rattle.ufs_sound.specs.Rule.{clock_step, word_at, IsSeenBy, KnowsTickets, MayTick};
-ghost use Rattle.ufs_sound.specs.Clock.{looked, ticked};
-ghost use Rattle.ufs_sound.specs.Parts.{NamesPart, HoldsPart, kept_of, given_of, both_of};
-ghost use Rattle.ufs_sound.specs.Draws.{MayDraw, drawn};
-ghost use Rattle.ufs_sound.specs.Whole.{HoldsAll};
+ghost use Rattle.ufs_hand_laws.specs.Rule.{clock_step, word_at, IsSeenBy, KnowsTickets, MayTick};
+ghost use Rattle.ufs_hand_laws.specs.Clock.{looked, ticked};
+ghost use Rattle.ufs_hand_laws.specs.Parts.{NamesPart, HoldsPart, kept_of, given_of, both_of};
+ghost use Rattle.ufs_hand_laws.specs.Draws.{MayDraw, drawn};
+ghost use Rattle.ufs_hand_laws.specs.Whole.{HoldsAll};
 ghost use Rattle.ufs_hand.specs.Session.{first_view, word_of, CanBegin, DrewLocal, HoldsPool, IsEvent, KnowsAll};
 
 use crate::rule::{
@@ -14,10 +14,10 @@ use crate::rule::{
 use atomic_table::{Closed, Seat, Table};
 use std::alloc::{AllocError, Global};
 use std::marker::{Brand, Model, PhantomData};
+use ufs_hand_laws::{Fresh, Knowledge};
 use ufs_model::{
     Lease, PartName, a_request_is_local, a_request_keeps_the_tree, a_request_makes_one_file_at_most,
 };
-use ufs_sound::{Fresh, Knowledge};
 
 // The tickets are the low 40 bits of the word, and the clock the high 24.
 const CLOCK: u64 = 1 << 40;
@@ -31,8 +31,8 @@ pub struct Hand<N: Naming> {
 
 impl<N: Naming> Model for Hand<N> {
     ghost use Rattle.std.specs.Prelude.{◌≡◌, []};
-    ghost use Rattle.ufs_sound.specs.Codes.{view_code};
-    ghost use Rattle.ufs_sound.specs.Parts.{View};
+    ghost use Rattle.ufs_hand_laws.specs.Codes.{view_code};
+    ghost use Rattle.ufs_hand_laws.specs.Parts.{View};
 
     ghost Value = { View };
 

@@ -2,12 +2,12 @@
 ghost use base.Fml.{ftrue};
 ghost use Rattle.std.specs.Prelude.{◌≡◌};
 ghost use Rattle.ufs_hand.specs.Codes.{start_code};
-ghost use Rattle.ufs_sound.specs.Parts.{Start};
+ghost use Rattle.ufs_hand_laws.specs.Parts.{Start};
 
 use atomic_table::{Join, Play, Split, Table, TableRule};
 use std::alloc::Global;
 use std::marker::{Brand, Model, PhantomData};
-use ufs_sound::Knowledge;
+use ufs_hand_laws::Knowledge;
 
 /// What a session starts from, for contracts alone. It has no bytes.
 #[derive(Drop)]
@@ -22,7 +22,7 @@ impl Model for Parts {
 
 /// What is opened. Its caller picks it.
 pub trait Opening {
-    ghost use Rattle.ufs_sound.specs.Parts.{Start};
+    ghost use Rattle.ufs_hand_laws.specs.Parts.{Start};
 
     ghost opened: { Start };
 }
@@ -47,7 +47,7 @@ impl Parts {
 /// Which session it is.
 pub trait Naming {
     ghost use Rattle.atomic_table.specs.Seated.{TableId};
-    ghost use Rattle.ufs_sound.specs.Parts.{Start};
+    ghost use Rattle.ufs_hand_laws.specs.Parts.{Start};
 
     ghost table: { TableId };
 
@@ -64,7 +64,7 @@ impl Naming for Brand {
 
 /// What a draw leaves: the client's descriptors, and the files and names that the hand has then. Its caller picks it.
 pub trait Leaving {
-    ghost use Rattle.ufs_sound.specs.Draws.{Leaves};
+    ghost use Rattle.ufs_hand_laws.specs.Draws.{Leaves};
 
     ghost leaves: { Leaves };
 }
@@ -78,13 +78,13 @@ impl Leaving for Brand {
 /// What a mark leaves, by the tickets that it reads. Its caller picks it.
 pub trait Event {
     ghost use Rattle.std.specs.Prelude.{ℕ};
-    ghost use Rattle.ufs_sound.specs.Parts.{View};
+    ghost use Rattle.ufs_hand_laws.specs.Parts.{View};
 
     ghost leaves: { ℕ → View };
 }
 
 impl Event for Brand {
-    ghost use Rattle.ufs_sound.specs.Parts.{spent};
+    ghost use Rattle.ufs_hand_laws.specs.Parts.{spent};
 
     ghost leaves = { λ _. spent };
 }
@@ -104,7 +104,7 @@ impl Picked for Brand {
 
 /// The entry that is drawn. Its caller picks it.
 pub trait Drawing {
-    ghost use Rattle.ufs_sound.specs.declared.fresh.Fresh.{Fresh};
+    ghost use Rattle.ufs_hand_laws.specs.declared.fresh.Fresh.{Fresh};
 
     ghost fresh: { Fresh };
 }
@@ -118,8 +118,8 @@ impl Drawing for Brand {
 pub struct Law;
 
 impl TableRule<(), Knowledge, Parts> for Law {
-    ghost use Rattle.ufs_sound.specs.ByImages.{by_images};
-    ghost use Rattle.ufs_sound.specs.Rule.{IsRuled};
+    ghost use Rattle.ufs_hand_laws.specs.ByImages.{by_images};
+    ghost use Rattle.ufs_hand_laws.specs.Rule.{IsRuled};
     ghost use Rattle.ufs_hand.specs.Session.{first_view};
 
     ghost holds = { λ k. IsRuled by_images k.start };
@@ -132,7 +132,7 @@ pub(crate) struct Cut<P> {
 }
 
 impl<P: Picked> Split<Knowledge> for Cut<P> {
-    ghost use Rattle.ufs_sound.specs.Parts.{kept_of, given_of};
+    ghost use Rattle.ufs_hand_laws.specs.Parts.{kept_of, given_of};
 
     ghost left = { kept_of P.part };
 
@@ -142,7 +142,7 @@ impl<P: Picked> Split<Knowledge> for Cut<P> {
 pub(crate) struct Glue;
 
 impl Join<Knowledge> for Glue {
-    ghost use Rattle.ufs_sound.specs.Parts.{both_of, spent};
+    ghost use Rattle.ufs_hand_laws.specs.Parts.{both_of, spent};
 
     ghost both = { both_of };
 
@@ -156,7 +156,7 @@ pub(crate) struct Draws<N, F, L> {
 }
 
 impl<N: Naming, F: Drawing, L: Leaving> Play<(), Knowledge> for Draws<N, F, L> {
-    ghost use Rattle.ufs_sound.specs.Rule.{Drew};
+    ghost use Rattle.ufs_hand_laws.specs.Rule.{Drew};
 
     ghost then = { λ s v n w. Drew N.start F.fresh L.leaves v n w };
 }
@@ -168,7 +168,7 @@ pub(crate) struct DrawsAt<F, L> {
 }
 
 impl<F: Drawing, L: Leaving> Play<(), Knowledge> for DrawsAt<F, L> {
-    ghost use Rattle.ufs_sound.specs.Rule.{DrewAt};
+    ghost use Rattle.ufs_hand_laws.specs.Rule.{DrewAt};
 
     ghost then = { λ s v n w. DrewAt s.first F.fresh L.leaves v n w };
 }
@@ -179,7 +179,7 @@ pub(crate) struct Marks<N, E> {
 }
 
 impl<N: Naming, E: Event> Play<(), Knowledge> for Marks<N, E> {
-    ghost use Rattle.ufs_sound.specs.Rule.{Marked};
+    ghost use Rattle.ufs_hand_laws.specs.Rule.{Marked};
 
     ghost then = { λ s v n w. Marked N.start E.leaves v n w };
 }
@@ -187,7 +187,7 @@ impl<N: Naming, E: Event> Play<(), Knowledge> for Marks<N, E> {
 pub(crate) struct Looks;
 
 impl Play<(), Knowledge> for Looks {
-    ghost use Rattle.ufs_sound.specs.Rule.{Looked};
+    ghost use Rattle.ufs_hand_laws.specs.Rule.{Looked};
 
     ghost then = { λ s v n w. Looked v n w };
 }
@@ -197,7 +197,7 @@ pub(crate) struct Ticks;
 
 impl Play<(), Knowledge> for Ticks {
     ghost use Rattle.std.specs.Prelude.{◌/◌};
-    ghost use Rattle.ufs_sound.specs.Rule.{clock_step, Ticked};
+    ghost use Rattle.ufs_hand_laws.specs.Rule.{clock_step, Ticked};
 
     ghost then = { λ s v n w. Ticked (s.first / clock_step) v n w };
 }

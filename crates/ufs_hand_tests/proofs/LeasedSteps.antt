@@ -13,21 +13,21 @@ use Rattle.ufs_model.specs.declared.data.Lease.{Lease}
 use Rattle.ufs_model.specs.declared.data.PartName.{PartName}
 use Rattle.ufs_model.specs.declared.data.PartName.TheVariants as name
 use Rattle.ufs_model.proofs.Facts.Lookups.{inserted_here}
-use Rattle.ufs_sound.specs.Draws.{MayDraw, drawn}
-use Rattle.ufs_sound.specs.FileSession as session
-use Rattle.ufs_sound.specs.FileSession.{HasOneFile, small_disk}
-use Rattle.ufs_sound.specs.LeasesTrue.{IsListedIn}
-use Rattle.ufs_sound.specs.Marks.{IsSingle, asked_by}
-use Rattle.ufs_sound.specs.Opened.{opened_file, opened_names, opened_store, opened_view, opened_start}
-use Rattle.ufs_sound.specs.Owned.{one, Has, count}
-use Rattle.ufs_sound.specs.Parts.{ClientPart, FilePart, NamesPart, StorePart, View}
-use Rattle.ufs_sound.specs.Whole.{HoldsAll, idle_client, idle_asked}
-use Rattle.ufs_sound.proofs.LeasedReads.{leased_may_draw}
-use Rattle.ufs_sound.proofs.Opened.{opened_can}
-use Rattle.ufs_sound.proofs.Openable.{open_may_draw}
-use Rattle.ufs_sound.proofs.SmallDisk.{has_one_file, no_bytes}
-use Rattle.ufs_sound.specs.Clock.{looked}
-use Rattle.ufs_sound.specs.Rule.{word_at}
+use Rattle.ufs_hand_laws.specs.Draws.{MayDraw, drawn}
+use Rattle.ufs_hand_laws.specs.FileSession as session
+use Rattle.ufs_hand_laws.specs.FileSession.{HasOneFile, small_disk}
+use Rattle.ufs_hand_laws.specs.LeasesTrue.{IsListedIn}
+use Rattle.ufs_hand_laws.specs.Marks.{IsSingle, asked_by}
+use Rattle.ufs_hand_laws.specs.Opened.{opened_file, opened_names, opened_store, opened_view, opened_start}
+use Rattle.ufs_hand_laws.specs.Owned.{one, Has, count}
+use Rattle.ufs_hand_laws.specs.Parts.{ClientPart, FilePart, NamesPart, StorePart, View}
+use Rattle.ufs_hand_laws.specs.Whole.{HoldsAll, idle_client, idle_asked}
+use Rattle.ufs_hand_laws.proofs.LeasedReads.{leased_may_draw}
+use Rattle.ufs_hand_laws.proofs.Opened.{opened_can}
+use Rattle.ufs_hand_laws.proofs.Openable.{open_may_draw}
+use Rattle.ufs_hand_laws.proofs.SmallDisk.{has_one_file, no_bytes}
+use Rattle.ufs_hand_laws.specs.Clock.{looked}
+use Rattle.ufs_hand_laws.specs.Rule.{word_at}
 use Rattle.ufs_hand.specs.Session.{CanBegin, DrewLocal, IsEvent, first_view, word_of}
 use Rattle.ufs_hand.specs.declared.hand.Drawn.{Drawn}
 use Rattle.ufs_hand.specs.declared.hand.Drawn.TheVariants as drew

@@ -10,18 +10,18 @@ use Rattle.ufs_model.specs.declared.data.Op.TheVariants.{Sync}
 use Rattle.ufs_model.specs.declared.data.PartName.TheVariants.{Client, File}
 use Rattle.ufs_model.specs.declared.data.Reply.TheVariants.{Excused}
 use Rattle.ufs_model.specs.declared.data.Excuse.TheVariants.{Memory}
-use Rattle.ufs_sound.specs.declared.fresh.Fresh.{Fresh}
+use Rattle.ufs_hand_laws.specs.declared.fresh.Fresh.{Fresh}
 use Rattle.ufs_model.proofs.Facts.Held.{open_by}
-use Rattle.ufs_sound.specs.ByImages.{by_images}
-use Rattle.ufs_sound.specs.Parts.{ClientPart, NamesPart, View, Word, kept_of, given_of, both_of}
-use Rattle.ufs_sound.specs.Draws.{Leaves, IsIn, MayDraw, drawn}
-use Rattle.ufs_sound.specs.Clock.{looked, at_clock, ticked}
-use Rattle.ufs_sound.specs.Marks.{IsSingle}
-use Rattle.ufs_sound.specs.Rule.{MayTick}
-use Rattle.ufs_sound.specs.Whole.{CanOpen, HoldsAll, idle_client, idle_asked}
-use Rattle.ufs_sound.specs.First.{new_names, new_store, primary_pool}
-use Rattle.ufs_sound.proofs.First.{blind_opens}
-use Rattle.ufs_sound.proofs.Drawable.{memory_may_draw}
+use Rattle.ufs_hand_laws.specs.ByImages.{by_images}
+use Rattle.ufs_hand_laws.specs.Parts.{ClientPart, NamesPart, View, Word, kept_of, given_of, both_of}
+use Rattle.ufs_hand_laws.specs.Draws.{Leaves, IsIn, MayDraw, drawn}
+use Rattle.ufs_hand_laws.specs.Clock.{looked, at_clock, ticked}
+use Rattle.ufs_hand_laws.specs.Marks.{IsSingle}
+use Rattle.ufs_hand_laws.specs.Rule.{MayTick}
+use Rattle.ufs_hand_laws.specs.Whole.{CanOpen, HoldsAll, idle_client, idle_asked}
+use Rattle.ufs_hand_laws.specs.First.{new_names, new_store, primary_pool}
+use Rattle.ufs_hand_laws.proofs.First.{blind_opens}
+use Rattle.ufs_hand_laws.proofs.Drawable.{memory_may_draw}
 use Rattle.ufs_hand.specs.Session.{first_view, CanBegin, HoldsPool, IsEvent}
 use Rattle.ufs_hand_tests.specs.Small.{least, small, asked}
 

@@ -9,15 +9,15 @@ use Rattle.ufs_model.specs.declared.data.Op.{Op}
 use Rattle.ufs_model.specs.declared.data.Op.TheVariants as op
 use Rattle.ufs_model.specs.declared.data.PartName.TheVariants as part
 use Rattle.ufs_model.specs.declared.data.Reply.TheVariants as reply
-use Rattle.ufs_sound.specs.declared.fresh.Fresh.{Fresh}
-use Rattle.ufs_sound.specs.Draws.{Leaves, drawn, entry_of}
-use Rattle.ufs_sound.specs.FileSession as session
-use Rattle.ufs_sound.specs.FileSession.{small_disk}
-use Rattle.ufs_sound.specs.Leasing.{granting}
-use Rattle.ufs_sound.specs.Marks.{asking}
-use Rattle.ufs_sound.specs.Opened.{opened_tree}
-use Rattle.ufs_sound.specs.Parts.{ClientPart, Start, View}
-use Rattle.ufs_sound.specs.Whole.{idle_client}
+use Rattle.ufs_hand_laws.specs.declared.fresh.Fresh.{Fresh}
+use Rattle.ufs_hand_laws.specs.Draws.{Leaves, drawn, entry_of}
+use Rattle.ufs_hand_laws.specs.FileSession as session
+use Rattle.ufs_hand_laws.specs.FileSession.{small_disk}
+use Rattle.ufs_hand_laws.specs.Leasing.{granting}
+use Rattle.ufs_hand_laws.specs.Marks.{asking}
+use Rattle.ufs_hand_laws.specs.Opened.{opened_tree}
+use Rattle.ufs_hand_laws.specs.Parts.{ClientPart, Start, View}
+use Rattle.ufs_hand_laws.specs.Whole.{idle_client}
 
 abbrev pub one_file : Start
 one_file = record { tree = opened_tree (session.disk small_disk); view = session.opened small_disk; is_visible = false }

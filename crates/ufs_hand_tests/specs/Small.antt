@@ -2,10 +2,10 @@
 use Rattle.std.specs.Prelude.{ℕ, []}
 use Rattle.ufs_layout.specs.declared.geometry.Geometry.{Geometry}
 use Rattle.ufs_model.specs.declared.data.Op.TheVariants.{Sync}
-use Rattle.ufs_sound.specs.Parts.{Start, View}
-use Rattle.ufs_sound.specs.Marks.{asking}
-use Rattle.ufs_sound.specs.Whole.{idle_client}
-use Rattle.ufs_sound.specs.First.{new_view, blind_start}
+use Rattle.ufs_hand_laws.specs.Parts.{Start, View}
+use Rattle.ufs_hand_laws.specs.Marks.{asking}
+use Rattle.ufs_hand_laws.specs.Whole.{idle_client}
+use Rattle.ufs_hand_laws.specs.First.{new_view, blind_start}
 
 abbrev pub least : Geometry
 least = record { blocks = 64; inodes = 16; journal = 64 }

@@ -1,15 +1,15 @@
 // One client opens a file, gets a lease on it, and reads under the lease. The disk isn't visible.
 ghost use Rattle.std.specs.Prelude.{ℕ, ◌≡◌, []};
-ghost use Rattle.ufs_sound.specs.FileSession.{small_path};
+ghost use Rattle.ufs_hand_laws.specs.FileSession.{small_path};
 ghost use Rattle.ufs_hand_tests.specs.Leased.{one_file, opens, reads, lease, opened_by, granted, read_asked};
 
 use std::alloc::{AllocError, Global};
 use std::marker::Brand;
 use ufs_hand::{Begun, Drawn, Event, Hand, HandTable, Naming, Opened, Parts};
+use ufs_hand_laws::Fresh;
 use ufs_model::{
     Actor, Bytes, Fact, Lease, Op, PartName, Reply, a_request_keeps_the_tree, a_start_is_a_tree,
 };
-use ufs_sound::Fresh;
 
 const STEP: u64 = 1 << 40;
 

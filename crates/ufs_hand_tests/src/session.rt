@@ -5,8 +5,8 @@ ghost use Rattle.ufs_hand_tests.specs.Small.{small};
 use std::alloc::{AllocError, Global};
 use std::marker::Brand;
 use ufs_hand::{Begun, Naming, Opened, Parts, Whole};
+use ufs_hand_laws::Fresh;
 use ufs_model::{Actor, Excuse, Op, PartName, Reply};
-use ufs_sound::Fresh;
 
 /// How the session ended.
 pub fn served(alloc: Global) -> Result<Whole, AllocError> {

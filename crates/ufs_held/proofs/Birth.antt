@@ -4,11 +4,11 @@ use Rattle.std.specs.Prelude.{IsSome}
 use Rattle.std.specs.FinMap as fin
 use Rattle.std.proofs.lemmas.List.{append-nil}
 use Rattle.std.specs.FinSet as set
-use Rattle.ufs_durable.specs.State.{DurableState}
+use Rattle.ufs_file_commits.specs.State.{DurableState}
 use Rattle.ufs_model.specs.History.{tree_after}
 use Rattle.ufs_model.specs.declared.data.PartName.TheVariants.{Names}
-use Rattle.ufs_sound.specs.Owned.{Has, each, only, without}
-use Rattle.ufs_sound.specs.Parts.{is_names}
+use Rattle.ufs_hand_laws.specs.Owned.{Has, each, only, without}
+use Rattle.ufs_hand_laws.specs.Parts.{is_names}
 use Rattle.ufs_joint.specs.Cells.{FileCell, NamesCell, Start, View, both_of, given_of, kept_of}
 use Rattle.ufs_joint.specs.Known.{Knows}
 use Rattle.ufs_joint.specs.Marks.{births_told, with_birth}

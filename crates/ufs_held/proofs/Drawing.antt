@@ -6,8 +6,8 @@ use Rattle.std.specs.FinSet as set
 use Rattle.std.specs.Cmp.{nat_cmp_total}
 use Rattle.ufs_bitmap.specs.Blocks.{BlockSet}
 use Rattle.ufs_bitmap.specs.Taking.{IsApart}
-use Rattle.ufs_durable.specs.Serving.{IsApplied}
-use Rattle.ufs_durable.specs.State.{DurableState, IsNoted, blocks_held}
+use Rattle.ufs_file_commits.specs.Serving.{IsApplied}
+use Rattle.ufs_file_commits.specs.State.{DurableState, IsNoted, blocks_held}
 use Rattle.ufs_file.specs.Hand.{IsCause, IsEntryOf, IsExcusedFor, IsFileOf, IsOf, missing, whole_as}
 use Rattle.ufs_model.specs.Asks.{fd_named}
 use Rattle.ufs_model.specs.History.{is_excused, tree_after}
@@ -20,13 +20,13 @@ use Rattle.ufs_model.specs.declared.data.Reply.{Reply}
 use Rattle.ufs_model.specs.declared.data.Excuse.TheVariants as excuse
 use Rattle.ufs_model.specs.declared.data.Reply.TheVariants as reply
 use Rattle.ufs_model.proofs.Facts.Lookups as lookups
-use Rattle.ufs_prefix.specs.Changes.{asks_commit}
-use Rattle.ufs_sound.specs.Draws.{entry_of, left_faults}
-use Rattle.ufs_sound.specs.Owned.{Has, each}
-use Rattle.ufs_sound.specs.Parts.{ClientPart, OwnFds}
-use Rattle.ufs_sound.specs.declared.fresh.Fresh.{Fresh}
-use Rattle.ufs_stored.specs.Parts.{durable_in}
-use Rattle.ufs_stored.proofs.Spaced.{pool_apart}
+use Rattle.ufs_crash_laws.specs.Changes.{asks_commit}
+use Rattle.ufs_hand_laws.specs.Draws.{entry_of, left_faults}
+use Rattle.ufs_hand_laws.specs.Owned.{Has, each}
+use Rattle.ufs_hand_laws.specs.Parts.{ClientPart, OwnFds}
+use Rattle.ufs_hand_laws.specs.declared.fresh.Fresh.{Fresh}
+use Rattle.ufs_promise_laws.specs.Parts.{durable_in}
+use Rattle.ufs_promise_laws.proofs.Spaced.{pool_apart}
 use Rattle.ufs_joint.specs.Cells.{FileCell, Start, View}
 use Rattle.ufs_joint.specs.Draws.{Leaves, MayDraw}
 use Rattle.ufs_joint.specs.FileHands.{ExcusesMayDraw, FileRequestsMayDraw, IsFileHand, MayExcuse, ServesFile, same_leaves, served_leaves}

@@ -15,10 +15,10 @@ use Rattle.ufs_model.specs.declared.data.Excuse.TheVariants as excuse
 use Rattle.ufs_model.specs.declared.data.Op.{Op}
 use Rattle.ufs_model.specs.declared.data.Reply.{Reply}
 use Rattle.ufs_model.specs.declared.data.Reply.TheVariants as reply
-use Rattle.ufs_sound.specs.Draws.{left_faults}
-use Rattle.ufs_sound.specs.Owned.{less, one, times}
-use Rattle.ufs_sound.specs.Parts.{either}
-use Rattle.ufs_sound.proofs.Keys.{itself}
+use Rattle.ufs_hand_laws.specs.Draws.{left_faults}
+use Rattle.ufs_hand_laws.specs.Owned.{less, one, times}
+use Rattle.ufs_hand_laws.specs.Parts.{either}
+use Rattle.ufs_hand_laws.proofs.Keys.{itself}
 use Rattle.ufs_joint.specs.Cells.{View}
 use Rattle.ufs_joint.proofs.FaultsTold.{times_both}
 use Rattle.ufs_turns.specs.Lent.{AreTold}

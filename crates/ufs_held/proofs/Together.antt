@@ -1,14 +1,14 @@
 -- Files lend their rights to one hand, one after another, and get them back.
 use Rattle.std.proofs.Common.{◌≡◌, ℕ, ◌+◌, ◌≤◌, eqb, Bool, true, false, cond, List, [], ◌∷◌, ◌++◌, append_assoc, sym, refl, ap, ◌∙◌, arith}
 use Rattle.std.proofs.lemmas.List.{append-nil}
-use Rattle.ufs_durable.specs.State.{DurableState}
+use Rattle.ufs_file_commits.specs.State.{DurableState}
 use Rattle.ufs_model.specs.declared.data.PartName.TheVariants.{File}
-use Rattle.ufs_sound.specs.Draws.{client_after, entry_of, left_faults}
-use Rattle.ufs_sound.specs.Owned.{count, each, named, one, only, without}
-use Rattle.ufs_sound.specs.Parts.{ClientPart, is_file}
-use Rattle.ufs_sound.specs.declared.fresh.Fresh.{Fresh}
-use Rattle.ufs_sound.proofs.Keys.{itself}
-use Rattle.ufs_sound.proofs.Owning.{weigh_append}
+use Rattle.ufs_hand_laws.specs.Draws.{client_after, entry_of, left_faults}
+use Rattle.ufs_hand_laws.specs.Owned.{count, each, named, one, only, without}
+use Rattle.ufs_hand_laws.specs.Parts.{ClientPart, is_file}
+use Rattle.ufs_hand_laws.specs.declared.fresh.Fresh.{Fresh}
+use Rattle.ufs_hand_laws.proofs.Keys.{itself}
+use Rattle.ufs_hand_laws.proofs.Owning.{weigh_append}
 use Rattle.ufs_joint.specs.Cells.{FileCell, View, both_of, given_of, kept_of}
 use Rattle.ufs_joint.specs.Draws.{drawn}
 use Rattle.ufs_turns.proofs.Hands.{later_left}

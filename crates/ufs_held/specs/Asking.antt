@@ -11,7 +11,7 @@ use Rattle.ufs_model.specs.declared.data.Excuse.{Excuse}
 use Rattle.ufs_model.specs.declared.data.Excuse.TheVariants as excuse
 use Rattle.ufs_model.specs.declared.data.Reply.{Reply}
 use Rattle.ufs_model.specs.declared.data.Reply.TheVariants as reply
-use Rattle.ufs_sound.specs.Parts.{ClientPart, OwnFds}
+use Rattle.ufs_hand_laws.specs.Parts.{ClientPart, OwnFds}
 use Rattle.ufs_joint.specs.Cells.{View}
 use Rattle.ufs_joint.specs.FileHands.{own_desc}
 

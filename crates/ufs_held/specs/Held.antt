@@ -1,6 +1,6 @@
 -- A file at a server: the hand has just its cell, and the cell's value is what the server has.
 use Rattle.std.specs.Prelude.{ℕ, ◌≡◌, false, List, [], ◌∷◌}
-use Rattle.ufs_durable.specs.State.{DurableState}
+use Rattle.ufs_file_commits.specs.State.{DurableState}
 use Rattle.ufs_joint.specs.Cells.{FileCell, View}
 
 abbrev pub first_cell : DurableState → List (ℕ × FileCell) → FileCell

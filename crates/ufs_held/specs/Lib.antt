@@ -6,3 +6,4 @@ pub mod Births
 pub mod Committed
 pub mod Together
 pub mod Stopping
+pub mod Parcel

@@ -1,8 +1,8 @@
 -- What a server does with a request on a file that commits nothing: blocks that it needs are read, and it is applied or excused.
 use Rattle.std.specs.Prelude.{ℕ, ◌≡◌, Bool, true, false, List, length, None, Some}
 use Rattle.ufs_bitmap.specs.Blocks.{BlockSet}
-use Rattle.ufs_durable.specs.Fetching.{IsReadOn}
-use Rattle.ufs_durable.specs.State.{DurableState}
+use Rattle.ufs_file_commits.specs.Fetching.{IsReadOn}
+use Rattle.ufs_file_commits.specs.State.{DurableState}
 use Rattle.ufs_file.specs.Content.{IsContentOf}
 use Rattle.ufs_file.specs.Hand.{FileState, HasNeeded, IsExcusedFor, whole_as}
 use Rattle.ufs_model.specs.FileCalls.{file_refusal}

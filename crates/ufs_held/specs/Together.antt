@@ -1,8 +1,8 @@
 -- Files lend their rights to one hand, and it draws an entry that leaves all as it is.
 use Rattle.std.specs.Prelude.{ℕ, suc, ◌≡◌, ◌+◌, ◌≤◌, ◌++◌, eqb, List, [], ◌∷◌, Some}
-use Rattle.ufs_sound.specs.Draws.{client_after, entry_of, left_faults}
-use Rattle.ufs_sound.specs.Owned.{count, each}
-use Rattle.ufs_sound.specs.declared.fresh.Fresh.{Fresh}
+use Rattle.ufs_hand_laws.specs.Draws.{client_after, entry_of, left_faults}
+use Rattle.ufs_hand_laws.specs.Owned.{count, each}
+use Rattle.ufs_hand_laws.specs.declared.fresh.Fresh.{Fresh}
 use Rattle.ufs_joint.specs.Cells.{FileCell, View}
 use Rattle.ufs_joint.specs.Draws.{Leaves}
 use Rattle.ufs_held.specs.Drawn.{first_fds}

@@ -2,7 +2,7 @@
 ghost use Rattle.std.specs.Prelude.{ℕ, ◌≡◌, ◌≤◌, ◌∷◌, ◌||◌, [], true, IsSome};
 ghost use Rattle.std.specs.FinMap as fin;
 ghost use Rattle.std.specs.FinSet as set;
-ghost use Rattle.ufs_durable.specs.State.{state_of};
+ghost use Rattle.ufs_file_commits.specs.State.{state_of};
 ghost use Rattle.ufs_layout.specs.Areas.{IsGeometry};
 ghost use Rattle.ufs_joint.specs.Cells.{NamesCell};
 ghost use Rattle.ufs_joint.specs.Known.{Knows};
@@ -10,8 +10,8 @@ ghost use Rattle.ufs_held.specs.Births.{HasStill, told_view};
 ghost use Rattle.ufs_held.specs.Held.{IsHeld, first_cell};
 
 use std::marker::Brand;
-use ufs_durable::FileCommits;
 use ufs_file::FileHand;
+use ufs_file_commits::FileCommits;
 use ufs_joint::{Event, Hand, HandTable, Naming};
 use ufs_layout::Geometry;
 use ufs_model::PartName;

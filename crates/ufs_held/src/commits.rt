@@ -2,7 +2,7 @@
 ghost use Rattle.std.specs.Prelude.{ℕ, ◌≡◌, ◌≤◌, ◌++◌, [], true, false, Err, Some, IfErr, OnErr, OnOk, is_some};
 ghost use Rattle.std.specs.FinSet as set;
 ghost use Rattle.ufs_bitmap.specs.Taking.{set_of};
-ghost use Rattle.ufs_durable.specs.State.{file_committed, state_of};
+ghost use Rattle.ufs_file_commits.specs.State.{file_committed, state_of};
 ghost use Rattle.ufs_store.specs.Refusals.{fault_in, is_no_space};
 ghost use Rattle.ufs_store.specs.declared.fault.StoreFault.TheVariants as refusal;
 ghost use Rattle.ufs_turns.specs.Lent.{AreTold, StopsByFault, TellsStop};
@@ -11,8 +11,8 @@ ghost use Rattle.ufs_held.specs.Committed.{HasSameCells};
 ghost use Rattle.ufs_held.specs.Held.{IsHeld, first_cell};
 
 use std::mem;
-use ufs_durable::FileCommits;
 use ufs_file::FileHand;
+use ufs_file_commits::FileCommits;
 use ufs_joint::{Hand, HandTable, Naming};
 use ufs_model::PartName;
 use ufs_store::StoreFault;

@@ -8,10 +8,10 @@ ghost use Rattle.ufs_model.specs.History.{is_excused};
 ghost use Rattle.ufs_model.specs.declared.data.Desc.{Desc};
 ghost use Rattle.ufs_model.specs.declared.data.Excuse.{Excuse};
 ghost use Rattle.ufs_model.specs.declared.data.Reply.TheVariants as reply;
-ghost use Rattle.ufs_durable.specs.Serving.{IsServedKept};
-ghost use Rattle.ufs_durable.specs.State.{state_of, whole_of};
-ghost use Rattle.ufs_prefix.specs.Changes.{asks_commit};
-ghost use Rattle.ufs_sound.specs.Parts.{ClientPart};
+ghost use Rattle.ufs_file_commits.specs.Serving.{IsServedKept};
+ghost use Rattle.ufs_file_commits.specs.State.{state_of, whole_of};
+ghost use Rattle.ufs_crash_laws.specs.Changes.{asks_commit};
+ghost use Rattle.ufs_hand_laws.specs.Parts.{ClientPart};
 ghost use Rattle.ufs_joint.specs.Cells.{FileCell};
 ghost use Rattle.ufs_joint.specs.Draws.{drawn};
 ghost use Rattle.ufs_joint.specs.FileHands.{IsFileHand};
@@ -21,11 +21,11 @@ ghost use Rattle.ufs_held.specs.Drawn.{fresh_of, held_leaves};
 
 use std::marker::Brand;
 use ufs_bitmap::Pool;
-use ufs_durable::{FileCommits, apply};
 use ufs_file::{Applied, FileHand};
+use ufs_file_commits::{FileCommits, apply};
+use ufs_hand_laws::Fresh;
 use ufs_joint::{Hand, HandTable, Leaving, Naming, a_file_request_is_drawn, an_excuse_is_drawn};
 use ufs_model::{Actor, Ask, Desc, Entry};
-use ufs_sound::Fresh;
 
 // Applies the request and draws its entry.
 pub(crate) fn draw_served<N: Naming>(

@@ -1,13 +1,13 @@
 // A request that couldn't be done is excused, by a hand that has its client and the file.
 ghost use Rattle.std.specs.Prelude.{ℕ, ◌≡◌, ◌≢◌, ◌≤◌, suc, [], IsTrue, true, false, None, Some};
 ghost use Rattle.ufs_bitmap.specs.Blocks.{BlockSet};
-ghost use Rattle.ufs_durable.specs.State.{state_of};
+ghost use Rattle.ufs_file_commits.specs.State.{state_of};
 ghost use Rattle.ufs_file.specs.Hand.{IsEntryOf, IsOf};
 ghost use Rattle.ufs_model.specs.FileCalls.{file_refusal};
 ghost use Rattle.ufs_model.specs.declared.data.Desc.{Desc};
 ghost use Rattle.ufs_model.specs.declared.data.Excuse.TheVariants as excuse;
 ghost use Rattle.ufs_model.specs.declared.data.Reply.TheVariants as reply;
-ghost use Rattle.ufs_sound.specs.Parts.{ClientPart};
+ghost use Rattle.ufs_hand_laws.specs.Parts.{ClientPart};
 ghost use Rattle.ufs_store.specs.Refusals.{fault_of, is_no_space, is_own};
 ghost use Rattle.ufs_store.specs.declared.fault.StoreFault.TheVariants as refusal;
 ghost use Rattle.ufs_turns.specs.Told.{fault_told, told_list};
@@ -19,8 +19,8 @@ use crate::held::Served;
 use crate::replies::draw_reply;
 use std::mem;
 use ufs_base::Lack;
-use ufs_durable::FileCommits;
 use ufs_file::FileHand;
+use ufs_file_commits::FileCommits;
 use ufs_joint::{Hand, HandTable, Naming, an_excuse_is_drawn};
 use ufs_model::{Actor, Ask, Excuse, PartName, Reply, a_file_goes_on_by_itself};
 use ufs_store::StoreFault;

@@ -15,10 +15,10 @@ ghost use Rattle.ufs_model.specs.History.{is_excused};
 ghost use Rattle.ufs_model.specs.declared.data.Desc.{Desc};
 ghost use Rattle.ufs_model.specs.declared.data.Excuse.{Excuse};
 ghost use Rattle.ufs_model.specs.declared.data.Excuse.TheVariants as excuse;
-ghost use Rattle.ufs_durable.specs.Serving.{IsServedKept};
-ghost use Rattle.ufs_durable.specs.State.{file_committed, state_of, whole_of};
-ghost use Rattle.ufs_prefix.specs.Changes.{asks_commit};
-ghost use Rattle.ufs_sound.specs.Parts.{ClientPart};
+ghost use Rattle.ufs_file_commits.specs.Serving.{IsServedKept};
+ghost use Rattle.ufs_file_commits.specs.State.{file_committed, state_of, whole_of};
+ghost use Rattle.ufs_crash_laws.specs.Changes.{asks_commit};
+ghost use Rattle.ufs_hand_laws.specs.Parts.{ClientPart};
 ghost use Rattle.ufs_joint.specs.Cells.{NamesCell, View};
 ghost use Rattle.ufs_joint.specs.Rule.{MayDrawAny};
 ghost use Rattle.ufs_store.specs.Refusals.{fault_in, is_no_space};
@@ -40,13 +40,13 @@ use crate::still::draw_still;
 use crate::syncs::sync_lent;
 use std::marker::Model;
 use ufs_bitmap::Pool;
-use ufs_durable::FileCommits;
 use ufs_extent::Extents;
 use ufs_file::FileHand;
+use ufs_file_commits::FileCommits;
+use ufs_hand_laws::Fresh;
 use ufs_joint::{Hand, HandTable, Naming};
 use ufs_layout::Geometry;
 use ufs_model::{Actor, Ask, Desc, Entry, PartName};
-use ufs_sound::Fresh;
 use ufs_store::StoreFault;
 use ufs_turns::Turns;
 
@@ -60,7 +60,7 @@ pub struct HeldFile<N: Naming> {
 
 impl<N: Naming> Model for HeldFile<N> {
     ghost use Rattle.std.specs.Prelude.{◌≡◌, []};
-    ghost use Rattle.ufs_durable.specs.State.{state_of};
+    ghost use Rattle.ufs_file_commits.specs.State.{state_of};
     ghost use Rattle.ufs_joint.specs.Cells.{FileCell};
     ghost use Rattle.ufs_joint.specs.Codes.{file_code};
     ghost use Rattle.ufs_held.specs.Held.{IsHeld, first_cell};

@@ -6,6 +6,7 @@ mod commits;
 mod draws;
 mod excuses;
 mod held;
+mod parcel;
 mod replies;
 mod serving;
 mod still;
@@ -13,4 +14,5 @@ mod syncs;
 
 pub use excuses::excuse_of;
 pub use held::{Dropped, HeldFile, Served, draw_with_files};
+pub use parcel::Parcel;
 pub use replies::{draw_reply, entry_at, reply_to};

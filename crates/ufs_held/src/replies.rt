@@ -1,16 +1,16 @@
 // The entry of a request is drawn with a reply that leaves all as it is.
 ghost use Rattle.std.specs.Prelude.{ℕ, ◌≡◌, ◌≤◌};
 ghost use Rattle.ufs_file.specs.Hand.{IsEntryOf};
-ghost use Rattle.ufs_sound.specs.Draws.{entry_of};
+ghost use Rattle.ufs_hand_laws.specs.Draws.{entry_of};
 ghost use Rattle.ufs_joint.specs.Draws.{drawn};
 ghost use Rattle.ufs_joint.specs.Rule.{MayDrawAny};
 ghost use Rattle.ufs_held.specs.Drawn.{fresh_of, replied_to};
 ghost use Rattle.ufs_held.specs.Together.{still_of};
 
 use crate::still::draw_still;
+use ufs_hand_laws::Fresh;
 use ufs_joint::{Hand, HandTable, Naming};
 use ufs_model::{Actor, Ask, Entry, Reply};
-use ufs_sound::Fresh;
 
 /// Draws the entry of a request with this reply, which its hand may draw. All cells stay, but that the client has its answer.
 pub fn draw_reply<N: Naming>(

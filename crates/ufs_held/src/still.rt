@@ -5,8 +5,8 @@ ghost use Rattle.ufs_joint.specs.Rule.{MayDrawAny};
 ghost use Rattle.ufs_held.specs.Together.{still_of};
 
 use std::marker::Brand;
+use ufs_hand_laws::Fresh;
 use ufs_joint::{Hand, HandTable, Leaving, Naming};
-use ufs_sound::Fresh;
 
 // Draws an entry. All cells of the hand stay, the names' too.
 pub(crate) fn draw_still<N: Naming>(table: &HandTable<N>, hand: &mut Hand<N>, fresh: &Fresh) -> u64

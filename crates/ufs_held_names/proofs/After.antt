@@ -2,16 +2,16 @@
 use Rattle.std.proofs.Common.{◌≡◌, ◌≢◌, ℕ, suc, Bool, true, false, cond, eqb, ne_eqb, List, [], ◌∷◌, ◌++◌, Option, Some, None, sym, refl, ap, ◌∙◌, subst}
 use Rattle.std.specs.FinMap as fin
 use Rattle.ufs_bitmap.specs.Blocks.{BlockSet}
-use Rattle.ufs_durable.specs.State.{DurableState}
+use Rattle.ufs_file_commits.specs.State.{DurableState}
 use Rattle.ufs_model.specs.Asks.{fd_told}
 use Rattle.ufs_model.specs.History.{is_excused}
 use Rattle.ufs_model.specs.declared.data.Desc.{Desc}
 use Rattle.ufs_model.specs.declared.data.Entry.{Entry}
 use Rattle.ufs_model.specs.declared.data.PartName.TheVariants.{File, Names}
-use Rattle.ufs_sound.specs.Draws.{client_after}
-use Rattle.ufs_sound.specs.Owned.{each, only, without}
-use Rattle.ufs_sound.specs.Parts.{ClientPart, OwnFds, is_file, is_names}
-use Rattle.ufs_sound.proofs.Keys.{itself}
+use Rattle.ufs_hand_laws.specs.Draws.{client_after}
+use Rattle.ufs_hand_laws.specs.Owned.{each, only, without}
+use Rattle.ufs_hand_laws.specs.Parts.{ClientPart, OwnFds, is_file, is_names}
+use Rattle.ufs_hand_laws.proofs.Keys.{itself}
 use Rattle.ufs_joint.specs.Cells.{FileCell, NamesCell, View, both_of, given_of, kept_of}
 use Rattle.ufs_joint.specs.Draws.{drawn}
 use Rattle.ufs_joint.specs.NamesHands.{AreNumberedOnce, IsNamesHand}

@@ -3,7 +3,7 @@ use Rattle.std.proofs.Common.{◌≡◌, ◌≢◌, ◌≤◌, ◌+◌, ◌++◌
 use Rattle.std.specs.Prelude.{IfSome, IsSome}
 use Rattle.std.specs.FinMap as map
 use Rattle.ufs_bitmap.specs.Blocks.{BlockSet}
-use Rattle.ufs_durable.specs.State.{state_of}
+use Rattle.ufs_file_commits.specs.State.{state_of}
 use Rattle.ufs_file.specs.Hand.{FileState, IsEntryOf}
 use Rattle.ufs_files.specs.Files.{Files}
 use Rattle.ufs_model.specs.Asks.{fd_told}
@@ -17,8 +17,8 @@ use Rattle.ufs_model.specs.declared.data.PartName.TheVariants.{File, Names}
 use Rattle.ufs_model.specs.declared.data.Reply.TheVariants as reply
 use Rattle.ufs_names.specs.Calls.{no_bytes}
 use Rattle.ufs_names.specs.Space.{IsCause}
-use Rattle.ufs_sound.specs.Parts.{ClientPart}
-use Rattle.ufs_stored.specs.Parts.{committed_as}
+use Rattle.ufs_hand_laws.specs.Parts.{ClientPart}
+use Rattle.ufs_promise_laws.specs.Parts.{committed_as}
 use Rattle.ufs_joint.specs.Cells.{FileCell, NamesCell, View, both_of, given_of, kept_of}
 use Rattle.ufs_joint.specs.Draws.{drawn}
 use Rattle.ufs_noted.specs.Noted.{HasServedWith, MayLack, Noted, one_file}

@@ -8,10 +8,10 @@ use Rattle.ufs_model.specs.declared.data.Ask.{Ask}
 use Rattle.ufs_model.specs.declared.data.Entry.{Entry}
 use Rattle.ufs_model.specs.declared.data.PartName.TheVariants.{Names}
 use Rattle.ufs_model.specs.declared.data.Reply.{Reply}
-use Rattle.ufs_sound.specs.Draws.{client_after, left_faults}
-use Rattle.ufs_sound.specs.Owned.{each}
-use Rattle.ufs_sound.specs.Parts.{ClientPart}
-use Rattle.ufs_sound.proofs.Keys.{itself}
+use Rattle.ufs_hand_laws.specs.Draws.{client_after, left_faults}
+use Rattle.ufs_hand_laws.specs.Owned.{each}
+use Rattle.ufs_hand_laws.specs.Parts.{ClientPart}
+use Rattle.ufs_hand_laws.proofs.Keys.{itself}
 use Rattle.ufs_joint.specs.Cells.{NamesCell, View, both_of, given_of, kept_of}
 use Rattle.ufs_turns.proofs.Hands.{later_left}
 use Rattle.ufs_held.specs.Asking.{IsGuest}

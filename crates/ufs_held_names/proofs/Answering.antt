@@ -22,11 +22,11 @@ use Rattle.ufs_model.specs.declared.data.Op.{Op}
 use Rattle.ufs_model.specs.declared.data.PartName.TheVariants as name
 use Rattle.ufs_model.specs.declared.data.Reply.{Reply}
 use Rattle.ufs_names.specs.Calls.{AreGathered}
-use Rattle.ufs_sound.specs.Draws.{client_after}
-use Rattle.ufs_sound.specs.Owned.{each, only, times, without}
-use Rattle.ufs_sound.specs.Parts.{ClientPart, is_names}
-use Rattle.ufs_sound.specs.declared.fresh.Fresh.{Fresh}
-use Rattle.ufs_sound.proofs.Keys.{itself}
+use Rattle.ufs_hand_laws.specs.Draws.{client_after}
+use Rattle.ufs_hand_laws.specs.Owned.{each, only, times, without}
+use Rattle.ufs_hand_laws.specs.Parts.{ClientPart, is_names}
+use Rattle.ufs_hand_laws.specs.declared.fresh.Fresh.{Fresh}
+use Rattle.ufs_hand_laws.proofs.Keys.{itself}
 use Rattle.ufs_joint.specs.Cells.{NamesCell, Start, View, both_of, given_of, kept_of}
 use Rattle.ufs_joint.specs.Draws.{Leaves, MayDraw, drawn}
 use Rattle.ufs_joint.specs.NamesHands.{AreNumberedOnce, DirAcknowledgementsMayDraw, IsNamesHand, IsNextOf, MayAcknowledgeDir, MayExcuseNames, NamesExcusesMayDraw, still_leaves}

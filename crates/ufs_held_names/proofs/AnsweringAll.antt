@@ -2,7 +2,7 @@
 use Rattle.std.proofs.Common.{◌≡◌, ℕ, ◌+◌, ◌≤◌, ◌++◌, inl, inr, eqb, eqb-true, cond, Bool, true, false, List, [], ◌∷◌, sym, refl, ap, ◌∙◌, subst, arith}
 use Rattle.std.proofs.lemmas.List.{append-nil}
 use Rattle.ufs_bitmap.specs.Blocks.{BlockSet}
-use Rattle.ufs_kept.specs.Draws.{ExcusesStayKept}
+use Rattle.ufs_joint.specs.KnownDraws.{ExcusesStayKept}
 use Rattle.ufs_model.specs.Excuses.{ExcuseFits}
 use Rattle.ufs_model.specs.History.{IsExcused, IsReplyTo, is_excused, tree_after}
 use Rattle.ufs_model.specs.PosixTree.{PosixTree}
@@ -15,12 +15,12 @@ use Rattle.ufs_model.specs.declared.data.Op.{Op}
 use Rattle.ufs_model.specs.declared.data.Op.TheVariants as op
 use Rattle.ufs_model.specs.declared.data.PartName.TheVariants as name
 use Rattle.ufs_model.specs.declared.data.Reply.{Reply}
-use Rattle.ufs_sound.specs.Draws.{client_after, entry_of}
-use Rattle.ufs_sound.specs.Owned.{Has, count, each, one, times}
-use Rattle.ufs_sound.specs.Parts.{ClientPart}
-use Rattle.ufs_sound.specs.declared.fresh.Fresh.{Fresh}
-use Rattle.ufs_sound.proofs.Keys.{itself}
-use Rattle.ufs_stored.specs.Parts.{Parts}
+use Rattle.ufs_hand_laws.specs.Draws.{client_after, entry_of}
+use Rattle.ufs_hand_laws.specs.Owned.{Has, count, each, one, times}
+use Rattle.ufs_hand_laws.specs.Parts.{ClientPart}
+use Rattle.ufs_hand_laws.specs.declared.fresh.Fresh.{Fresh}
+use Rattle.ufs_hand_laws.proofs.Keys.{itself}
+use Rattle.ufs_promise_laws.specs.Parts.{Parts}
 use Rattle.ufs_joint.specs.Cells.{FileCell, NamesCell, Start, View, both_of, given_of}
 use Rattle.ufs_joint.specs.Draws.{IsAround, Leaves, MayDraw}
 use Rattle.ufs_joint.specs.NamesHands.{AreNumberedOnce, IsNamesHand, IsNextOf, MayAcknowledgeAll, SyncsMayDraw, still_leaves}

@@ -3,8 +3,8 @@ use Rattle.std.proofs.Common.{◌≡◌, ℕ, ◌≤◌, ◌++◌, Bool, true, L
 use Rattle.std.specs.Prelude.{OnErr, OnOk, Result, Ok, Err}
 use Rattle.std.proofs.lemmas.List.{append-nil}
 use Rattle.ufs_model.specs.declared.data.PartName.TheVariants.{Names}
-use Rattle.ufs_sound.specs.Owned.{only, without}
-use Rattle.ufs_sound.specs.Parts.{is_names}
+use Rattle.ufs_hand_laws.specs.Owned.{only, without}
+use Rattle.ufs_hand_laws.specs.Parts.{is_names}
 use Rattle.ufs_store.specs.declared.fault.StoreFault.{StoreFault}
 use Rattle.ufs_joint.specs.Cells.{NamesCell, View, both_of, given_of, kept_of}
 use Rattle.ufs_turns.specs.Lent.{IsBare, IsBeside}

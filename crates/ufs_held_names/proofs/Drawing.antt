@@ -7,7 +7,7 @@ use Rattle.std.specs.FinMap as map
 use Rattle.std.specs.FinMap.{nat_cmp-IsAntisymmetric}
 use Rattle.std.specs.FinSet as set
 use Rattle.ufs_bitmap.specs.Blocks.{BlockSet}
-use Rattle.ufs_durable.specs.State.{CommitState, DurableState, state_of}
+use Rattle.ufs_file_commits.specs.State.{CommitState, DurableState, state_of}
 use Rattle.ufs_file.specs.Hand.{FileState, IsEntryOf}
 use Rattle.ufs_files.specs.Files.{AreSizedAs, Files}
 use Rattle.ufs_files.proofs.MapLemmas.{one_or_apart}
@@ -28,13 +28,13 @@ use Rattle.ufs_model.specs.declared.data.Reply.TheVariants as reply
 use Rattle.ufs_names.specs.Calls.{AreGathered, IsAsked, IsTouched, no_bytes}
 use Rattle.ufs_names.specs.NamesPart.{IsNamesPart, NamesPart}
 use Rattle.ufs_names.specs.Space.{AreApart}
-use Rattle.ufs_names_stored.specs.Serving.{PoolsMayLend}
-use Rattle.ufs_prefix.specs.Changes.{asks_commit}
-use Rattle.ufs_stored.specs.Parts.{Commits}
-use Rattle.ufs_sound.specs.Owned.{Has, each, times}
-use Rattle.ufs_sound.specs.Parts.{ClientPart, OwnFds}
-use Rattle.ufs_sound.specs.declared.fresh.Fresh.{Fresh}
-use Rattle.ufs_kept.specs.Lent.{LentAreApart}
+use Rattle.ufs_event_laws.specs.Serving.{PoolsMayLend}
+use Rattle.ufs_crash_laws.specs.Changes.{asks_commit}
+use Rattle.ufs_promise_laws.specs.Parts.{Commits}
+use Rattle.ufs_hand_laws.specs.Owned.{Has, each, times}
+use Rattle.ufs_hand_laws.specs.Parts.{ClientPart, OwnFds}
+use Rattle.ufs_hand_laws.specs.declared.fresh.Fresh.{Fresh}
+use Rattle.ufs_joint.specs.Lent.{LentAreApart}
 use Rattle.ufs_joint.specs.Cells.{FileCell, NamesCell, Start, View}
 use Rattle.ufs_joint.specs.Draws.{Leaves, MayDraw}
 use Rattle.ufs_joint.specs.Known.{Knows}

@@ -12,7 +12,7 @@ use Rattle.ufs_model.specs.declared.data.Reply.{Reply}
 use Rattle.ufs_model.specs.declared.data.Reply.TheVariants as reply
 use Rattle.ufs_names.specs.NamesPart.{IsNamesPart, NamesPart}
 use Rattle.ufs_names.specs.Space.{IsCause}
-use Rattle.ufs_sound.specs.Draws.{left_faults}
+use Rattle.ufs_hand_laws.specs.Draws.{left_faults}
 
 true_false : true ≡ false → ⊥
 true_false e = cc

@@ -3,11 +3,11 @@ use Rattle.std.proofs.Common.{◌≡◌, ◌≢◌, ℕ, suc, ◌≤◌, ◌+◌
 use Rattle.std.specs.Prelude.{IsSome, IfSome, unwrap_or}
 use Rattle.std.specs.Ordering.{nat_cmp}
 use Rattle.std.specs.FinMap as map
-use Rattle.ufs_durable.specs.State.{CommitState, DurableState, state_of}
+use Rattle.ufs_file_commits.specs.State.{CommitState, DurableState, state_of}
 use Rattle.ufs_file.specs.Hand.{FileState}
 use Rattle.ufs_names.specs.Calls.{no_bytes}
-use Rattle.ufs_sound.specs.Owned.{Has, count, one}
-use Rattle.ufs_stored.specs.Parts.{Commits, committed_as, durable_in}
+use Rattle.ufs_hand_laws.specs.Owned.{Has, count, one}
+use Rattle.ufs_promise_laws.specs.Parts.{Commits, committed_as, durable_in}
 use Rattle.ufs_joint.specs.Cells.{FileCell}
 use Rattle.ufs_joint.specs.NamesHands.{AreFilesOfCells, AreNumberedOnce, Changes, IsNew, IsNextCell}
 use Rattle.ufs_joint.proofs.OneFile.{only_here}

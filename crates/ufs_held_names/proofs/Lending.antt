@@ -2,8 +2,8 @@
 use Rattle.std.proofs.Common.{◌≡◌, ℕ, ◌++◌, true, false, cond, Bool, leb, leb-true, [], ◌∷◌, Option, Some, None, sym, refl, ap, ◌∙◌, arith}
 use Rattle.std.proofs.lemmas.List.{append-nil}
 use Rattle.ufs_bitmap.specs.Blocks.{BlockSet}
-use Rattle.ufs_durable.specs.State.{DurableState}
-use Rattle.ufs_sound.specs.Parts.{ClientPart, either, later}
+use Rattle.ufs_file_commits.specs.State.{DurableState}
+use Rattle.ufs_hand_laws.specs.Parts.{ClientPart, either, later}
 use Rattle.ufs_joint.specs.Cells.{FileCell, View, both_of}
 use Rattle.ufs_held.specs.Asking.{IsGuest}
 use Rattle.ufs_held.specs.Held.{HasFileAlone, IsHeld}

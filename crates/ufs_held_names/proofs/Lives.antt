@@ -13,8 +13,8 @@ use Rattle.ufs_model.specs.declared.data.Ask.{Ask}
 use Rattle.ufs_model.specs.declared.data.Desc.{Desc}
 use Rattle.ufs_model.specs.declared.data.Reply.{Reply}
 use Rattle.ufs_names.specs.Calls.{IsAsked, IsServed, no_bytes}
-use Rattle.ufs_sound.proofs.Keys.{itself}
-use Rattle.ufs_stored.specs.Parts.{Commits}
+use Rattle.ufs_hand_laws.proofs.Keys.{itself}
+use Rattle.ufs_promise_laws.specs.Parts.{Commits}
 use Rattle.ufs_noted.specs.Known.{file_in}
 use Rattle.ufs_noted.specs.Noted.{HasServedWith, Noted, one_file}
 use Rattle.ufs_noted.specs.declared.known.KnownFile.{KnownFile}

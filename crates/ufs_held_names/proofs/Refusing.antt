@@ -3,7 +3,7 @@ use Rattle.std.proofs.Common.{◌≡◌, ℕ, inl, cond, eqb, Bool, true, List, 
 use Rattle.std.specs.Prelude.{is_none}
 use Rattle.ufs_base.specs.Choices.{first_of, refused_if}
 use Rattle.ufs_bitmap.specs.Blocks.{BlockSet}
-use Rattle.ufs_kept.specs.Draws.{StillStaysKept}
+use Rattle.ufs_joint.specs.KnownDraws.{StillStaysKept}
 use Rattle.ufs_model.specs.History.{tree_after}
 use Rattle.ufs_model.specs.Posix.{posix, served}
 use Rattle.ufs_model.specs.PosixTree.{PosixTree, desc_at}
@@ -15,13 +15,13 @@ use Rattle.ufs_model.specs.declared.data.Errno.TheVariants.{Ebadf}
 use Rattle.ufs_model.specs.declared.data.Op.{Op}
 use Rattle.ufs_model.specs.declared.data.Op.TheVariants as op
 use Rattle.ufs_model.specs.declared.data.Reply.TheVariants as reply
-use Rattle.ufs_sound.specs.Draws.{client_after, entry_of}
-use Rattle.ufs_sound.specs.Owned.{each}
-use Rattle.ufs_sound.specs.Parts.{ClientPart}
-use Rattle.ufs_sound.specs.declared.fresh.Fresh.{Fresh}
-use Rattle.ufs_sound.proofs.Keys.{itself}
-use Rattle.ufs_stored.specs.Laws.{leaves_tree}
-use Rattle.ufs_stored.proofs.Entries.{tree_left}
+use Rattle.ufs_hand_laws.specs.Draws.{client_after, entry_of}
+use Rattle.ufs_hand_laws.specs.Owned.{each}
+use Rattle.ufs_hand_laws.specs.Parts.{ClientPart}
+use Rattle.ufs_hand_laws.specs.declared.fresh.Fresh.{Fresh}
+use Rattle.ufs_hand_laws.proofs.Keys.{itself}
+use Rattle.ufs_promise_laws.specs.Laws.{leaves_tree}
+use Rattle.ufs_promise_laws.proofs.Entries.{tree_left}
 use Rattle.ufs_joint.specs.Cells.{Start, View}
 use Rattle.ufs_joint.specs.Draws.{Leaves, MayDraw}
 use Rattle.ufs_joint.specs.NamesHands.{AreNumberedOnce, IsNextOf, still_leaves}

@@ -4,9 +4,9 @@ use Rattle.std.specs.FinMap as fin
 use Rattle.std.specs.FinSet as fset
 use Rattle.ufs_bitmap.specs.Blocks.{BlockSet}
 use Rattle.ufs_bitmap.specs.Taking.{set_of}
-use Rattle.ufs_durable.specs.State.{DurableState}
+use Rattle.ufs_file_commits.specs.State.{DurableState}
 use Rattle.ufs_names.specs.NamesPart.{NamesPart}
-use Rattle.ufs_sound.specs.Owned.{Has, count, one}
+use Rattle.ufs_hand_laws.specs.Owned.{Has, count, one}
 use Rattle.ufs_joint.specs.Cells.{FileCell, NamesCell, View}
 use Rattle.ufs_held.specs.Together.{under_numbers}
 use Rattle.ufs_held_names.specs.HeldNames.{AreCommitted}

@@ -11,7 +11,7 @@ use Rattle.ufs_names.specs.NamesPart.{NamesPart}
 use Rattle.ufs_joint.specs.Cells.{View}
 use Rattle.ufs_joint.specs.NamesTurns.{live_files}
 use Rattle.ufs_joint.proofs.Blocks.{or_right}
-use Rattle.ufs_sound.specs.Parts.{ClientPart}
+use Rattle.ufs_hand_laws.specs.Parts.{ClientPart}
 use Rattle.ufs_turns.specs.Lent.{AreTold, IsBare, IsBeside, free_in}
 use Rattle.ufs_held.specs.Asking.{IsGuest}
 use Rattle.ufs_held.specs.Committed.{HasSameCells}

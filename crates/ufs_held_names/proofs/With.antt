@@ -3,7 +3,7 @@ use Rattle.std.proofs.Common.{◌≡◌, ◌≢◌, ◌≤◌, ◌++◌, ℕ, in
 use Rattle.std.specs.Prelude.{IfSome, IsSome, unwrap_or}
 use Rattle.std.specs.FinMap as map
 use Rattle.ufs_bitmap.specs.Blocks.{BlockSet}
-use Rattle.ufs_durable.specs.State.{DurableState, state_of}
+use Rattle.ufs_file_commits.specs.State.{DurableState, state_of}
 use Rattle.ufs_file.specs.Hand.{IsEntryOf}
 use Rattle.ufs_files.specs.Files.{Files}
 use Rattle.ufs_model.specs.Asks.{fd_told}
@@ -16,8 +16,8 @@ use Rattle.ufs_model.specs.declared.data.Excuse.{Excuse}
 use Rattle.ufs_model.specs.declared.data.PartName.TheVariants.{File, Names}
 use Rattle.ufs_model.specs.declared.data.Reply.TheVariants as reply
 use Rattle.ufs_names.specs.Space.{IsCause}
-use Rattle.ufs_sound.specs.Parts.{ClientPart}
-use Rattle.ufs_stored.specs.Parts.{Commits}
+use Rattle.ufs_hand_laws.specs.Parts.{ClientPart}
+use Rattle.ufs_promise_laws.specs.Parts.{Commits}
 use Rattle.ufs_joint.specs.Cells.{FileCell, NamesCell, View, both_of, given_of, kept_of}
 use Rattle.ufs_joint.specs.Draws.{drawn}
 use Rattle.ufs_noted.specs.Known.{commits_in, file_in}

@@ -8,8 +8,8 @@ use Rattle.ufs_model.specs.declared.data.Ask.{Ask}
 use Rattle.ufs_model.specs.declared.data.Desc.{Desc}
 use Rattle.ufs_model.specs.declared.data.Entry.{Entry}
 use Rattle.ufs_names.specs.Calls.{IsOfNames}
-use Rattle.ufs_prefix.specs.Changes.{asks_commit}
-use Rattle.ufs_sound.specs.Parts.{ClientPart, OwnFds}
+use Rattle.ufs_crash_laws.specs.Changes.{asks_commit}
+use Rattle.ufs_hand_laws.specs.Parts.{ClientPart, OwnFds}
 
 -- The client asked the request, which is one of the names that commits nothing; and what is told with it is so in each tree that has the
 -- client's descriptors.

@@ -14,8 +14,8 @@ use Rattle.ufs_model.specs.declared.data.Excuse.{Excuse}
 use Rattle.ufs_model.specs.declared.data.Reply.TheVariants as reply
 use Rattle.ufs_names.specs.Calls.{no_bytes}
 use Rattle.ufs_names.specs.Space.{IsCause}
-use Rattle.ufs_stored.specs.Parts.{Commits}
-use Rattle.ufs_sound.specs.Parts.{ClientPart}
+use Rattle.ufs_promise_laws.specs.Parts.{Commits}
+use Rattle.ufs_hand_laws.specs.Parts.{ClientPart}
 use Rattle.ufs_joint.specs.Cells.{FileCell, NamesCell, View}
 use Rattle.ufs_noted.specs.Noted.{HasServedWith, MayLack, one_file, one_known}
 use Rattle.ufs_held.specs.Asking.{IsGuest}

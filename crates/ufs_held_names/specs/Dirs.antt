@@ -15,7 +15,7 @@ use Rattle.ufs_model.specs.declared.data.Excuse.TheVariants as excuse
 use Rattle.ufs_model.specs.declared.data.Op.TheVariants as op
 use Rattle.ufs_model.specs.declared.data.Reply.{Reply}
 use Rattle.ufs_model.specs.declared.data.Reply.TheVariants as reply
-use Rattle.ufs_sound.specs.Parts.{ClientPart}
+use Rattle.ufs_hand_laws.specs.Parts.{ClientPart}
 use Rattle.ufs_joint.specs.Cells.{NamesCell, View}
 use Rattle.ufs_turns.specs.Lent.{AreTold}
 use Rattle.ufs_held.specs.Asking.{IsGuest, IsSyncReply, faults_of, is_of_turn}

@@ -2,16 +2,16 @@
 use Rattle.std.specs.Prelude.{ℕ, suc, cond, false, List, [], ◌∷◌, Option, Some, None}
 use Rattle.std.specs.FinMap as fin
 use Rattle.ufs_bitmap.specs.Blocks.{BlockSet}
-use Rattle.ufs_durable.specs.State.{state_of}
+use Rattle.ufs_file_commits.specs.State.{state_of}
 use Rattle.ufs_file.specs.Hand.{FileState}
 use Rattle.ufs_model.specs.Asks.{fd_told}
 use Rattle.ufs_model.specs.History.{is_excused}
 use Rattle.ufs_model.specs.declared.data.Desc.{Desc}
 use Rattle.ufs_model.specs.declared.data.PartName.TheVariants.{File}
-use Rattle.ufs_sound.specs.Owned.{each}
-use Rattle.ufs_sound.specs.Parts.{OwnFds}
-use Rattle.ufs_sound.specs.declared.fresh.Fresh.{Fresh}
-use Rattle.ufs_stored.specs.Parts.{committed_as}
+use Rattle.ufs_hand_laws.specs.Owned.{each}
+use Rattle.ufs_hand_laws.specs.Parts.{OwnFds}
+use Rattle.ufs_hand_laws.specs.declared.fresh.Fresh.{Fresh}
+use Rattle.ufs_promise_laws.specs.Parts.{committed_as}
 use Rattle.ufs_joint.specs.Cells.{FileCell, NamesCell, View, given_of, kept_of}
 use Rattle.ufs_joint.specs.Draws.{Leaves}
 use Rattle.ufs_held.specs.Drawn.{first_fds}

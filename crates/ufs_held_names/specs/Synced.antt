@@ -3,7 +3,7 @@ use Rattle.std.specs.Prelude.{ℕ, suc, ◌≡◌, ◌≢◌, ◌≤◌, ◌++�
 use Rattle.std.specs.FinSet as set
 use Rattle.ufs_bitmap.specs.Blocks.{BlockSet}
 use Rattle.ufs_bitmap.specs.Taking.{set_of}
-use Rattle.ufs_durable.specs.State.{file_committed}
+use Rattle.ufs_file_commits.specs.State.{file_committed}
 use Rattle.ufs_file.specs.Hand.{IsEntryOf}
 use Rattle.ufs_model.specs.History.{is_excused}
 use Rattle.ufs_model.specs.declared.data.Actor.{Actor}
@@ -13,7 +13,7 @@ use Rattle.ufs_model.specs.declared.data.Entry.{Entry}
 use Rattle.ufs_model.specs.declared.data.Excuse.{Excuse}
 use Rattle.ufs_model.specs.declared.data.Excuse.TheVariants as excuse
 use Rattle.ufs_model.specs.declared.data.Reply.TheVariants as reply
-use Rattle.ufs_sound.specs.Parts.{ClientPart}
+use Rattle.ufs_hand_laws.specs.Parts.{ClientPart}
 use Rattle.ufs_joint.specs.Cells.{FileCell, NamesCell, View}
 use Rattle.ufs_turns.specs.Lent.{AreTold}
 use Rattle.ufs_held.specs.Asking.{IsAnswered, IsGuest, IsSyncReply, faults_of}

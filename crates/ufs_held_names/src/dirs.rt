@@ -1,7 +1,7 @@
 // An `fsync` of a directory: the names are committed, and it is acknowledged or excused.
 ghost use Rattle.std.specs.Prelude.{ℕ, ◌≡◌, []};
 ghost use Rattle.ufs_bitmap.specs.Blocks.{BlockSet};
-ghost use Rattle.ufs_sound.specs.Parts.{ClientPart};
+ghost use Rattle.ufs_hand_laws.specs.Parts.{ClientPart};
 ghost use Rattle.ufs_held.specs.Asking.{IsGuest};
 ghost use Rattle.ufs_held_names.specs.Dirs.{AsksDir, HasSyncedDir, IsAnsweredBy, MayAnswer};
 ghost use Rattle.ufs_held_names.specs.Births.{KnowsBirths};

@@ -2,7 +2,7 @@
 ghost use Rattle.std.specs.Prelude.{ℕ, ◌≡◌, ◌<◌, ◌≤◌, ◌+◌, ◌^◌, ◌⊎◌, [], ◌∷◌, true, false, cond, is_some, None, Some, IfSome, IsSome};
 ghost use Rattle.std.specs.FinMap as map;
 ghost use Rattle.ufs_bitmap.specs.Blocks.{BlockSet};
-ghost use Rattle.ufs_durable.specs.State.{state_of};
+ghost use Rattle.ufs_file_commits.specs.State.{state_of};
 ghost use Rattle.ufs_file.specs.Hand.{IsEntryOf};
 ghost use Rattle.ufs_layout.specs.Areas.{IsGeometry};
 ghost use Rattle.ufs_model.specs.Asks.{fd_told};
@@ -11,7 +11,7 @@ ghost use Rattle.ufs_model.specs.declared.data.Excuse.{Excuse};
 ghost use Rattle.ufs_model.specs.declared.data.Reply.TheVariants as reply;
 ghost use Rattle.ufs_names.specs.Calls.{no_bytes};
 ghost use Rattle.ufs_names.specs.Space.{IsCause};
-ghost use Rattle.ufs_sound.specs.Parts.{ClientPart};
+ghost use Rattle.ufs_hand_laws.specs.Parts.{ClientPart};
 ghost use Rattle.ufs_joint.specs.Cells.{FileCell, NamesCell};
 ghost use Rattle.ufs_joint.specs.Draws.{drawn};
 ghost use Rattle.ufs_joint.specs.NamesHands.{IsNamesHand};
@@ -26,16 +26,15 @@ ghost use Rattle.ufs_held_names.specs.HeldNames.{noted_in};
 
 use std::marker::Brand;
 use ufs_bitmap::Pool;
+use ufs_event_laws::served_names_law;
 use ufs_file::{Applied, FileHand};
+use ufs_hand_laws::Fresh;
 use ufs_joint::{
-    Hand, HandTable, Leaving, Naming, a_names_excuse_is_drawn, a_names_request_is_drawn,
+    Hand, HandTable, Leaving, Naming, a_names_excuse_is_drawn, a_names_request_is_drawn, lent_law,
 };
-use ufs_kept::lent_law;
 use ufs_layout::Geometry;
 use ufs_model::{Actor, Ask, Desc, Entry};
-use ufs_names_stored::served_names_law;
 use ufs_noted::{KnownFile, Made, NotedNames, With};
-use ufs_sound::Fresh;
 
 // Applies a request that touches no live file, and draws its entry.
 pub(crate) fn draw_alone<N: Naming>(

@@ -1,14 +1,14 @@
 // A file that a request made.
 ghost use Rattle.std.specs.Prelude.{◌≡◌, [], IfOk, IfErr};
-ghost use Rattle.ufs_durable.specs.State.{state_of};
-ghost use Rattle.ufs_stored.specs.Parts.{committed_as};
+ghost use Rattle.ufs_file_commits.specs.State.{state_of};
+ghost use Rattle.ufs_promise_laws.specs.Parts.{committed_as};
 ghost use Rattle.ufs_held.specs.Held.{IsHeld, first_cell};
 
 use std::alloc::Global;
 use std::marker::Model;
 use ufs_base::Memory;
-use ufs_durable::FileCommits;
 use ufs_file::FileHand;
+use ufs_file_commits::FileCommits;
 use ufs_held::HeldFile;
 use ufs_joint::{Hand, Naming};
 
@@ -22,8 +22,8 @@ pub struct Newborn<N: Naming> {
 
 impl<N: Naming> Model for Newborn<N> {
     ghost use Rattle.std.specs.Prelude.{◌≡◌, []};
-    ghost use Rattle.ufs_durable.specs.State.{state_of};
-    ghost use Rattle.ufs_stored.specs.Parts.{committed_as};
+    ghost use Rattle.ufs_file_commits.specs.State.{state_of};
+    ghost use Rattle.ufs_promise_laws.specs.Parts.{committed_as};
     ghost use Rattle.ufs_joint.specs.Cells.{FileCell};
     ghost use Rattle.ufs_joint.specs.Codes.{file_code};
     ghost use Rattle.ufs_held.specs.Held.{IsHeld, first_cell};

@@ -1,10 +1,10 @@
 // A request of the names is served: the hands are joined, it is applied and drawn, and the hands are parted again.
 ghost use Rattle.std.specs.Prelude.{ℕ, ◌≡◌, ◌<◌, ◌^◌, [], None, Some, IfSome};
-ghost use Rattle.ufs_durable.specs.State.{state_of};
+ghost use Rattle.ufs_file_commits.specs.State.{state_of};
 ghost use Rattle.ufs_layout.specs.Areas.{IsGeometry};
 ghost use Rattle.ufs_model.specs.declared.data.PartName.TheVariants.{File};
-ghost use Rattle.ufs_sound.specs.Parts.{ClientPart};
-ghost use Rattle.ufs_stored.specs.Parts.{committed_as};
+ghost use Rattle.ufs_hand_laws.specs.Parts.{ClientPart};
+ghost use Rattle.ufs_promise_laws.specs.Parts.{committed_as};
 ghost use Rattle.ufs_joint.specs.Cells.{given_of};
 ghost use Rattle.ufs_held.specs.Asking.{IsGuest};
 ghost use Rattle.ufs_held.specs.Held.{IsHeld};

@@ -2,8 +2,8 @@
 ghost use Rattle.std.specs.Prelude.{ℕ, ◌≡◌, eqb, []};
 ghost use Rattle.ufs_bitmap.specs.Blocks.{BlockSet};
 ghost use Rattle.ufs_layout.specs.Areas.{IsGeometry};
-ghost use Rattle.ufs_sound.specs.Owned.{count};
-ghost use Rattle.ufs_sound.specs.Parts.{ClientPart};
+ghost use Rattle.ufs_hand_laws.specs.Owned.{count};
+ghost use Rattle.ufs_hand_laws.specs.Parts.{ClientPart};
 ghost use Rattle.ufs_held.specs.Asking.{IsGuest};
 ghost use Rattle.ufs_held.specs.Together.{under_numbers};
 ghost use Rattle.ufs_held_names.specs.Dirs.{IsAnsweredBy};
@@ -12,8 +12,7 @@ ghost use Rattle.ufs_held_names.specs.SyncAll.{AreAllLive, AsksSync, MayAnswerAl
 
 use crate::held_names::NamesSynced;
 use ufs_held::{HeldFile, draw_with_files, entry_at, reply_to};
-use ufs_joint::{Hand, HandTable, Naming, a_sync_is_acknowledged};
-use ufs_kept::draw_law;
+use ufs_joint::{Hand, HandTable, Naming, a_sync_is_acknowledged, draw_law};
 use ufs_layout::Geometry;
 use ufs_model::{Actor, Ask, PartName, Reply};
 use ufs_noted::NotedNames;

@@ -5,7 +5,7 @@ ghost use Rattle.ufs_file.specs.Hand.{IsOf};
 ghost use Rattle.ufs_layout.specs.Areas.{IsGeometry};
 ghost use Rattle.ufs_model.specs.declared.data.Excuse.TheVariants as excuse;
 ghost use Rattle.ufs_model.specs.declared.data.Op.TheVariants as op;
-ghost use Rattle.ufs_sound.specs.Parts.{ClientPart};
+ghost use Rattle.ufs_hand_laws.specs.Parts.{ClientPart};
 ghost use Rattle.ufs_joint.specs.NamesTurns.{live_files};
 ghost use Rattle.ufs_held.specs.Asking.{Asks, IsGuest, faults_of, is_of_turn};
 ghost use Rattle.ufs_held_names.specs.Births.{KnowsBirths};

@@ -6,12 +6,11 @@ ghost use Rattle.ufs_held.specs.Asking.{IsGuest};
 ghost use Rattle.ufs_held_names.specs.Dirs.{AsksUnopened, answered};
 ghost use Rattle.ufs_model.specs.declared.data.Errno.TheVariants.{Ebadf};
 ghost use Rattle.ufs_model.specs.declared.data.Reply.TheVariants as reply;
-ghost use Rattle.ufs_sound.specs.Parts.{ClientPart};
+ghost use Rattle.ufs_hand_laws.specs.Parts.{ClientPart};
 
 use crate::held_names::NamesSynced;
 use ufs_held::draw_reply;
-use ufs_joint::{Hand, HandTable, Naming};
-use ufs_kept::draw_law;
+use ufs_joint::{Hand, HandTable, Naming, draw_law};
 use ufs_model::{Actor, Ask, Errno, Reply};
 
 /// Refuses an `fsync` of a descriptor that its client doesn't have with EBADF. A client refuses such a request itself and sends none; the

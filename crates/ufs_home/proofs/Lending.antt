@@ -9,7 +9,7 @@ use Rattle.std.proofs.lemmas.Bool.{eq-eqb, eqb-true}
 use Rattle.ufs_held.specs.Together.{under_numbers}
 use Rattle.ufs_joint.specs.Cells.{FileCell}
 use Rattle.ufs_model.proofs.Facts.Lookups as lookups
-use Rattle.ufs_sound.specs.Owned.{Has, count, one}
+use Rattle.ufs_hand_laws.specs.Owned.{Has, count, one}
 use Rattle.ufs_home.specs.Lending.{AreAway, AreLent, put_all}
 use Rattle.ufs_home.specs.Places.{Places, file_here, in_place}
 use Rattle.ufs_home.proofs.Shelves.{in_its_place, one_or_other, place_of_here, put_again, put_else, put_here, same_places}

@@ -7,7 +7,7 @@ use Rattle.ufs_msg.specs.There.{worker_count}
 use Rattle.ufs_owner.specs.Owners.{Files, Owners, note_at, owner_at, recalled, waiting_at, with_owner, with_waiting}
 use Rattle.ufs_owner.specs.declared.owner.Owner.{Owner}
 use Rattle.ufs_owner.specs.declared.owner.Owner.TheVariants.{Primary, Coming, Going}
-use Rattle.ufs_parcel.specs.Parcel.{IsOut}
+use Rattle.ufs_held.specs.Parcel.{IsOut}
 use Rattle.ufs_home.specs.Home.{HomeState, IsHome, called_back, called_by, called_for, come_on, from_of, home_of, is_waited, onward}
 use Rattle.ufs_home.specs.Letters.{Boxes, posted}
 use Rattle.ufs_home.specs.Owning.{AreKnown}

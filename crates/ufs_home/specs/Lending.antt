@@ -3,7 +3,7 @@ use Rattle.std.specs.Prelude.{ℕ, ◌≡◌, ◌≤◌, ◌<◌, ◌^◌, eqb, 
 use Rattle.std.specs.FinMap as fin
 use Rattle.ufs_held.specs.Together.{under_numbers}
 use Rattle.ufs_joint.specs.Cells.{FileCell}
-use Rattle.ufs_sound.specs.Owned.{count}
+use Rattle.ufs_hand_laws.specs.Owned.{count}
 use Rattle.ufs_home.specs.Places.{Places}
 
 -- Each of these files has a place, which is empty, no pool has so low a number, and no two of them have one number.

@@ -5,10 +5,9 @@ use crate::stage::Stage;
 use std::alloc::Global;
 use std::marker::Model;
 use ufs_base::Memory;
-use ufs_held::HeldFile;
+use ufs_held::{HeldFile, Parcel};
 use ufs_held_names::Newborn;
 use ufs_joint::Naming;
-use ufs_parcel::Parcel;
 
 /// A file at the primary, with its number: no pool has one so low. Contracts see its cell.
 #[derive(Drop)]

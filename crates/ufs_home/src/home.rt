@@ -9,13 +9,12 @@ use crate::shelf::Shelf;
 use std::alloc::Global;
 use std::marker::Model;
 use ufs_base::{Lack, Memory};
-use ufs_held::HeldFile;
+use ufs_held::{HeldFile, Parcel};
 use ufs_held_names::Newborn;
 use ufs_joint::Naming;
 use ufs_model::Actor;
 use ufs_msg::{Letter, ServerPost};
 use ufs_owner::{Owner, OwnerTable};
-use ufs_parcel::Parcel;
 
 /// The files of session `N` that are at the primary, each with the right to its cell; who has each other one, and who waits for it; and
 /// letters to workers whose rings were full. A file is found by its number.
@@ -56,7 +55,7 @@ impl<N: Naming> Home<N> {
     ghost use Rattle.ufs_owner.specs.Lacks.{IsLackOut};
     ghost use Rattle.ufs_owner.specs.Owners.{count_out, is_coming, note_at, owner_at, waiting_at, with_waiting};
     ghost use Rattle.ufs_owner.specs.declared.owner.Owner.TheVariants.{Primary};
-    ghost use Rattle.ufs_sound.specs.Owned.{Has};
+    ghost use Rattle.ufs_hand_laws.specs.Owned.{Has};
 
     /// No file, and each worker's letters. Only this call takes memory for the workers.
     pub fn make(alloc: Global, workers: u8) -> Result<Home<N>, Memory>

@@ -2,9 +2,9 @@
 ghost use Rattle.std.specs.Prelude.{◌≡◌};
 
 use std::marker::Model;
+use ufs_held::Parcel;
 use ufs_joint::Naming;
 use ufs_msg::Letter;
-use ufs_parcel::Parcel;
 
 /// A letter to a worker: a file that goes to it, or the number of one that is to come back.
 #[derive(Drop)]

@@ -5,7 +5,7 @@ ghost use Rattle.std.specs.Vec.{vec_capacity, vec_len};
 ghost use Rattle.ufs_home.specs.Lending.{AreAway, AreLent, put_all};
 ghost use Rattle.ufs_home.specs.Places.{Places, file_here};
 ghost use Rattle.ufs_joint.specs.Cells.{FileCell};
-ghost use Rattle.ufs_sound.specs.Owned.{Has};
+ghost use Rattle.ufs_hand_laws.specs.Owned.{Has};
 
 use crate::at_home::AtHome;
 use crate::shelf::Shelf;

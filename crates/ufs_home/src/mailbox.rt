@@ -8,10 +8,10 @@ use std::alloc::Global;
 use std::collections::VecDeque;
 use std::marker::Model;
 use ufs_base::Memory;
+use ufs_held::Parcel;
 use ufs_joint::Naming;
 use ufs_msg::{Letter, ServerPost};
 use ufs_owner::OwnerTable;
-use ufs_parcel::Parcel;
 
 /// Letters to one worker that are kept, of which the first goes first.
 #[derive(Drop)]

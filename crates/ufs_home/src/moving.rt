@@ -12,7 +12,7 @@ ghost use Rattle.ufs_joint.specs.Cells.{FileCell};
 ghost use Rattle.ufs_owner.specs.Lacks.{IsLackOut};
 ghost use Rattle.ufs_owner.specs.Owners.{is_coming, is_out, note_at, owner_at, recalled, waiting_at, with_owner};
 ghost use Rattle.ufs_owner.specs.declared.owner.Owner.TheVariants.{Coming, Going, Primary};
-ghost use Rattle.ufs_parcel.specs.Parcel.{IsOut};
+ghost use Rattle.ufs_held.specs.Parcel.{IsOut};
 
 use crate::at_home::AtHome;
 use crate::leaving::Leaving;
@@ -21,10 +21,9 @@ use crate::moved::Moved;
 use crate::shelf::Shelf;
 use std::alloc::Global;
 use ufs_base::{Lack, Memory};
-use ufs_held::HeldFile;
+use ufs_held::{HeldFile, Parcel};
 use ufs_joint::Naming;
 use ufs_owner::{Owner, OwnerTable};
-use ufs_parcel::Parcel;
 
 /// A file that was coming is here, and goes on where a worker is noted and nobody waits for it. Answers the worker, or 0. It comes back
 /// where it wasn't coming, or its number is here, or where there is no room for it.

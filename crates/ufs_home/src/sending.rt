@@ -10,11 +10,11 @@ use crate::leaving::Leaving;
 use crate::mailbox::Mailbox;
 use crate::owning::leave;
 use std::collections::VecDeque;
+use ufs_held::Parcel;
 use ufs_joint::Naming;
 use ufs_model::Actor;
 use ufs_msg::{Letter, ServerPost};
 use ufs_owner::OwnerTable;
-use ufs_parcel::Parcel;
 
 // Sends the letter. A file that was going, and goes with it, is the worker's.
 fn send_one<N: Naming, Q: ServerPost<N, Letter<Parcel<N>>>>(

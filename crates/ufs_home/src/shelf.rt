@@ -8,9 +8,8 @@ use std::alloc::Global;
 use std::collections::BTreeMap;
 use std::marker::Model;
 use ufs_base::Memory;
-use ufs_held::HeldFile;
+use ufs_held::{HeldFile, Parcel};
 use ufs_joint::Naming;
-use ufs_parcel::Parcel;
 
 /// A place for each file that the primary has or may get: it is empty while the file is elsewhere, is lent to a request, or isn't made
 /// yet. A file that comes back finds its place, so that takes no memory.

@@ -1,6 +1,6 @@
 ghost use Rattle.std.specs.Prelude.{◌≡◌, ◌≤◌, ◌^◌, IsTrue, IfOk, IfErr, OnOk};
-ghost use Rattle.ufs_catalog.specs.Faults.{HasFaultCause};
-ghost use Rattle.ufs_catalog.specs.Reading.{IsReadOnly};
+ghost use Rattle.ufs_metadata.specs.Faults.{HasFaultCause};
+ghost use Rattle.ufs_metadata.specs.Reading.{IsReadOnly};
 ghost use Rattle.ufs_disk.specs.Moments.{reads};
 ghost use Rattle.ufs_image_paths.specs.Opened.{IsTreeOf};
 ghost use Rattle.ufs_model.specs.Start.{IsPathTree, start_of};
@@ -9,11 +9,11 @@ ghost use Rattle.ufs_opening.specs.Told.{TellsWhy};
 use crate::namespace::is_path_tree;
 use std::alloc::Global;
 use ufs_base::Lack;
-use ufs_catalog::RecoverFault;
 use ufs_disk::Disk;
+use ufs_metadata::RecoverFault;
 use ufs_model::PathTree;
-use ufs_names_image::image_start_law;
 use ufs_opening::tree_of;
+use ufs_tree_laws::image_start_law;
 
 const ROOT: u32 = 1;
 

@@ -16,29 +16,29 @@ use Rattle.ufs_ledger.specs.Ledger.{IsLedgerOf, Ledger}
 use Rattle.ufs_model.specs.History.{tree_after}
 use Rattle.ufs_model.specs.PosixTree.{PosixTree}
 use Rattle.ufs_model.specs.declared.data.Entry.{Entry}
-use Rattle.ufs_sound.specs.Owned.{Has, count}
-use Rattle.ufs_sound.specs.Parts.{Cells, only_one}
+use Rattle.ufs_hand_laws.specs.Owned.{Has, count}
+use Rattle.ufs_hand_laws.specs.Parts.{Cells, only_one}
 use Rattle.ufs_store.specs.Ledgers.{HasAny, HasLedger, beginning_next, checkpointed}
 use Rattle.ufs_store.specs.State.{StoreState, geometry_of_store, next_superblock}
 use Rattle.ufs_store_steps.specs.Cells.{cells_of}
-use Rattle.ufs_stored.specs.AlwaysLaws.{CheckpointsAreExplained}
-use Rattle.ufs_stored.specs.Laws.{EmptiedIsStored}
-use Rattle.ufs_stored.specs.OnDisk.{AreReadable, IsExplainedBetween, IsExplainedImage}
-use Rattle.ufs_stored.specs.Parts.{Parts}
-use Rattle.ufs_stored.specs.Sound.{IsSoundServer}
-use Rattle.ufs_stored.specs.Stored.{IsStored}
-use Rattle.ufs_stored.proofs.Reading.{begun_readable, stored_readable}
+use Rattle.ufs_promise_laws.specs.AlwaysLaws.{CheckpointsAreExplained}
+use Rattle.ufs_promise_laws.specs.Laws.{EmptiedIsStored}
+use Rattle.ufs_promise_laws.specs.OnDisk.{AreReadable, IsExplainedBetween, IsExplainedImage}
+use Rattle.ufs_promise_laws.specs.Parts.{Parts}
+use Rattle.ufs_promise_laws.specs.Sound.{IsSoundServer}
+use Rattle.ufs_promise_laws.specs.Stored.{IsStored}
+use Rattle.ufs_promise_laws.proofs.Reading.{begun_readable, stored_readable}
 use Rattle.ufs_joint.specs.Cells.{FileCell, NamesCell, StoreCell, View, store_of, store_since}
 use Rattle.ufs_joint.specs.Checkpoints.{CheckpointsGoOn, CheckpointsMayEnd, HasBegunAnew, IsBareHand, MakesCheckpoint, checkpoint_turn}
 use Rattle.ufs_joint.specs.FileHands.{IsAsBegun, WentOn}
-use Rattle.ufs_stored.specs.Known.{IsDiskKept, IsKeptGoing, IsKeptStopped, IsMore, Known}
+use Rattle.ufs_promise_laws.specs.Known.{IsDiskKept, IsKeptGoing, IsKeptStopped, IsMore, Known}
 use Rattle.ufs_joint.specs.NoneLost.{IsHad}
 use Rattle.ufs_joint.specs.Turns.{EndsOnDisk, MayEndTurn, Turn, known_by}
 use Rattle.ufs_joint.specs.Whole.{HasCells}
 use Rattle.ufs_joint.proofs.Disks.{among, drop_behind, nothing_behind}
 use Rattle.ufs_joint.proofs.FileTurns.{or_none}
 use Rattle.ufs_joint.proofs.Kept.{kept_going, since_kept}
-use Rattle.ufs_kept.proofs.Forgetting.{less_is_kept}
+use Rattle.ufs_joint.proofs.Forgetting.{less_is_kept}
 
 -- ---- the disk keeps what it kept
 

@@ -13,25 +13,25 @@ use Rattle.ufs_model.specs.History.{entries_of, tree_after}
 use Rattle.ufs_model.specs.PosixTree.{PosixTree, desc_at}
 use Rattle.ufs_model.specs.declared.data.Entry.{Entry}
 use Rattle.ufs_model.proofs.Facts.Histories.{own-push, others-push, numbers-push}
-use Rattle.ufs_on_disk.specs.Requests.{with_free}
-use Rattle.ufs_on_disk.proofs.Sound.{sound_by_free_blocks}
-use Rattle.ufs_prefix.specs.Changes.{changes_of, name_changes}
-use Rattle.ufs_sound.specs.declared.fresh.Fresh.{Fresh}
-use Rattle.ufs_sound.specs.Asked.{IsAnswered, IsStill}
-use Rattle.ufs_sound.specs.Draws.{client_after, entry_of}
-use Rattle.ufs_sound.specs.Marks.{value_after}
-use Rattle.ufs_sound.specs.Owned.{Has, count, one, present, replaced}
-use Rattle.ufs_sound.specs.Parts.{AskedPart, ClientPart, only_one}
-use Rattle.ufs_sound.proofs.Exchange.{value_case}
-use Rattle.ufs_sound.proofs.Keys.{alike, itself}
-use Rattle.ufs_sound.proofs.Owning.{all_set, count_has, has_append, has_each, none_some, replaced_back, replaced_present, replace_holds, same_holds, same_some, weigh_each}
+use Rattle.ufs_event_laws.specs.FileRequests.{with_free}
+use Rattle.ufs_event_laws.proofs.Sound.{sound_by_free_blocks}
+use Rattle.ufs_crash_laws.specs.Changes.{changes_of, name_changes}
+use Rattle.ufs_hand_laws.specs.declared.fresh.Fresh.{Fresh}
+use Rattle.ufs_hand_laws.specs.Asked.{IsAnswered, IsStill}
+use Rattle.ufs_hand_laws.specs.Draws.{client_after, entry_of}
+use Rattle.ufs_hand_laws.specs.Marks.{value_after}
+use Rattle.ufs_hand_laws.specs.Owned.{Has, count, one, present, replaced}
+use Rattle.ufs_hand_laws.specs.Parts.{AskedPart, ClientPart, only_one}
+use Rattle.ufs_hand_laws.proofs.Exchange.{value_case}
+use Rattle.ufs_hand_laws.proofs.Keys.{alike, itself}
+use Rattle.ufs_hand_laws.proofs.Owning.{all_set, count_has, has_append, has_each, none_some, replaced_back, replaced_present, replace_holds, same_holds, same_some, weigh_each}
 use Rattle.ufs_store.specs.State.{StoreState}
-use Rattle.ufs_stored.specs.Laws.{MovesBlocks}
-use Rattle.ufs_stored.specs.Parts.{Parts}
-use Rattle.ufs_stored.specs.Sound.{IsSoundServer}
+use Rattle.ufs_promise_laws.specs.Laws.{MovesBlocks}
+use Rattle.ufs_promise_laws.specs.Parts.{Parts}
+use Rattle.ufs_promise_laws.specs.Sound.{IsSoundServer}
 use Rattle.ufs_joint.specs.Cells.{FileCell, NamesCell, Start, View, Word, World, store_of}
 use Rattle.ufs_joint.specs.Draws.{DrawsOnDisk, DrawsTo, IsAround, IsUnknown, Leaves, MayDraw, drawn}
-use Rattle.ufs_stored.specs.Known.{IsDiskKept, IsMore, Known}
+use Rattle.ufs_promise_laws.specs.Known.{IsDiskKept, IsMore, Known}
 use Rattle.ufs_joint.specs.Laws.{DrawKeeps, one_more}
 use Rattle.ufs_joint.specs.Picks.{IsAbsent, bytes_at}
 use Rattle.ufs_joint.specs.Sound.{AreChangesTold, ArePastExplained, AreTicketsOnce, DoPartsStay, IsAskedTrue, IsDiskSound, IsExplainedState, IsHeld, IsKeptSince, IsSound, LeadsTo, MayHaveBegun}
@@ -41,8 +41,8 @@ use Rattle.ufs_joint.proofs.Exchange.{kind_exchanged, names_are, nothing_counted
 use Rattle.ufs_joint.proofs.FaultsTold.{faults_drawn, untold}
 use Rattle.ufs_joint.proofs.NoneLost.{joined, parted}
 use Rattle.ufs_joint.specs.NoneLost.{HandHas, IsHad}
-use Rattle.ufs_kept.proofs.Forgetting.{less_is_kept}
-use Rattle.ufs_kept.proofs.Pools.{pools_stay}
+use Rattle.ufs_joint.proofs.Forgetting.{less_is_kept}
+use Rattle.ufs_joint.proofs.Pools.{pools_stay}
 use Rattle.ufs_joint.proofs.Parting.{cells_there, commits_after, file_after, freed_fewer, freed_in, names_after, other_pool, own_free, same_cells, same_names_cell, still_apart}
 use Rattle.ufs_joint.proofs.Takes.{take_front, take_whole}
 

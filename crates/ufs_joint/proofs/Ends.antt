@@ -6,32 +6,32 @@ use Rattle.std.specs.Prelude.{IsSome}
 use Rattle.std.specs.Ordering.{nat_cmp}
 use Rattle.std.specs.FinMap as fin
 use Rattle.std.specs.FinSet as set
-use Rattle.ufs_alike.proofs.TreeLemmas as alikes
+use Rattle.ufs_bytes_laws.proofs.TreeLemmas as alikes
 use Rattle.ufs_bitmap.specs.Blocks.{BlockSet}
 use Rattle.ufs_bitmap.specs.Taking.{has}
 use Rattle.ufs_dir_tree.specs.DirTable.{blocks_at}
-use Rattle.ufs_durable.specs.State.{DurableState, blocks_held}
+use Rattle.ufs_file_commits.specs.State.{DurableState, blocks_held}
 use Rattle.ufs_file.specs.Hand.{FileState}
 use Rattle.ufs_names.specs.NamesPart.{NamesPart}
 use Rattle.ufs_model.specs.History.{entries_of, tree_after}
 use Rattle.ufs_model.specs.PosixTree.{PosixTree}
 use Rattle.ufs_model.specs.declared.data.Entry.{Entry}
-use Rattle.ufs_on_disk.specs.Requests.{with_free}
-use Rattle.ufs_prefix.specs.Changes.{changes_of, name_changes}
-use Rattle.ufs_sound.specs.Owned.{Has, Held, count, find, present, times}
-use Rattle.ufs_sound.specs.Parts.{AskedPart, ClientPart, only_one}
-use Rattle.ufs_sound.specs.Whole.{idle_asked, idle_client}
-use Rattle.ufs_sound.proofs.Ending.{has_mine, mine_has}
-use Rattle.ufs_sound.proofs.Keys.{alike, itself}
-use Rattle.ufs_sound.proofs.Owning.{find_has, has_count, has_find, none_some, present_find, same_some}
-use Rattle.ufs_stored.specs.AlwaysLaws.{RestIsExplained}
-use Rattle.ufs_stored.specs.OnDisk.{IsOnDisk}
-use Rattle.ufs_stored.specs.Parts.{durable_in}
-use Rattle.ufs_stored.specs.Stored.{ArePartsOf}
+use Rattle.ufs_event_laws.specs.FileRequests.{with_free}
+use Rattle.ufs_crash_laws.specs.Changes.{changes_of, name_changes}
+use Rattle.ufs_hand_laws.specs.Owned.{Has, Held, count, find, present, times}
+use Rattle.ufs_hand_laws.specs.Parts.{AskedPart, ClientPart, only_one}
+use Rattle.ufs_hand_laws.specs.Whole.{idle_asked, idle_client}
+use Rattle.ufs_hand_laws.proofs.Ending.{has_mine, mine_has}
+use Rattle.ufs_hand_laws.proofs.Keys.{alike, itself}
+use Rattle.ufs_hand_laws.proofs.Owning.{find_has, has_count, has_find, none_some, present_find, same_some}
+use Rattle.ufs_promise_laws.specs.AlwaysLaws.{RestIsExplained}
+use Rattle.ufs_promise_laws.specs.OnDisk.{IsOnDisk}
+use Rattle.ufs_promise_laws.specs.Parts.{durable_in}
+use Rattle.ufs_promise_laws.specs.Stored.{ArePartsOf}
 use Rattle.ufs_joint.specs.Cells.{FileCell, NamesCell, Start, StoreCell, View, Word, World, store_of}
 use Rattle.ufs_joint.specs.Ends.{CanBegin, HoldsAll, IsAlwaysExplained, IsWhole, known_first}
 use Rattle.ufs_joint.specs.Faults.{IsOfSession, faults_in}
-use Rattle.ufs_stored.specs.Known.{IsDiskKept}
+use Rattle.ufs_promise_laws.specs.Known.{IsDiskKept}
 use Rattle.ufs_joint.specs.Laws.{BeginIsSound, CloseIsWhole}
 use Rattle.ufs_joint.proofs.Disks.{explained_here}
 use Rattle.ufs_joint.specs.Sound.{AreJoined, IsDiskSound, IsExplainedState, IsKeptSince, IsSound}
@@ -40,8 +40,8 @@ use Rattle.ufs_joint.proofs.Blocks.{none_in, pooled_back, pooled_here}
 use Rattle.ufs_joint.proofs.OneFile.{durable_is}
 use Rattle.ufs_joint.specs.NoneLost.{HandHas, InDir, InDropped, InFile, InPool, InStore, IsDropped, IsFree, IsHad, OfDir, OfFile, OfPool}
 use Rattle.ufs_joint.proofs.Exchange.{names_are, store_is}
-use Rattle.ufs_kept.proofs.Forgetting.{less_is_kept}
-use Rattle.ufs_stored.proofs.Known.{on_disk_of}
+use Rattle.ufs_joint.proofs.Forgetting.{less_is_kept}
+use Rattle.ufs_promise_laws.proofs.Known.{on_disk_of}
 use Rattle.ufs_joint.proofs.Parting.{cells_there}
 
 -- ---- the end

@@ -7,9 +7,9 @@ use Rattle.std.specs.FinMap as fin
 use Rattle.std.specs.FinMap.{get-retain_keys, nat_cmp-IsAntisymmetric}
 use Rattle.ufs_files.proofs.MapLemmas.{one_or_apart}
 use Rattle.ufs_model.proofs.Facts.Lookups.{inserted_else, inserted_here}
-use Rattle.ufs_sound.specs.Owned.{count, find, one, present}
-use Rattle.ufs_sound.proofs.Keys.{alike, itself}
-use Rattle.ufs_sound.proofs.Owning.{present_find}
+use Rattle.ufs_hand_laws.specs.Owned.{count, find, one, present}
+use Rattle.ufs_hand_laws.proofs.Keys.{alike, itself}
+use Rattle.ufs_hand_laws.proofs.Owning.{present_find}
 use Rattle.ufs_joint.specs.Cells.{FileCell}
 
 module _ {A : Type 0} (of : FileCell → A) where

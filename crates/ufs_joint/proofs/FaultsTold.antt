@@ -9,11 +9,11 @@ use Rattle.ufs_model.specs.declared.data.Excuse.TheVariants as excuse
 use Rattle.ufs_model.specs.declared.data.PartName.{PartName}
 use Rattle.ufs_model.specs.declared.data.Reply.{Reply}
 use Rattle.ufs_model.specs.declared.data.Reply.TheVariants as reply
-use Rattle.ufs_sound.specs.Draws.{left_faults}
-use Rattle.ufs_sound.specs.FaultsOnce.{tells, told}
-use Rattle.ufs_sound.specs.Owned.{Has, less, one, times, total}
-use Rattle.ufs_sound.specs.Parts.{either}
-use Rattle.ufs_sound.proofs.Owning.{all_set, all_split, change_total, has_append, join_total, split_total, total_at, total_set, weigh_append}
+use Rattle.ufs_hand_laws.specs.Draws.{left_faults}
+use Rattle.ufs_hand_laws.specs.FaultsOnce.{tells, told}
+use Rattle.ufs_hand_laws.specs.Owned.{Has, less, one, times, total}
+use Rattle.ufs_hand_laws.specs.Parts.{either}
+use Rattle.ufs_hand_laws.proofs.Owning.{all_set, all_split, change_total, has_append, join_total, split_total, total_at, total_set, weigh_append}
 use Rattle.ufs_joint.specs.Cells.{Start, StoreCell, View, both_of, given_of, kept_of, spent}
 use Rattle.ufs_joint.specs.Faults.{AreFaultsOnce, IsOfSession, faults_in}
 use Rattle.ufs_joint.specs.Turns.{AreFaultsTold}

@@ -5,10 +5,10 @@ use Rattle.ufs_model.specs.Posix.{posix}
 use Rattle.ufs_model.specs.PosixTree.{PosixTree}
 use Rattle.ufs_model.specs.declared.data.Entry.{Entry}
 use Rattle.ufs_model.proofs.RefusalLemmas.{makes_one}
-use Rattle.ufs_sound.specs.Owned.{Has}
-use Rattle.ufs_sound.proofs.Ruling.{tally, tally_none, tally_step}
-use Rattle.ufs_stored.proofs.Entries.{excuse_leaves}
-use Rattle.ufs_stored.proofs.FileEntries.{served_goes}
+use Rattle.ufs_hand_laws.specs.Owned.{Has}
+use Rattle.ufs_hand_laws.proofs.Ruling.{tally, tally_none, tally_step}
+use Rattle.ufs_promise_laws.proofs.Entries.{excuse_leaves}
+use Rattle.ufs_promise_laws.proofs.FileEntries.{served_goes}
 use Rattle.ufs_joint.specs.Cells.{Start, View, Word}
 use Rattle.ufs_joint.specs.Sound.{IsSound}
 

@@ -9,13 +9,13 @@ use Rattle.ufs_model.specs.History.{tree_after}
 use Rattle.ufs_model.specs.PosixTree.{PosixTree, desc_at}
 use Rattle.ufs_model.specs.declared.data.Desc.{Desc}
 use Rattle.ufs_model.specs.declared.data.Entry.{Entry}
-use Rattle.ufs_prefix.specs.Changes.{changes_of}
-use Rattle.ufs_sound.specs.Draws.{entry_of}
-use Rattle.ufs_sound.specs.Owned.{Has}
-use Rattle.ufs_sound.specs.Parts.{ClientPart}
-use Rattle.ufs_sound.specs.declared.fresh.Fresh.{Fresh}
-use Rattle.ufs_stored.specs.Known.{Known}
-use Rattle.ufs_kept.specs.Acks.{FilesAreAcknowledged}
+use Rattle.ufs_crash_laws.specs.Changes.{changes_of}
+use Rattle.ufs_hand_laws.specs.Draws.{entry_of}
+use Rattle.ufs_hand_laws.specs.Owned.{Has}
+use Rattle.ufs_hand_laws.specs.Parts.{ClientPart}
+use Rattle.ufs_hand_laws.specs.declared.fresh.Fresh.{Fresh}
+use Rattle.ufs_promise_laws.specs.Known.{Known}
+use Rattle.ufs_joint.specs.Acks.{FilesAreAcknowledged}
 use Rattle.ufs_joint.specs.Cells.{FileCell, View}
 use Rattle.ufs_joint.specs.Draws.{Leaves, MayDraw}
 use Rattle.ufs_joint.specs.FileHands.{AcknowledgementsMayDraw, IsFileHand, MayAcknowledge, same_leaves}

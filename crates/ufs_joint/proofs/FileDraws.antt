@@ -6,10 +6,10 @@ use Rattle.std.specs.FinMap as fin
 use Rattle.std.specs.List.{slice_get}
 use Rattle.std.specs.FinSet as setof
 use Rattle.ufs_bitmap.specs.Blocks.{BlockSet}
-use Rattle.ufs_durable.specs.Serving.{IsApplied}
+use Rattle.ufs_file_commits.specs.Serving.{IsApplied}
 use Rattle.ufs_bitmap.specs.Taking.{has}
-use Rattle.ufs_durable.specs.State.{DurableState, blocks_held}
-use Rattle.ufs_durable.proofs.Requests.{goes_together}
+use Rattle.ufs_file_commits.specs.State.{DurableState, blocks_held}
+use Rattle.ufs_file_commits.proofs.Requests.{goes_together}
 use Rattle.ufs_file.specs.Content.{own_bytes}
 use Rattle.ufs_file.specs.Hand.{FileState, IsFileOf, IsPosix}
 use Rattle.ufs_layout.specs.declared.geometry.Geometry.{Geometry}
@@ -28,22 +28,22 @@ use Rattle.ufs_model.specs.declared.data.Op.TheVariants as op
 use Rattle.ufs_model.specs.declared.data.Reply.{Reply}
 use Rattle.ufs_model.proofs.Facts.Histories.{legal-push, tree_after-push}
 use Rattle.ufs_names.specs.Laws.{KeepsNames}
-use Rattle.ufs_on_disk.proofs.Going.{parts_by_requests}
-use Rattle.ufs_on_disk.proofs.Sound.{sound_by_requests}
-use Rattle.ufs_prefix.specs.Changes.{change_asked, changes_names, changes_of, file_changed, name_changes, names_of}
-use Rattle.ufs_prefix.specs.Steps.{is_served}
-use Rattle.ufs_prefix.proofs.Facts.Histories.{changes_of-push, name_changes-push}
-use Rattle.ufs_sound.specs.Draws.{entry_of}
-use Rattle.ufs_sound.specs.Owned.{Has, count, one}
-use Rattle.ufs_sound.specs.Parts.{ClientPart, OwnFds, only_one}
-use Rattle.ufs_sound.specs.declared.fresh.Fresh.{Fresh}
-use Rattle.ufs_sound.proofs.Drawing.{tells_new}
-use Rattle.ufs_stored.specs.Parts.{Parts, durable_in, with_file}
-use Rattle.ufs_stored.specs.Sound.{IsFileSound, IsSoundServer}
-use Rattle.ufs_stored.proofs.Spaced.{pool_apart}
-use Rattle.ufs_stored.specs.Stored.{ArePartsOf}
-use Rattle.ufs_stored.proofs.FileEntries.{served_goes}
-use Rattle.ufs_kept.specs.Draws.{FileRequestsStayKept}
+use Rattle.ufs_event_laws.proofs.Going.{parts_by_requests}
+use Rattle.ufs_event_laws.proofs.Sound.{sound_by_requests}
+use Rattle.ufs_crash_laws.specs.Changes.{change_asked, changes_names, changes_of, file_changed, name_changes, names_of}
+use Rattle.ufs_crash_laws.specs.Steps.{is_served}
+use Rattle.ufs_crash_laws.proofs.Facts.Histories.{changes_of-push, name_changes-push}
+use Rattle.ufs_hand_laws.specs.Draws.{entry_of}
+use Rattle.ufs_hand_laws.specs.Owned.{Has, count, one}
+use Rattle.ufs_hand_laws.specs.Parts.{ClientPart, OwnFds, only_one}
+use Rattle.ufs_hand_laws.specs.declared.fresh.Fresh.{Fresh}
+use Rattle.ufs_hand_laws.proofs.Drawing.{tells_new}
+use Rattle.ufs_promise_laws.specs.Parts.{Parts, durable_in, with_file}
+use Rattle.ufs_promise_laws.specs.Sound.{IsFileSound, IsSoundServer}
+use Rattle.ufs_promise_laws.proofs.Spaced.{pool_apart}
+use Rattle.ufs_promise_laws.specs.Stored.{ArePartsOf}
+use Rattle.ufs_promise_laws.proofs.FileEntries.{served_goes}
+use Rattle.ufs_joint.specs.KnownDraws.{FileRequestsStayKept}
 use Rattle.ufs_joint.specs.Cells.{FileCell, View}
 use Rattle.ufs_joint.specs.Draws.{DrawsOnDisk, DrawsTo, IsAround, Leaves, MayDraw}
 use Rattle.ufs_joint.specs.FileHands.{FileRequestsMayDraw, IsFileHand, ServesFile, own_desc, served_leaves}

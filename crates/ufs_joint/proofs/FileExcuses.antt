@@ -13,12 +13,12 @@ use Rattle.ufs_model.specs.declared.data.Entry.{Entry}
 use Rattle.ufs_model.specs.declared.data.Excuse.{Excuse}
 use Rattle.ufs_model.specs.declared.data.Op.{Op}
 use Rattle.ufs_model.specs.declared.data.Reply.{Reply}
-use Rattle.ufs_sound.specs.Draws.{entry_of}
-use Rattle.ufs_sound.specs.Owned.{Has}
-use Rattle.ufs_sound.specs.Parts.{ClientPart}
-use Rattle.ufs_sound.specs.declared.fresh.Fresh.{Fresh}
-use Rattle.ufs_stored.specs.Parts.{Parts}
-use Rattle.ufs_kept.specs.Draws.{ExcusesStayKept}
+use Rattle.ufs_hand_laws.specs.Draws.{entry_of}
+use Rattle.ufs_hand_laws.specs.Owned.{Has}
+use Rattle.ufs_hand_laws.specs.Parts.{ClientPart}
+use Rattle.ufs_hand_laws.specs.declared.fresh.Fresh.{Fresh}
+use Rattle.ufs_promise_laws.specs.Parts.{Parts}
+use Rattle.ufs_joint.specs.KnownDraws.{ExcusesStayKept}
 use Rattle.ufs_joint.specs.Cells.{FileCell, View}
 use Rattle.ufs_joint.specs.Draws.{IsAround, MayDraw}
 use Rattle.ufs_joint.specs.FileHands.{ExcusesMayDraw, IsFileHand, MayExcuse, own_desc, same_leaves}

@@ -7,21 +7,21 @@ use Rattle.std.specs.List.{slice_get}
 use Rattle.ufs_bitmap.specs.Blocks.{BlockSet}
 use Rattle.ufs_disk.specs.Disk.{Leaves}
 use Rattle.ufs_disk.specs.Moments.{Passes, all}
-use Rattle.ufs_sound.proofs.Keys.{itself}
+use Rattle.ufs_hand_laws.proofs.Keys.{itself}
 use Rattle.ufs_files.proofs.MapLemmas.{one_or_apart}
 use Rattle.ufs_layout.specs.declared.geometry.Geometry.{Geometry}
 use Rattle.ufs_model.specs.PosixTree.{PosixTree}
 use Rattle.ufs_model.specs.declared.data.Entry.{Entry}
-use Rattle.ufs_on_disk.specs.Syncs.{HasFailed, HasWritten, LeavesStages}
-use Rattle.ufs_sound.specs.Owned.{Has, count, find}
-use Rattle.ufs_sound.specs.Parts.{Cells, only_one}
+use Rattle.ufs_event_laws.specs.Syncs.{HasFailed, HasWritten, LeavesStages}
+use Rattle.ufs_hand_laws.specs.Owned.{Has, count, find}
+use Rattle.ufs_hand_laws.specs.Parts.{Cells, only_one}
 use Rattle.ufs_store.specs.State.{StoreState, geometry_of_store}
-use Rattle.ufs_stored.specs.OnDisk.{IsExplainedBetween, IsExplainedImage}
-use Rattle.ufs_stored.specs.Parts.{Parts, durable_in}
-use Rattle.ufs_stored.specs.Sound.{IsSoundServer}
+use Rattle.ufs_promise_laws.specs.OnDisk.{IsExplainedBetween, IsExplainedImage}
+use Rattle.ufs_promise_laws.specs.Parts.{Parts, durable_in}
+use Rattle.ufs_promise_laws.specs.Sound.{IsSoundServer}
 use Rattle.ufs_joint.specs.Cells.{FileCell, StoreCell, View, store_of, store_since}
 use Rattle.ufs_joint.specs.FileHands.{FailsFile, FileFailuresGoOn, FileFailuresMayEnd, IsAsBegun, IsSyncHand, WentOn, failed_turn}
-use Rattle.ufs_stored.specs.Known.{IsDiskKept, IsKeptGoing, IsMore, Known}
+use Rattle.ufs_promise_laws.specs.Known.{IsDiskKept, IsKeptGoing, IsMore, Known}
 use Rattle.ufs_store_steps.specs.Cells.{cells_of}
 use Rattle.ufs_joint.specs.NoneLost.{IsHad}
 use Rattle.ufs_joint.specs.Turns.{EndsOnDisk, MayEndTurn, Turn, known_by}
@@ -29,8 +29,8 @@ use Rattle.ufs_joint.specs.Whole.{HasCells, HasFileCell, birth_known, changes_kn
 use Rattle.ufs_joint.proofs.FileTurns.{or_none}
 use Rattle.ufs_joint.proofs.Disks.{among, drop_behind, nothing_behind}
 use Rattle.ufs_joint.proofs.Kept.{kept_going, since_kept}
-use Rattle.ufs_kept.specs.Files.{FailedFilesStayKept, FilesAreExplained, IsBornHere, WrittenFilesStayKept}
-use Rattle.ufs_kept.proofs.Forgetting.{less_is_kept}
+use Rattle.ufs_joint.specs.Files.{FailedFilesStayKept, FilesAreExplained, IsBornHere, WrittenFilesStayKept}
+use Rattle.ufs_joint.proofs.Forgetting.{less_is_kept}
 use Rattle.ufs_joint.proofs.OneFile.{durable_is, none_here, one_here, only_here, same_file_goes}
 
 module _ (fails_known : FailedFilesStayKept) (g : Geometry) (writes_known : WrittenFilesStayKept g) (explains : FilesAreExplained g)

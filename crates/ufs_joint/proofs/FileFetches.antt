@@ -6,44 +6,44 @@ use Rattle.std.specs.List.{slice_get}
 use Rattle.ufs_bitmap.specs.Blocks.{BlockSet}
 use Rattle.ufs_disk.specs.Disk.{Leaves}
 use Rattle.ufs_disk.specs.Moments.{Passes, all}
-use Rattle.ufs_sound.proofs.Keys.{itself}
+use Rattle.ufs_hand_laws.proofs.Keys.{itself}
 use Rattle.ufs_files.proofs.MapLemmas.{one_or_apart}
 use Rattle.ufs_layout.specs.declared.geometry.Geometry.{Geometry}
 use Rattle.ufs_model.specs.PosixTree.{PosixTree}
 use Rattle.ufs_model.specs.declared.data.Entry.{Entry}
-use Rattle.ufs_sound.specs.Owned.{Has, count, find}
-use Rattle.ufs_sound.specs.Parts.{Cells, only_one}
+use Rattle.ufs_hand_laws.specs.Owned.{Has, count, find}
+use Rattle.ufs_hand_laws.specs.Parts.{Cells, only_one}
 use Rattle.ufs_store.specs.State.{StoreState, geometry_of_store}
-use Rattle.ufs_stored.specs.OnDisk.{IsExplainedBetween, IsExplainedImage}
-use Rattle.ufs_stored.specs.Parts.{Parts, durable_in, with_file}
-use Rattle.ufs_stored.specs.Sound.{IsSoundServer}
+use Rattle.ufs_promise_laws.specs.OnDisk.{IsExplainedBetween, IsExplainedImage}
+use Rattle.ufs_promise_laws.specs.Parts.{Parts, durable_in, with_file}
+use Rattle.ufs_promise_laws.specs.Sound.{IsSoundServer}
 use Rattle.ufs_joint.specs.Cells.{FileCell, StoreCell, View, store_of, store_since}
 use Rattle.ufs_joint.specs.FileHands.{FetchesFile, FileFetchesGoOn, FileFetchesMayEnd, IsAsBegun, IsFetchHand, WentOn, fetched_turn}
-use Rattle.ufs_stored.specs.Known.{IsDiskKept, IsMore, Known}
+use Rattle.ufs_promise_laws.specs.Known.{IsDiskKept, IsMore, Known}
 use Rattle.ufs_store_steps.specs.Cells.{cells_of}
 use Rattle.ufs_joint.specs.Turns.{EndsOnDisk, MayEndTurn, Turn, known_by}
 use Rattle.ufs_joint.specs.Whole.{HasCells, HasFileCell, birth_known, changes_known, file_changes_at}
 use Rattle.ufs_joint.proofs.Blocks.{or_cases}
-use Rattle.ufs_kept.specs.Files.{FetchesStayKept}
+use Rattle.ufs_joint.specs.Files.{FetchesStayKept}
 use Rattle.ufs_joint.proofs.FileTurns.{or_none}
 use Rattle.ufs_file.specs.Content.{IsContentOf, own_bytes}
-use Rattle.ufs_alike.proofs.BlockLemmas.{own_of_content}
-use Rattle.ufs_stored.proofs.Whole.{tree_may}
+use Rattle.ufs_bytes_laws.proofs.BlockLemmas.{own_of_content}
+use Rattle.ufs_promise_laws.proofs.Whole.{tree_may}
 use Rattle.ufs_joint.specs.Picks.{HasPicked, IsUnpicked, Pick, bytes_at, pick_at}
 use Rattle.ufs_joint.proofs.Reading.{as_long, content_read, picks_once, read_has, read_is, unpicked, was_absent}
 use Rattle.ufs_file.specs.Hand.{FileState}
 use Rattle.ufs_model.specs.FileBytes.{bytes_of}
-use Rattle.ufs_on_disk.specs.Fetches.{FetchesAreExplained, FetchesReadTheTree, PartsByFetches, SoundByFetches, with_read}
+use Rattle.ufs_event_laws.specs.Fetches.{FetchesAreExplained, FetchesReadTheTree, PartsByFetches, SoundByFetches, with_read}
 use Rattle.ufs_joint.proofs.Disks.{among, drop_behind}
 use Rattle.ufs_joint.proofs.Kept.{since_kept}
-use Rattle.ufs_kept.proofs.Forgetting.{less_is_kept}
-use Rattle.ufs_stored.proofs.Known.{on_disk_of}
+use Rattle.ufs_joint.proofs.Forgetting.{less_is_kept}
+use Rattle.ufs_promise_laws.proofs.Known.{on_disk_of}
 use Rattle.ufs_joint.proofs.OneFile.{durable_is, none_here, one_here, one_file_goes, only_here}
 use Rattle.ufs_files.specs.Files.{AreNumbered}
-use Rattle.ufs_stored.specs.Stored.{ArePartsOf}
+use Rattle.ufs_promise_laws.specs.Stored.{ArePartsOf}
 use Rattle.ufs_model.specs.History.{tree_after}
 use Rattle.ufs_bitmap.specs.Taking.{has}
-use Rattle.ufs_durable.specs.State.{DurableState, blocks_held}
+use Rattle.ufs_file_commits.specs.State.{DurableState, blocks_held}
 use Rattle.ufs_joint.specs.NoneLost.{IsHad}
 use Rattle.ufs_joint.proofs.NoneLost.{file_keeps}
 

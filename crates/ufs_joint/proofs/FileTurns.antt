@@ -9,37 +9,37 @@ use Rattle.ufs_bitmap.specs.Blocks.{BlockSet}
 use Rattle.ufs_bitmap.specs.Taking.{has, set_of}
 use Rattle.ufs_disk.specs.Disk.{Leaves}
 use Rattle.ufs_disk.specs.Moments.{Passes, all}
-use Rattle.ufs_sound.proofs.Keys.{itself}
-use Rattle.ufs_durable.specs.State.{DurableState, blocks_held, file_committed}
+use Rattle.ufs_hand_laws.proofs.Keys.{itself}
+use Rattle.ufs_file_commits.specs.State.{DurableState, blocks_held, file_committed}
 use Rattle.ufs_files.specs.Files.{AreNumbered}
 use Rattle.ufs_files.proofs.MapLemmas.{one_or_apart}
 use Rattle.ufs_layout.specs.declared.geometry.Geometry.{Geometry}
 use Rattle.ufs_model.specs.History.{tree_after}
 use Rattle.ufs_model.specs.PosixTree.{PosixTree}
 use Rattle.ufs_model.specs.declared.data.Entry.{Entry}
-use Rattle.ufs_on_disk.specs.Syncs.{HasSynced, LeavesStages}
-use Rattle.ufs_on_disk.proofs.Sound.{sound_by_syncs}
-use Rattle.ufs_prefix.specs.Changes.{changes_of}
-use Rattle.ufs_sound.specs.Owned.{Has, count, find}
-use Rattle.ufs_sound.specs.Parts.{Cells, only_one}
+use Rattle.ufs_event_laws.specs.Syncs.{HasSynced, LeavesStages}
+use Rattle.ufs_event_laws.proofs.Sound.{sound_by_syncs}
+use Rattle.ufs_crash_laws.specs.Changes.{changes_of}
+use Rattle.ufs_hand_laws.specs.Owned.{Has, count, find}
+use Rattle.ufs_hand_laws.specs.Parts.{Cells, only_one}
 use Rattle.ufs_store.specs.State.{StoreState, geometry_of_store}
-use Rattle.ufs_stored.specs.OnDisk.{IsExplainedBetween, IsExplainedImage}
-use Rattle.ufs_stored.specs.Parts.{Parts, durable_in, with_file}
-use Rattle.ufs_stored.specs.Sound.{IsSoundServer}
-use Rattle.ufs_stored.specs.Stored.{ArePartsOf}
-use Rattle.ufs_stored.proofs.FileEntries.{parts_now}
-use Rattle.ufs_stored.proofs.Whole.{cleaned_stays}
+use Rattle.ufs_promise_laws.specs.OnDisk.{IsExplainedBetween, IsExplainedImage}
+use Rattle.ufs_promise_laws.specs.Parts.{Parts, durable_in, with_file}
+use Rattle.ufs_promise_laws.specs.Sound.{IsSoundServer}
+use Rattle.ufs_promise_laws.specs.Stored.{ArePartsOf}
+use Rattle.ufs_promise_laws.proofs.FileEntries.{parts_now}
+use Rattle.ufs_promise_laws.proofs.Whole.{cleaned_stays}
 use Rattle.ufs_joint.specs.Cells.{FileCell, StoreCell, View, store_of, store_since}
 use Rattle.ufs_joint.specs.FileHands.{CommitsFile, FileCommitsGoOn, FileCommitsMayEnd, IsAsBegun, IsSyncHand, WentOn, committed_turn}
-use Rattle.ufs_stored.specs.Known.{IsDiskKept, IsKeptGoing, IsMore, Known, with_file_known}
+use Rattle.ufs_promise_laws.specs.Known.{IsDiskKept, IsKeptGoing, IsMore, Known, with_file_known}
 use Rattle.ufs_joint.specs.Sound.{IsExplainedState}
 use Rattle.ufs_store_steps.specs.Cells.{cells_of}
 use Rattle.ufs_joint.specs.Turns.{EndsOnDisk, MayEndTurn, Turn, known_by}
 use Rattle.ufs_joint.specs.Whole.{HasCells, HasFileCell, birth_known, changes_known, file_changes_at}
 use Rattle.ufs_joint.proofs.Disks.{among, drop_behind}
 use Rattle.ufs_joint.proofs.Kept.{kept_going, since_kept}
-use Rattle.ufs_kept.specs.Files.{FilesAreExplained, FilesAreKnown, IsBornHere}
-use Rattle.ufs_kept.proofs.Forgetting.{less_is_kept}
+use Rattle.ufs_joint.specs.Files.{FilesAreExplained, FilesAreKnown, IsBornHere}
+use Rattle.ufs_joint.proofs.Forgetting.{less_is_kept}
 use Rattle.ufs_ledger.specs.Laws.{raised}
 use Rattle.ufs_joint.specs.NoneLost.{IsHad}
 use Rattle.ufs_joint.proofs.NoneLost.{commit_keeps, file_keeps}

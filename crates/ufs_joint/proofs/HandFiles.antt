@@ -4,7 +4,7 @@ use Rattle.std.specs.FinMap as fin
 use Rattle.ufs_file.specs.Hand.{FileState}
 use Rattle.ufs_files.specs.Files.{AreFilesOf, AreSizedAs, Files}
 use Rattle.ufs_model.specs.PosixTree.{PosixTree}
-use Rattle.ufs_stored.specs.Parts.{Commits, Parts}
+use Rattle.ufs_promise_laws.specs.Parts.{Commits, Parts}
 use Rattle.ufs_joint.specs.Cells.{View}
 use Rattle.ufs_joint.specs.NamesHands.{AreFilesOfCells}
 use Rattle.ufs_joint.specs.Whole.{HasCells}

@@ -6,13 +6,13 @@ use Rattle.std.specs.FinSet as setof
 use Rattle.ufs_bitmap.specs.Blocks.{BlockSet}
 use Rattle.ufs_model.specs.History.{tree_after}
 use Rattle.ufs_names.specs.NamesPart.{NamesPart}
-use Rattle.ufs_on_disk.specs.Requests.{with_free}
-use Rattle.ufs_on_disk.proofs.Sound.{sound_by_free_blocks}
-use Rattle.ufs_sound.specs.Owned.{Has}
-use Rattle.ufs_stored.specs.Laws.{MovesBlocks}
+use Rattle.ufs_event_laws.specs.FileRequests.{with_free}
+use Rattle.ufs_event_laws.proofs.Sound.{sound_by_free_blocks}
+use Rattle.ufs_hand_laws.specs.Owned.{Has}
+use Rattle.ufs_promise_laws.specs.Laws.{MovesBlocks}
 use Rattle.ufs_joint.specs.Cells.{NamesCell, Start, StoreCell, View, Word, World, store_of}
 use Rattle.ufs_joint.specs.Draws.{IsAround}
-use Rattle.ufs_stored.specs.Known.{IsDiskKept}
+use Rattle.ufs_promise_laws.specs.Known.{IsDiskKept}
 use Rattle.ufs_joint.specs.Known.{Knows, KnowsDisk}
 use Rattle.ufs_joint.specs.Laws.{HandsKnow}
 use Rattle.ufs_joint.specs.Sound.{IsSound}
@@ -21,7 +21,7 @@ use Rattle.ufs_joint.proofs.Blocks.{difference_in, not_in, or_left, or_right, ta
 use Rattle.ufs_joint.proofs.Exchange.{names_are, store_is}
 use Rattle.ufs_joint.proofs.FaultsTold.{untold}
 use Rattle.ufs_joint.proofs.Few.{few, few_files}
-use Rattle.ufs_kept.proofs.Pools.{pools_stay}
+use Rattle.ufs_joint.proofs.Pools.{pools_stay}
 use Rattle.ufs_joint.proofs.Parting.{cells_there, other_pool, own_free, own_not_store, same_cells}
 use Rattle.ufs_joint.proofs.TurnEnding.{lends_all}
 

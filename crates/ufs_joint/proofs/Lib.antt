@@ -35,3 +35,25 @@ pub mod Knowing
 pub mod Moving
 pub mod Telling
 pub mod Ruling
+pub mod Covering
+pub mod Drawing
+mod Everything
+mod Acks
+mod Draws
+mod Stages
+mod Born
+mod Meanwhile
+mod Failing
+mod Syncing
+mod Writing
+pub mod Forgetting
+pub mod Pools
+mod Fetching
+mod Lent
+mod Beside
+mod More
+mod FreeBlocks
+mod Lists
+mod Trees
+mod Commits
+mod Beginning

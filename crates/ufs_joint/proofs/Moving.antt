@@ -5,10 +5,10 @@ use native.Mathlib.Decide.{dec_le}
 use lib.ListN.{get_elem?}
 use Rattle.std.specs.FinSet as setof
 use Rattle.ufs_bitmap.specs.Blocks.{BlockSet}
-use Rattle.ufs_sound.specs.Owned.{Has, count, replaced}
-use Rattle.ufs_sound.specs.Parts.{only_one}
-use Rattle.ufs_sound.proofs.Keys.{alike, itself}
-use Rattle.ufs_sound.proofs.Owning.{all_set, has_count, replaced_back, replaced_else, replaced_here, replaced_present, same_holds, same_some}
+use Rattle.ufs_hand_laws.specs.Owned.{Has, count, replaced}
+use Rattle.ufs_hand_laws.specs.Parts.{only_one}
+use Rattle.ufs_hand_laws.proofs.Keys.{alike, itself}
+use Rattle.ufs_hand_laws.proofs.Owning.{all_set, has_count, replaced_back, replaced_else, replaced_here, replaced_present, same_holds, same_some}
 use Rattle.ufs_store.specs.State.{geometry_of_store}
 use Rattle.ufs_joint.specs.Cells.{Start, StoreCell, View, Word, World, store_of}
 use Rattle.ufs_joint.specs.Laws.{BlocksMoveKeeps}

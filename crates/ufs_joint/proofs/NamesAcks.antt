@@ -11,13 +11,13 @@ use Rattle.ufs_model.specs.PosixTree.{PosixTree, desc_at}
 use Rattle.ufs_model.specs.declared.data.Desc.{Desc}
 use Rattle.ufs_model.specs.declared.data.Entry.{Entry}
 use Rattle.ufs_names.specs.NamesPart.{NamesPart}
-use Rattle.ufs_sound.specs.Draws.{entry_of}
-use Rattle.ufs_sound.specs.Owned.{Has}
-use Rattle.ufs_sound.specs.Parts.{ClientPart}
-use Rattle.ufs_sound.specs.declared.fresh.Fresh.{Fresh}
-use Rattle.ufs_stored.specs.Known.{AreNamesKnown, IsAllKnown, Known}
-use Rattle.ufs_stored.specs.Parts.{Parts}
-use Rattle.ufs_kept.specs.Acks.{AllIsAcknowledged, DirsAreAcknowledged}
+use Rattle.ufs_hand_laws.specs.Draws.{entry_of}
+use Rattle.ufs_hand_laws.specs.Owned.{Has}
+use Rattle.ufs_hand_laws.specs.Parts.{ClientPart}
+use Rattle.ufs_hand_laws.specs.declared.fresh.Fresh.{Fresh}
+use Rattle.ufs_promise_laws.specs.Known.{AreNamesKnown, IsAllKnown, Known}
+use Rattle.ufs_promise_laws.specs.Parts.{Parts}
+use Rattle.ufs_joint.specs.Acks.{AllIsAcknowledged, DirsAreAcknowledged}
 use Rattle.ufs_joint.specs.Cells.{NamesCell, View}
 use Rattle.ufs_joint.specs.Draws.{MayDraw}
 use Rattle.ufs_joint.specs.NamesHands.{DirAcknowledgementsMayDraw, IsNamesHand, IsNextOf, MayAcknowledgeAll, MayAcknowledgeDir, SyncsMayDraw, still_leaves}

@@ -10,7 +10,7 @@ use Rattle.std.specs.FinSet as setof
 use Rattle.std.proofs.lemmas.Bool.Decides.{nat_tests}
 use Rattle.ufs_bitmap.specs.Blocks.{BlockSet}
 use Rattle.ufs_bitmap.specs.Taking.{has}
-use Rattle.ufs_durable.specs.State.{CommitState, DurableState, blocks_held, state_of}
+use Rattle.ufs_file_commits.specs.State.{CommitState, DurableState, blocks_held, state_of}
 use Rattle.ufs_extent.specs.Runs.{blocks_of}
 use Rattle.ufs_file.specs.Content.{own_bytes}
 use Rattle.ufs_file.specs.Hand.{FileState}
@@ -31,30 +31,30 @@ use Rattle.ufs_model.proofs.Facts.Live.{number_is}
 use Rattle.ufs_model.proofs.Facts.Lookups.{from_some, inserted_else, inserted_here, removed_else, removed_here, same_some, there_or_not}
 use Rattle.ufs_names.specs.Calls.{FilesGoOn, HasNoByte, IsAsked, IsServed, IsTouched}
 use Rattle.ufs_names.specs.NamesPart.{IsNamesPart, NamesPart}
-use Rattle.ufs_names_stored.specs.Laws.{RequestsAreSound, RequestsGoOn}
-use Rattle.ufs_names_stored.specs.Requests.{IsNamesRequest}
-use Rattle.ufs_names_stored.specs.Serving.{HasLeft, HasServed, HasSettled, ServedIsRequest, emptied_commits}
-use Rattle.ufs_prefix.specs.Changes.{change_asked, change_of, changes_of, file_changed, name_changes}
-use Rattle.ufs_prefix.specs.Steps.{is_served}
-use Rattle.ufs_prefix.specs.declared.data.FileChange.{FileChange}
+use Rattle.ufs_event_laws.specs.Laws.{RequestsAreSound, RequestsGoOn}
+use Rattle.ufs_event_laws.specs.Requests.{IsNamesRequest}
+use Rattle.ufs_event_laws.specs.Serving.{HasLeft, HasServed, HasSettled, ServedIsRequest, emptied_commits}
+use Rattle.ufs_crash_laws.specs.Changes.{change_asked, change_of, changes_of, file_changed, name_changes}
+use Rattle.ufs_crash_laws.specs.Steps.{is_served}
+use Rattle.ufs_crash_laws.specs.declared.data.FileChange.{FileChange}
 use Rattle.ufs_model.specs.PosixTree.{is_number}
-use Rattle.ufs_prefix.proofs.Facts.Contents.{changed_live}
-use Rattle.ufs_prefix.proofs.Facts.Histories.{changes_of-push}
-use Rattle.ufs_sound.specs.Draws.{entry_of}
-use Rattle.ufs_sound.specs.Owned.{Has, count, find}
-use Rattle.ufs_sound.specs.Parts.{ClientPart, OwnFds, only_one}
-use Rattle.ufs_sound.specs.declared.fresh.Fresh.{Fresh}
-use Rattle.ufs_sound.proofs.Drawing.{tells_new}
-use Rattle.ufs_sound.proofs.Keys.{alike, itself}
-use Rattle.ufs_sound.proofs.Owning.{count_has, find_has, has_count, has_find}
+use Rattle.ufs_crash_laws.proofs.Facts.Contents.{changed_live}
+use Rattle.ufs_crash_laws.proofs.Facts.Histories.{changes_of-push}
+use Rattle.ufs_hand_laws.specs.Draws.{entry_of}
+use Rattle.ufs_hand_laws.specs.Owned.{Has, count, find}
+use Rattle.ufs_hand_laws.specs.Parts.{ClientPart, OwnFds, only_one}
+use Rattle.ufs_hand_laws.specs.declared.fresh.Fresh.{Fresh}
+use Rattle.ufs_hand_laws.proofs.Drawing.{tells_new}
+use Rattle.ufs_hand_laws.proofs.Keys.{alike, itself}
+use Rattle.ufs_hand_laws.proofs.Owning.{count_has, find_has, has_count, has_find}
 use Rattle.ufs_store.specs.State.{StoreState, geometry_of_store}
-use Rattle.ufs_stored.specs.Known.{IsDiskKept, Known}
-use Rattle.ufs_stored.specs.Parts.{Commits, Parts, committed_as, durable_in}
-use Rattle.ufs_stored.specs.Sound.{IsSoundServer}
-use Rattle.ufs_stored.specs.Stored.{ArePartsOf}
-use Rattle.ufs_stored.proofs.FileEntries.{served_goes}
-use Rattle.ufs_kept.specs.Beside.{FilesStayBeside}
-use Rattle.ufs_kept.specs.Lent.{AreLent, HasServedLent, LentIsServed, LentRequestsStayKept}
+use Rattle.ufs_promise_laws.specs.Known.{IsDiskKept, Known}
+use Rattle.ufs_promise_laws.specs.Parts.{Commits, Parts, committed_as, durable_in}
+use Rattle.ufs_promise_laws.specs.Sound.{IsSoundServer}
+use Rattle.ufs_promise_laws.specs.Stored.{ArePartsOf}
+use Rattle.ufs_promise_laws.proofs.FileEntries.{served_goes}
+use Rattle.ufs_joint.specs.Beside.{FilesStayBeside}
+use Rattle.ufs_joint.specs.Lent.{AreLent, HasServedLent, LentIsServed, LentRequestsStayKept}
 use Rattle.ufs_joint.specs.Cells.{FileCell, NamesCell, View}
 use Rattle.ufs_joint.specs.Draws.{DrawsOnDisk, DrawsTo, IsAround, IsUnknown, Leaves, MayDraw}
 use Rattle.ufs_joint.specs.NamesHands.{Changes, IsNamesHand, IsNew, IsNextCell, IsNextOf, NamesRequestsMayDraw, ServesNames, Serving, Stays, names_leaves, own_parts}

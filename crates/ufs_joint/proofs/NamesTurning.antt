@@ -18,19 +18,19 @@ use Rattle.ufs_model.specs.PosixTree.{PosixTree}
 use Rattle.ufs_model.specs.declared.data.Entry.{Entry}
 use Rattle.ufs_name_tree.specs.NameTable.{IsNameTable}
 use Rattle.ufs_names.specs.NamesPart.{NamesPart}
-use Rattle.ufs_prefix.specs.Changes.{name_changes}
-use Rattle.ufs_sound.specs.Owned.{Has, count}
-use Rattle.ufs_sound.specs.Parts.{Cells, only_one}
+use Rattle.ufs_crash_laws.specs.Changes.{name_changes}
+use Rattle.ufs_hand_laws.specs.Owned.{Has, count}
+use Rattle.ufs_hand_laws.specs.Parts.{Cells, only_one}
 use Rattle.ufs_store.specs.State.{StoreState, geometry_of_store}
 use Rattle.ufs_store_steps.specs.Cells.{cells_of}
-use Rattle.ufs_stored.specs.Known.{IsDiskKept, IsKeptGoing, IsMore, Known, with_names_known}
-use Rattle.ufs_stored.specs.Laws.{with_names_committed}
-use Rattle.ufs_stored.specs.OnDisk.{IsExplainedBetween, IsExplainedImage}
-use Rattle.ufs_stored.specs.Parts.{Commits, Parts}
-use Rattle.ufs_stored.specs.Sound.{IsSoundServer}
-use Rattle.ufs_stored.specs.Stored.{ArePartsOf}
-use Rattle.ufs_stored.proofs.Unfresh.{parts_committed, sound_committed}
-use Rattle.ufs_kept.proofs.Forgetting.{less_is_kept}
+use Rattle.ufs_promise_laws.specs.Known.{IsDiskKept, IsKeptGoing, IsMore, Known, with_names_known}
+use Rattle.ufs_promise_laws.specs.Laws.{with_names_committed}
+use Rattle.ufs_promise_laws.specs.OnDisk.{IsExplainedBetween, IsExplainedImage}
+use Rattle.ufs_promise_laws.specs.Parts.{Commits, Parts}
+use Rattle.ufs_promise_laws.specs.Sound.{IsSoundServer}
+use Rattle.ufs_promise_laws.specs.Stored.{ArePartsOf}
+use Rattle.ufs_promise_laws.proofs.Unfresh.{parts_committed, sound_committed}
+use Rattle.ufs_joint.proofs.Forgetting.{less_is_kept}
 use Rattle.ufs_joint.specs.Cells.{FileCell, NamesCell, StoreCell, View, store_of, store_since}
 use Rattle.ufs_joint.specs.FileHands.{IsAsBegun, WentOn}
 use Rattle.ufs_joint.specs.NamesTurns.{CommitsNames, FailsNames, HasFailedNames, HaveNoted, IsNamesSyncHand, NamesCommitsGoOn, NamesCommitsMayEnd, NamesFailuresGoOn, NamesFailuresMayEnd, committed_names_turn, failed_names_turn, live_files, names_committed}

@@ -5,7 +5,7 @@ use Rattle.std.specs.FinSet as set
 use Rattle.ufs_bitmap.specs.Blocks.{BlockSet}
 use Rattle.ufs_bitmap.specs.Taking.{has, set_of}
 use Rattle.ufs_dir_tree.specs.DirTable.{blocks_at}
-use Rattle.ufs_durable.specs.State.{DurableState, blocks_held, file_committed}
+use Rattle.ufs_file_commits.specs.State.{DurableState, blocks_held, file_committed}
 use Rattle.ufs_extent.specs.Runs.{blocks_of}
 use Rattle.ufs_file.specs.Hand.{FileState}
 use Rattle.ufs_files.specs.Files.{AreNumbered}
@@ -13,10 +13,10 @@ use Rattle.ufs_files.proofs.MapLemmas.{one_or_apart}
 use Rattle.ufs_model.specs.PosixTree.{PosixTree}
 use Rattle.ufs_model.proofs.Facts.Lookups.{same_some, there_or_not}
 use Rattle.ufs_names.specs.Space as space
-use Rattle.ufs_names_stored.specs.Requests.{IsNamesRequest, StaysOrEmptied, emptied}
-use Rattle.ufs_names_stored.proofs.Blocks.{at_from, at_there, has_same, held_case, held_dropped, held_own}
-use Rattle.ufs_stored.specs.Parts.{FileOwns, Parts, durable_in, with_file}
-use Rattle.ufs_stored.proofs.Puts.{durable_else, durable_here, here, other_file}
+use Rattle.ufs_event_laws.specs.Requests.{IsNamesRequest, StaysOrEmptied, emptied}
+use Rattle.ufs_event_laws.proofs.Blocks.{at_from, at_there, has_same, held_case, held_dropped, held_own}
+use Rattle.ufs_promise_laws.specs.Parts.{FileOwns, Parts, durable_in, with_file}
+use Rattle.ufs_promise_laws.proofs.Puts.{durable_else, durable_here, here, other_file}
 use Rattle.ufs_joint.specs.NoneLost.{IsDropped, IsFree, IsHad, OfDir, OfFile, OfPool}
 use Rattle.ufs_joint.proofs.Blocks.{union_left, union_right}
 

@@ -2,15 +2,15 @@
 use Rattle.std.proofs.Common.{◌≡◌, ◌⊎◌, inl, inr, ℕ, zero, suc, ◌*◌, ◌-◌, ◌≤◌, ◌<◌, Bool, true, false, Some, None, List, [], ◌∷◌, ◌++◌, drop, length, min, replicate, take, ap, sym, refl, ◌∙◌, subst, arith}
 use Rattle.std.specs.Prelude.{slice_get}
 use Rattle.std.proofs.lemmas.List.{drop_at, length-replicate, take_all}
-use Rattle.ufs_alike.specs.Alike.{AreAlike}
-use Rattle.ufs_alike.proofs.BlockLemmas.{length-own, own_next}
-use Rattle.ufs_alike.proofs.BlockTreeLemmas.{blocks_alike, blocks_else, blocks_marked, blocks_same, with_blocks}
-use Rattle.ufs_alike.proofs.MergedLemmas.{AreAsMany}
-use Rattle.ufs_alike.proofs.TreeLemmas.{itself, through}
+use Rattle.ufs_bytes_laws.specs.Alike.{AreAlike}
+use Rattle.ufs_bytes_laws.proofs.BlockLemmas.{length-own, own_next}
+use Rattle.ufs_bytes_laws.proofs.BlockTreeLemmas.{blocks_alike, blocks_else, blocks_marked, blocks_same, with_blocks}
+use Rattle.ufs_bytes_laws.proofs.MergedLemmas.{AreAsMany}
+use Rattle.ufs_bytes_laws.proofs.TreeLemmas.{itself, through}
 use Rattle.ufs_file.specs.Content.{own_bytes}
 use Rattle.ufs_model.specs.FileBytes.{bytes_of}
 use Rattle.ufs_model.specs.PosixTree.{PosixTree}
-use Rattle.ufs_sound.specs.Owned.{Has}
+use Rattle.ufs_hand_laws.specs.Owned.{Has}
 use Rattle.ufs_joint.specs.Picks.{ArePicksOnce, HasPicked, IsUnpicked, Pick, bytes_at}
 
 -- ---- one block

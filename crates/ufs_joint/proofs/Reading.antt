@@ -2,13 +2,13 @@
 use Rattle.std.proofs.Common.{◌≡◌, ℕ, zero, suc, ◌+◌, ◌*◌, ◌-◌, ◌<◌, ◌⊎◌, inl, inr, Bool, true, false, min, List, [], ◌∷◌, length, Option, Some, None, sym, refl, ap, ◌∙◌, subst, arith}
 use Rattle.std.specs.Prelude.{slice_get}
 use Rattle.std.proofs.lemmas.Option.{slice_get-get_or, slice_get_within}
-use Rattle.ufs_alike.proofs.BlockLemmas.{content_of_own, length-own, own_of_content}
+use Rattle.ufs_bytes_laws.proofs.BlockLemmas.{content_of_own, length-own, own_of_content}
 use Rattle.ufs_file.specs.Content.{IsContentOf, own_bytes}
 use Rattle.ufs_file.specs.Hand.{FileState}
 use Rattle.ufs_file.proofs.UnreadLemmas.{content_itself}
 use Rattle.ufs_model.specs.FileBytes.{bytes_of}
 use Rattle.ufs_model.specs.PosixTree.{PosixTree}
-use Rattle.ufs_sound.specs.Owned.{Has}
+use Rattle.ufs_hand_laws.specs.Owned.{Has}
 use Rattle.ufs_joint.specs.FileHands.{IsFurther}
 use Rattle.ufs_joint.specs.Picks.{ArePicksOnce, HasPicked, IsUnpicked, Pick, pick_at, picks_from}
 

@@ -17,24 +17,24 @@ use Rattle.ufs_model.specs.PosixTree.{PosixTree}
 use Rattle.ufs_model.specs.declared.data.Entry.{Entry}
 use Rattle.ufs_model.proofs.Facts.Lookups.{same_some}
 use Rattle.ufs_names.specs.NamesPart.{NamesPart}
-use Rattle.ufs_on_disk.specs.Requests.{with_free}
-use Rattle.ufs_on_disk.proofs.Sound.{sound_by_free_blocks}
-use Rattle.ufs_sound.specs.Owned.{Has, count, find}
-use Rattle.ufs_sound.specs.Parts.{Cells, only_one}
-use Rattle.ufs_sound.proofs.Keys.{alike, itself}
-use Rattle.ufs_sound.proofs.Owning.{find_has, has_count, has_find}
+use Rattle.ufs_event_laws.specs.FileRequests.{with_free}
+use Rattle.ufs_event_laws.proofs.Sound.{sound_by_free_blocks}
+use Rattle.ufs_hand_laws.specs.Owned.{Has, count, find}
+use Rattle.ufs_hand_laws.specs.Parts.{Cells, only_one}
+use Rattle.ufs_hand_laws.proofs.Keys.{alike, itself}
+use Rattle.ufs_hand_laws.proofs.Owning.{find_has, has_count, has_find}
 use Rattle.ufs_store.specs.State.{StoreState, geometry_of_store}
 use Rattle.ufs_store_steps.specs.Cells.{cells_of}
-use Rattle.ufs_stored.specs.AlwaysLaws.{CheckpointsAreExplained}
-use Rattle.ufs_stored.specs.Known.{IsDiskKept, IsKeptGoing, IsMore, Known}
-use Rattle.ufs_stored.specs.Laws.{EmptiedIsStored, MovesBlocks}
-use Rattle.ufs_stored.specs.OnDisk.{IsExplainedBetween, IsExplainedImage}
-use Rattle.ufs_stored.specs.Parts.{Commits, Parts, TheNames, ThePool, Unassigned, durable_in}
-use Rattle.ufs_stored.specs.Sound.{IsSoundServer}
-use Rattle.ufs_stored.specs.Stored.{ArePartsOf}
-use Rattle.ufs_synced.specs.Laws.{DroppedIsReclaimedKept, HasNothingTaken, IsBeside, KeepsItsBlocks, ReclaimedIsSound, with_reclaimed}
-use Rattle.ufs_kept.proofs.Forgetting.{less_is_kept}
-use Rattle.ufs_kept.proofs.Pools.{pools_stay}
+use Rattle.ufs_promise_laws.specs.AlwaysLaws.{CheckpointsAreExplained}
+use Rattle.ufs_promise_laws.specs.Known.{IsDiskKept, IsKeptGoing, IsMore, Known}
+use Rattle.ufs_promise_laws.specs.Laws.{EmptiedIsStored, MovesBlocks}
+use Rattle.ufs_promise_laws.specs.OnDisk.{IsExplainedBetween, IsExplainedImage}
+use Rattle.ufs_promise_laws.specs.Parts.{Commits, Parts, TheNames, ThePool, Unassigned, durable_in}
+use Rattle.ufs_promise_laws.specs.Sound.{IsSoundServer}
+use Rattle.ufs_promise_laws.specs.Stored.{ArePartsOf}
+use Rattle.ufs_names_commit.specs.Laws.{DroppedIsReclaimedKept, HasNothingTaken, IsBeside, KeepsItsBlocks, ReclaimedIsSound, with_reclaimed}
+use Rattle.ufs_joint.proofs.Forgetting.{less_is_kept}
+use Rattle.ufs_joint.proofs.Pools.{pools_stay}
 use Rattle.ufs_joint.specs.Cells.{FileCell, NamesCell, StoreCell, View, store_of, store_since}
 use Rattle.ufs_joint.specs.Checkpoints.{HasBegunAnew, MakesCheckpoint}
 use Rattle.ufs_joint.specs.FileHands.{IsAsBegun, WentOn}

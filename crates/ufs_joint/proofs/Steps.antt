@@ -7,18 +7,18 @@ use lib.ListN.{get_elem?}
 use Rattle.atomic_table.proofs.Lists.{set_else}
 use Rattle.ufs_model.specs.declared.data.Entry.{Entry}
 use Rattle.ufs_model.specs.declared.data.Op.{Op}
-use Rattle.ufs_on_disk.specs.Requests.{with_free}
-use Rattle.ufs_sound.specs.Asked.{IsAnswered, IsStill}
-use Rattle.ufs_sound.specs.Marks.{asked_by, asking_asked, asking_client}
-use Rattle.ufs_sound.specs.Owned.{Has, Held, count, one, present, replaced}
-use Rattle.ufs_sound.specs.Parts.{AskedPart, Cells, ClientPart, Stretch, is_asked, is_client, is_file, is_names, is_store, later, only_one}
-use Rattle.ufs_sound.proofs.Keys.{alike, itself, one_alike, one_itself}
-use Rattle.ufs_sound.proofs.Owning.{all_set, all_split, count_has, cut_holds, has_each, join_holds, once_in, replaced_back, replaced_present, same_holds, same_some, weigh_each}
+use Rattle.ufs_event_laws.specs.FileRequests.{with_free}
+use Rattle.ufs_hand_laws.specs.Asked.{IsAnswered, IsStill}
+use Rattle.ufs_hand_laws.specs.Marks.{asked_by, asking_asked, asking_client}
+use Rattle.ufs_hand_laws.specs.Owned.{Has, Held, count, one, present, replaced}
+use Rattle.ufs_hand_laws.specs.Parts.{AskedPart, Cells, ClientPart, Stretch, is_asked, is_client, is_file, is_names, is_store, later, only_one}
+use Rattle.ufs_hand_laws.proofs.Keys.{alike, itself, one_alike, one_itself}
+use Rattle.ufs_hand_laws.proofs.Owning.{all_set, all_split, count_has, cut_holds, has_each, join_holds, once_in, replaced_back, replaced_present, same_holds, same_some, weigh_each}
 use Rattle.ufs_store.specs.State.{geometry_of_store}
-use Rattle.ufs_stored.specs.AlwaysLaws.{RestIsExplained}
+use Rattle.ufs_promise_laws.specs.AlwaysLaws.{RestIsExplained}
 use Rattle.ufs_joint.specs.Cells.{Start, StoreCell, View, Word, World, both_of, given_of, kept_of, spent, store_of}
 use Rattle.ufs_joint.specs.Faults.{AreFaultsOnce}
-use Rattle.ufs_stored.specs.Known.{IsDiskKept}
+use Rattle.ufs_promise_laws.specs.Known.{IsDiskKept}
 use Rattle.ufs_joint.specs.Laws.{LookKeeps, AskKeeps, JoinKeeps, SplitKeeps, TurnBeginKeeps}
 use Rattle.ufs_joint.specs.Marks.{MayAsk, asking}
 use Rattle.ufs_joint.proofs.Disks.{explained_here}
@@ -27,7 +27,7 @@ use Rattle.ufs_joint.specs.Turns.{begun_at, rested, turn_begun}
 use Rattle.ufs_joint.specs.Whole.{AreFreeIn, ArePoolsApart, commits_of, hand_of, known_in}
 use Rattle.ufs_joint.proofs.Exchange.{kind_exchanged, one_exchanged, store_is}
 use Rattle.ufs_joint.proofs.FaultsTold.{faults_join, faults_same, faults_split, faults_stay}
-use Rattle.ufs_stored.proofs.Known.{on_disk_of}
+use Rattle.ufs_promise_laws.proofs.Known.{on_disk_of}
 use Rattle.ufs_joint.proofs.Takes.{take_whole}
 
 -- ---- the same world, by other views

@@ -15,15 +15,15 @@ use Rattle.ufs_model.specs.declared.data.Op.{Op}
 use Rattle.ufs_model.specs.declared.data.Op.TheVariants as op
 use Rattle.ufs_model.specs.declared.data.Reply.{Reply}
 use Rattle.ufs_model.specs.declared.data.Reply.TheVariants as reply
-use Rattle.ufs_prefix.specs.Changes.{change_asked, change_of, changes_names, file_changed, names_by, names_of}
-use Rattle.ufs_prefix.specs.Steps.{is_served}
-use Rattle.ufs_prefix.specs.declared.data.FileChange.{FileChange}
-use Rattle.ufs_sound.specs.Draws.{entry_of}
-use Rattle.ufs_sound.specs.Owned.{Has, count, one, times}
-use Rattle.ufs_sound.specs.Parts.{ClientPart}
-use Rattle.ufs_sound.specs.declared.fresh.Fresh.{Fresh}
-use Rattle.ufs_stored.specs.Laws.{leaves_tree}
-use Rattle.ufs_stored.proofs.Entries.{excuse_leaves, tree_left}
+use Rattle.ufs_crash_laws.specs.Changes.{change_asked, change_of, changes_names, file_changed, names_by, names_of}
+use Rattle.ufs_crash_laws.specs.Steps.{is_served}
+use Rattle.ufs_crash_laws.specs.declared.data.FileChange.{FileChange}
+use Rattle.ufs_hand_laws.specs.Draws.{entry_of}
+use Rattle.ufs_hand_laws.specs.Owned.{Has, count, one, times}
+use Rattle.ufs_hand_laws.specs.Parts.{ClientPart}
+use Rattle.ufs_hand_laws.specs.declared.fresh.Fresh.{Fresh}
+use Rattle.ufs_promise_laws.specs.Laws.{leaves_tree}
+use Rattle.ufs_promise_laws.proofs.Entries.{excuse_leaves, tree_left}
 use Rattle.ufs_joint.specs.Cells.{FileCell, NamesCell, View}
 use Rattle.ufs_joint.specs.FileHands.{IsFileHand}
 use Rattle.ufs_joint.specs.NamesHands.{IsNamesHand}

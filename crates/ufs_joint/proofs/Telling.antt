@@ -5,14 +5,14 @@ use native.Mathlib.Decide.{dec_le}
 use lib.ListN.{get_elem?}
 use Rattle.std.specs.FinSet as setof
 use Rattle.std.specs.List.{slice_get}
-use Rattle.ufs_durable.specs.State.{DurableState}
+use Rattle.ufs_file_commits.specs.State.{DurableState}
 use Rattle.ufs_model.specs.declared.data.Entry.{Entry}
-use Rattle.ufs_on_disk.specs.Requests.{with_free}
-use Rattle.ufs_prefix.specs.Changes.{changes_of}
-use Rattle.ufs_sound.specs.Owned.{Has, count, one, replaced}
-use Rattle.ufs_sound.specs.Parts.{only_one}
-use Rattle.ufs_sound.proofs.Keys.{alike, itself}
-use Rattle.ufs_sound.proofs.Owning.{all_set, each_has, has_count, has_each, replaced_back, replaced_else, replaced_here, same_holds, weigh_each}
+use Rattle.ufs_event_laws.specs.FileRequests.{with_free}
+use Rattle.ufs_crash_laws.specs.Changes.{changes_of}
+use Rattle.ufs_hand_laws.specs.Owned.{Has, count, one, replaced}
+use Rattle.ufs_hand_laws.specs.Parts.{only_one}
+use Rattle.ufs_hand_laws.proofs.Keys.{alike, itself}
+use Rattle.ufs_hand_laws.proofs.Owning.{all_set, each_has, has_count, has_each, replaced_back, replaced_else, replaced_here, same_holds, weigh_each}
 use Rattle.ufs_joint.specs.Cells.{FileCell, NamesCell, Start, View, Word, World, store_of}
 use Rattle.ufs_joint.specs.Laws.{TellKeeps}
 use Rattle.ufs_joint.specs.Marks.{births_told, with_birth}
@@ -22,8 +22,8 @@ use Rattle.ufs_joint.specs.Whole.{ArePartsIn, birth_known, birth_known_by, chang
 use Rattle.ufs_joint.proofs.Blocks.{or_cases, or_left, or_right}
 use Rattle.ufs_joint.proofs.Exchange.{kind_exchanged, names_are, single_of}
 use Rattle.ufs_joint.proofs.FaultsTold.{faults_same}
-use Rattle.ufs_stored.specs.Known.{IsMore}
-use Rattle.ufs_kept.proofs.Forgetting.{less_is_kept}
+use Rattle.ufs_promise_laws.specs.Known.{IsMore}
+use Rattle.ufs_joint.proofs.Forgetting.{less_is_kept}
 
 module _ (k : Start) (word : Word) (views : List View) (i : ℕ) (v : View) (names : NamesCell) (o : IsSound k word views) (at : get_elem? views i ≡ some v) (has : v.names ≡ (tt, names) ∷ []) where
   abbrev G : World

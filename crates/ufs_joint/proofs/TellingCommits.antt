@@ -3,7 +3,7 @@ use Rattle.std.proofs.Common.{◌≡◌, ◌⊎◌, inl, inr, ℕ, List, Some, N
 use Rattle.std.specs.FinMap as map
 use Rattle.ufs_bitmap.specs.Blocks.{BlockSet}
 use Rattle.ufs_bitmap.specs.Taking.{has}
-use Rattle.ufs_durable.specs.State.{DurableState, IsNoted, blocks_held, whole_of}
+use Rattle.ufs_file_commits.specs.State.{DurableState, IsNoted, blocks_held, whole_of}
 use Rattle.ufs_file.specs.Hand.{FileState}
 use Rattle.ufs_layout.specs.declared.geometry.Geometry.{Geometry}
 use Rattle.ufs_ledger.specs.Kept.{Counts, Numbers}
@@ -13,10 +13,10 @@ use Rattle.ufs_model.specs.History.{tree_after}
 use Rattle.ufs_model.specs.PosixTree.{PosixTree}
 use Rattle.ufs_model.specs.declared.data.Entry.{Entry}
 use Rattle.ufs_store.specs.State.{StoreState}
-use Rattle.ufs_stored.specs.Known.{IsDiskKept, Known}
-use Rattle.ufs_stored.specs.Parts.{Commits, FileOwns, NamesOwn, OneFile, Owner, Owns, Parts, TheNames, ThePool, Unassigned, durable_in}
-use Rattle.ufs_stored.specs.Sound.{IsFileSound, IsSoundServer}
-use Rattle.ufs_stored.specs.Stored.{ArePartsOf, AreSpaced, FileHasIt, IsFileWhole, IsStored}
+use Rattle.ufs_promise_laws.specs.Known.{IsDiskKept, Known}
+use Rattle.ufs_promise_laws.specs.Parts.{Commits, FileOwns, NamesOwn, OneFile, Owner, Owns, Parts, TheNames, ThePool, Unassigned, durable_in}
+use Rattle.ufs_promise_laws.specs.Sound.{IsFileSound, IsSoundServer}
+use Rattle.ufs_promise_laws.specs.Stored.{ArePartsOf, AreSpaced, FileHasIt, IsFileWhole, IsStored}
 
 module _ (p : Parts) (commits : Commits) (same : (file : ℕ) (f : FileState) → map.get p.files file ≡ Some f → durable_in commits f ≡ durable_in p.commits f) where
   abbrev q : Parts

@@ -4,30 +4,30 @@ use mathlib.Core.Option.{some}
 use native.Mathlib.Decide.{dec_le}
 use lib.ListN.{get_elem?}
 use Rattle.std.specs.FinSet as setof
-use Rattle.ufs_alike.proofs.BlockLemmas.{length-own}
-use Rattle.ufs_alike.proofs.TreeLemmas.{either_way, through, trees}
+use Rattle.ufs_bytes_laws.proofs.BlockLemmas.{length-own}
+use Rattle.ufs_bytes_laws.proofs.TreeLemmas.{either_way, through, trees}
 use Rattle.ufs_bitmap.specs.Blocks.{BlockSet}
 use Rattle.ufs_files.specs.Files.{AreNumbered}
 use Rattle.ufs_model.specs.FileBytes.{bytes_of}
 use Rattle.ufs_model.specs.History.{tree_after}
 use Rattle.ufs_model.specs.PosixTree.{PosixTree}
 use Rattle.ufs_model.specs.declared.data.Entry.{Entry}
-use Rattle.ufs_on_disk.specs.Requests.{with_free}
-use Rattle.ufs_on_disk.proofs.Sound.{sound_by_free_blocks}
-use Rattle.ufs_prefix.specs.Changes.{changes_of, name_changes}
-use Rattle.ufs_sound.specs.Marks.{value_after}
-use Rattle.ufs_sound.specs.Owned.{Has, count, find, replaced}
-use Rattle.ufs_sound.specs.Parts.{Cells, Stretch, only_one}
-use Rattle.ufs_sound.proofs.Exchange.{value_case}
-use Rattle.ufs_sound.proofs.Keys.{alike, itself}
-use Rattle.ufs_sound.proofs.Owning.{all_set, append_has, count_has, has_append, has_find, replaced_back, same_holds}
+use Rattle.ufs_event_laws.specs.FileRequests.{with_free}
+use Rattle.ufs_event_laws.proofs.Sound.{sound_by_free_blocks}
+use Rattle.ufs_crash_laws.specs.Changes.{changes_of, name_changes}
+use Rattle.ufs_hand_laws.specs.Marks.{value_after}
+use Rattle.ufs_hand_laws.specs.Owned.{Has, count, find, replaced}
+use Rattle.ufs_hand_laws.specs.Parts.{Cells, Stretch, only_one}
+use Rattle.ufs_hand_laws.proofs.Exchange.{value_case}
+use Rattle.ufs_hand_laws.proofs.Keys.{alike, itself}
+use Rattle.ufs_hand_laws.proofs.Owning.{all_set, append_has, count_has, has_append, has_find, replaced_back, same_holds}
 use Rattle.ufs_store.specs.State.{geometry_of_store}
-use Rattle.ufs_stored.specs.Laws.{MovesBlocks}
-use Rattle.ufs_stored.specs.Parts.{Parts, ThePool, Unassigned}
-use Rattle.ufs_stored.specs.Sound.{IsSoundServer}
-use Rattle.ufs_stored.proofs.Whole.{tree_may}
+use Rattle.ufs_promise_laws.specs.Laws.{MovesBlocks}
+use Rattle.ufs_promise_laws.specs.Parts.{Parts, ThePool, Unassigned}
+use Rattle.ufs_promise_laws.specs.Sound.{IsSoundServer}
+use Rattle.ufs_promise_laws.proofs.Whole.{tree_may}
 use Rattle.ufs_joint.specs.Cells.{FileCell, NamesCell, Start, StoreCell, View, Word, World, store_of}
-use Rattle.ufs_stored.specs.Known.{IsDiskKept}
+use Rattle.ufs_promise_laws.specs.Known.{IsDiskKept}
 use Rattle.ufs_joint.specs.Laws.{TurnEndKeeps}
 use Rattle.ufs_joint.specs.Picks.{HasPicked, IsAbsent, IsUnpicked, Pick, bytes_at}
 use Rattle.ufs_joint.specs.Sound.{AreChangesTold, AreJoined, ArePastExplained, IsDiskSound, IsExplainedState, IsHeld, IsKeptSince, IsSound, LeadsTo, MayHaveBegun}
@@ -39,8 +39,8 @@ use Rattle.ufs_joint.specs.NoneLost.{HandHas, IsHad}
 use Rattle.ufs_joint.proofs.Exchange.{kind_exchanged, names_are, nothing_counted, one_exchanged, one_single, single_of, store_is}
 use Rattle.ufs_joint.proofs.FaultsTold.{faults_told}
 use Rattle.ufs_joint.proofs.Kept.{kept_numbered}
-use Rattle.ufs_kept.proofs.Forgetting.{less_is_kept}
-use Rattle.ufs_kept.proofs.Pools.{pools_stay}
+use Rattle.ufs_joint.proofs.Forgetting.{less_is_kept}
+use Rattle.ufs_joint.proofs.Pools.{pools_stay}
 use Rattle.ufs_joint.proofs.Parting.{cells_there, commits_after, file_after, file_else, file_here, names_after, other_pool, same_cells, same_file_cell, same_names_cell}
 use Rattle.ufs_joint.proofs.Picking.{FitsIn, IsPicked, picked_same, picked_tree, with_picks}
 use Rattle.ufs_joint.proofs.Takes.{fewer_changes, fewer_name_changes, length_take, take_take}

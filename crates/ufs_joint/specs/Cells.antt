@@ -4,7 +4,7 @@ use Rattle.std.specs.Prelude.{ℕ, Bool, List, [], ◌++◌, None, Option}
 use Rattle.ufs_bitmap.specs.Blocks.{BlockSet}
 use Rattle.ufs_bitmap.specs.Space.{Space}
 use Rattle.ufs_disk.specs.Disk.{State}
-use Rattle.ufs_durable.specs.State.{DurableState}
+use Rattle.ufs_file_commits.specs.State.{DurableState}
 use Rattle.ufs_journal.specs.declared.journal.Journal.{Journal}
 use Rattle.ufs_layout.specs.declared.geometry.Geometry.{Geometry}
 use Rattle.ufs_layout.specs.declared.superblock.Super.{Super}
@@ -12,9 +12,9 @@ use Rattle.ufs_model.specs.PosixTree.{PosixTree}
 use Rattle.ufs_model.specs.declared.data.PartName.{PartName}
 use Rattle.ufs_names.specs.NamesPart.{NamesPart}
 use Rattle.ufs_overlay.specs.declared.overlay.Overlay.{Overlay}
-use Rattle.ufs_sound.specs.DiskBytes.{state_of}
-use Rattle.ufs_sound.specs.Owned.{only, without}
-use Rattle.ufs_sound.specs.Parts.{AskedPart, Cells, ClientPart, Stretch, either, is_asked, is_client, is_file, is_names, is_store, later}
+use Rattle.ufs_hand_laws.specs.DiskBytes.{state_of}
+use Rattle.ufs_hand_laws.specs.Owned.{only, without}
+use Rattle.ufs_hand_laws.specs.Parts.{AskedPart, Cells, ClientPart, Stretch, either, is_asked, is_client, is_file, is_names, is_store, later}
 use Rattle.ufs_store.specs.State.{StoreState}
 
 -- ---- cells

@@ -4,14 +4,14 @@ use Rattle.std.specs.Coded.{Coded, code_by, coded×, coded_ℕ, coded_bool, code
 use Rattle.std.specs.FinSet as set
 use base.Stored.{coded_unit}
 use Rattle.ufs_bitmap.specs.Space.{space_code}
-use Rattle.ufs_durable.specs.State.{DurableState}
-use Rattle.ufs_durable.specs.contracts.durable.FileCommits as commits
+use Rattle.ufs_file_commits.specs.State.{DurableState}
+use Rattle.ufs_file_commits.specs.contracts.durable.FileCommits as commits
 use Rattle.ufs_file.specs.contracts.hand.FileHand as hand
 use Rattle.ufs_journal.specs.contracts.journal.Journal as journal
 use Rattle.ufs_layout.specs.contracts.superblock.Super as super
 use Rattle.ufs_names.specs.NamesPart.{part_code}
 use Rattle.ufs_overlay.specs.contracts.overlay.Overlay as overlay
-use Rattle.ufs_sound.specs.Codes.{asked_code, cells_code, client_code, numbers, stretch_code}
+use Rattle.ufs_hand_laws.specs.Codes.{asked_code, cells_code, client_code, numbers, stretch_code}
 use Rattle.ufs_joint.specs.Cells.{FileCell, NamesCell, StoreCell, View}
 
 -- a file, and what is known of its commits

@@ -8,21 +8,21 @@ use Rattle.ufs_model.specs.Asks.{fd_told}
 use Rattle.ufs_model.specs.History.{IsLegal, entries_of, tree_after}
 use Rattle.ufs_model.specs.PosixTree.{IsTree, PosixTree, desc_at}
 use Rattle.ufs_model.specs.declared.data.Entry.{Entry}
-use Rattle.ufs_prefix.specs.Changes.{changes_of, name_changes}
+use Rattle.ufs_crash_laws.specs.Changes.{changes_of, name_changes}
 use Rattle.ufs_model.specs.declared.data.Excuse.TheVariants as excuse
 use Rattle.ufs_model.specs.declared.data.Reply.TheVariants as reply
-use Rattle.ufs_sound.specs.Draws.{client_after, entry_of, left_faults}
-use Rattle.ufs_sound.specs.FaultsOnce.{told}
-use Rattle.ufs_sound.specs.Owned.{Has, count, each, times}
-use Rattle.ufs_sound.specs.Parts.{ClientPart, OwnFds, only_one}
-use Rattle.ufs_sound.specs.declared.fresh.Fresh.{Fresh}
+use Rattle.ufs_hand_laws.specs.Draws.{client_after, entry_of, left_faults}
+use Rattle.ufs_hand_laws.specs.FaultsOnce.{told}
+use Rattle.ufs_hand_laws.specs.Owned.{Has, count, each, times}
+use Rattle.ufs_hand_laws.specs.Parts.{ClientPart, OwnFds, only_one}
+use Rattle.ufs_hand_laws.specs.declared.fresh.Fresh.{Fresh}
 use Rattle.ufs_store.specs.State.{StoreState, geometry_of_store}
-use Rattle.ufs_stored.specs.Parts.{Parts}
-use Rattle.ufs_stored.specs.Sound.{IsSoundServer}
-use Rattle.ufs_stored.specs.Stored.{ArePartsOf}
+use Rattle.ufs_promise_laws.specs.Parts.{Parts}
+use Rattle.ufs_promise_laws.specs.Sound.{IsSoundServer}
+use Rattle.ufs_promise_laws.specs.Stored.{ArePartsOf}
 use Rattle.ufs_joint.specs.Cells.{FileCell, NamesCell, View}
 use Rattle.ufs_joint.specs.NoneLost.{IsHad}
-use Rattle.ufs_stored.specs.Known.{IsDiskKept, Known}
+use Rattle.ufs_promise_laws.specs.Known.{IsDiskKept, Known}
 use Rattle.ufs_joint.specs.Picks.{IsAbsent, bytes_at}
 use Rattle.ufs_joint.specs.Whole.{GoOnBy, HasCells, KnowsCells, pooled}
 

@@ -7,22 +7,22 @@ use Rattle.ufs_bitmap.specs.Blocks.{BlockSet}
 use Rattle.ufs_model.specs.History.{IsLegal, entries_of, tree_after}
 use Rattle.ufs_model.specs.PosixTree.{IsTree, PosixTree, desc_at}
 use Rattle.ufs_model.specs.declared.data.Entry.{Entry}
-use Rattle.ufs_on_disk.specs.Requests.{with_free}
+use Rattle.ufs_event_laws.specs.FileRequests.{with_free}
 use Rattle.ufs_model.specs.declared.data.Excuse.TheVariants as excuse
 use Rattle.ufs_model.specs.declared.data.Reply.TheVariants as reply
-use Rattle.ufs_sound.specs.FaultsOnce.{told}
-use Rattle.ufs_sound.specs.Owned.{Has, count, find}
-use Rattle.ufs_sound.specs.Parts.{AskedPart, Cells, ClientPart, Stretch}
-use Rattle.ufs_sound.specs.Whole.{idle_asked, idle_client}
+use Rattle.ufs_hand_laws.specs.FaultsOnce.{told}
+use Rattle.ufs_hand_laws.specs.Owned.{Has, count, find}
+use Rattle.ufs_hand_laws.specs.Parts.{AskedPart, Cells, ClientPart, Stretch}
+use Rattle.ufs_hand_laws.specs.Whole.{idle_asked, idle_client}
 use Rattle.ufs_store.specs.State.{geometry_of_store}
-use Rattle.ufs_stored.specs.OnDisk.{IsOnDisk}
-use Rattle.ufs_stored.specs.Parts.{Parts}
-use Rattle.ufs_stored.specs.Sound.{IsSoundServer}
-use Rattle.ufs_stored.specs.Stored.{ArePartsOf}
+use Rattle.ufs_promise_laws.specs.OnDisk.{IsOnDisk}
+use Rattle.ufs_promise_laws.specs.Parts.{Parts}
+use Rattle.ufs_promise_laws.specs.Sound.{IsSoundServer}
+use Rattle.ufs_promise_laws.specs.Stored.{ArePartsOf}
 use Rattle.ufs_joint.specs.Cells.{FileCell, NamesCell, Start, StoreCell, View, Word, store_of}
 use Rattle.ufs_joint.specs.Faults.{IsOfSession}
 use Rattle.ufs_joint.specs.NoneLost.{HandHas}
-use Rattle.ufs_stored.specs.Known.{IsDiskKept, Known}
+use Rattle.ufs_promise_laws.specs.Known.{IsDiskKept, Known}
 use Rattle.ufs_joint.specs.Picks.{Pick}
 use Rattle.ufs_joint.specs.Sound.{AreJoined, IsExplainedState, MayHaveBegun}
 use Rattle.ufs_joint.specs.Whole.{HasCells, HasNamesCell, birth_known_by, commits_of, hand_of, no_blocks, pooled}

@@ -5,8 +5,8 @@ use lib.ListN.{get_elem?}
 use Rattle.ufs_model.specs.declared.data.Entry.{Entry}
 use Rattle.ufs_model.specs.declared.data.Excuse.TheVariants as excuse
 use Rattle.ufs_model.specs.declared.data.Reply.TheVariants as reply
-use Rattle.ufs_sound.specs.FaultsOnce.{told}
-use Rattle.ufs_sound.specs.Owned.{Has, times, total}
+use Rattle.ufs_hand_laws.specs.FaultsOnce.{told}
+use Rattle.ufs_hand_laws.specs.Owned.{Has, times, total}
 use Rattle.ufs_joint.specs.Cells.{Start, StoreCell, View}
 
 -- the device's count of faults

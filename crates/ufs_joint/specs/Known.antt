@@ -4,13 +4,13 @@ use Rattle.std.specs.FinSet as set
 use Rattle.ufs_bitmap.specs.Blocks.{BlockSet}
 use Rattle.ufs_model.specs.PosixTree.{PosixTree}
 use Rattle.ufs_model.specs.declared.data.Entry.{Entry}
-use Rattle.ufs_sound.specs.Asked.{IsAnswered, IsStill}
-use Rattle.ufs_sound.specs.Owned.{Has}
-use Rattle.ufs_sound.specs.Parts.{AskedPart, ClientPart}
-use Rattle.ufs_stored.specs.Parts.{Parts}
+use Rattle.ufs_hand_laws.specs.Asked.{IsAnswered, IsStill}
+use Rattle.ufs_hand_laws.specs.Owned.{Has}
+use Rattle.ufs_hand_laws.specs.Parts.{AskedPart, ClientPart}
+use Rattle.ufs_promise_laws.specs.Parts.{Parts}
 use Rattle.ufs_joint.specs.Cells.{FileCell, NamesCell, Start, StoreCell, View, store_of}
 use Rattle.ufs_joint.specs.Draws.{IsAround}
-use Rattle.ufs_stored.specs.Known.{IsDiskKept, Known}
+use Rattle.ufs_promise_laws.specs.Known.{IsDiskKept, Known}
 use Rattle.ufs_joint.specs.Picks.{Pick}
 use Rattle.ufs_joint.specs.Sound.{MayHaveBegun}
 use Rattle.ufs_joint.specs.Whole.{HasCells, KnowsCells}

@@ -19,3 +19,14 @@ pub mod Moves
 pub mod Reclaims
 pub mod Rule
 pub mod Known
+pub mod Acks
+pub mod KnownDraws
+pub mod Files
+pub mod Forgetting
+pub mod Lent
+pub mod Pools
+pub mod Beside
+pub mod More
+pub mod Blocks
+pub mod FirstHand
+pub mod Ready

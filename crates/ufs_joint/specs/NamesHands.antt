@@ -18,12 +18,12 @@ use Rattle.ufs_model.specs.declared.data.Op.TheVariants as op
 use Rattle.ufs_model.specs.declared.data.Reply.TheVariants as reply
 use Rattle.ufs_names.specs.Calls.{AreGathered, IsAsked, KeepInodes}
 use Rattle.ufs_names.specs.NamesPart.{IsNamesPart}
-use Rattle.ufs_names_stored.specs.Serving.{HasServed}
-use Rattle.ufs_prefix.specs.Changes.{asks_commit}
-use Rattle.ufs_sound.specs.Owned.{Has, count, times}
-use Rattle.ufs_sound.specs.Parts.{ClientPart, OwnFds}
-use Rattle.ufs_sound.specs.declared.fresh.Fresh.{Fresh}
-use Rattle.ufs_stored.specs.Parts.{Commits, Parts, durable_in}
+use Rattle.ufs_event_laws.specs.Serving.{HasServed}
+use Rattle.ufs_crash_laws.specs.Changes.{asks_commit}
+use Rattle.ufs_hand_laws.specs.Owned.{Has, count, times}
+use Rattle.ufs_hand_laws.specs.Parts.{ClientPart, OwnFds}
+use Rattle.ufs_hand_laws.specs.declared.fresh.Fresh.{Fresh}
+use Rattle.ufs_promise_laws.specs.Parts.{Commits, Parts, durable_in}
 use Rattle.ufs_joint.specs.Cells.{FileCell, NamesCell, View}
 use Rattle.ufs_joint.specs.Draws.{Leaves, MayDraw}
 

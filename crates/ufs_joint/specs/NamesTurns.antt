@@ -11,13 +11,13 @@ use Rattle.ufs_model.specs.PosixTree.{PosixTree}
 use Rattle.ufs_model.specs.declared.data.Entry.{Entry}
 use Rattle.ufs_name_tree.specs.NameTable.{IsNameTable}
 use Rattle.ufs_names.specs.NamesPart.{NamesPart}
-use Rattle.ufs_prefix.specs.Changes.{name_changes}
-use Rattle.ufs_sound.specs.Parts.{Cells}
+use Rattle.ufs_crash_laws.specs.Changes.{name_changes}
+use Rattle.ufs_hand_laws.specs.Parts.{Cells}
 use Rattle.ufs_store.specs.State.{StoreState, geometry_of_store}
-use Rattle.ufs_stored.specs.Known.{IsDiskKept, IsKeptGoing, Known, with_names_known}
-use Rattle.ufs_stored.specs.Laws.{with_names_committed}
-use Rattle.ufs_stored.specs.OnDisk.{IsExplainedBetween, IsGoing}
-use Rattle.ufs_stored.specs.Parts.{Parts}
+use Rattle.ufs_promise_laws.specs.Known.{IsDiskKept, IsKeptGoing, Known, with_names_known}
+use Rattle.ufs_promise_laws.specs.Laws.{with_names_committed}
+use Rattle.ufs_promise_laws.specs.OnDisk.{IsExplainedBetween, IsGoing}
+use Rattle.ufs_promise_laws.specs.Parts.{Parts}
 use Rattle.ufs_joint.specs.Cells.{NamesCell, StoreCell, View, store_of, store_since}
 use Rattle.ufs_joint.specs.FileHands.{IsAsBegun, LeavesStore, WentOn}
 use Rattle.ufs_joint.specs.Turns.{MayEndTurn, Turn}

@@ -4,9 +4,9 @@ use Rattle.std.specs.FinSet as set
 use Rattle.ufs_bitmap.specs.Blocks.{BlockSet}
 use Rattle.ufs_bitmap.specs.Taking.{has}
 use Rattle.ufs_dir_tree.specs.DirTable.{blocks_at}
-use Rattle.ufs_durable.specs.State.{blocks_held}
-use Rattle.ufs_sound.specs.Owned.{Has}
-use Rattle.ufs_stored.specs.Parts.{FileOwns, Parts}
+use Rattle.ufs_file_commits.specs.State.{blocks_held}
+use Rattle.ufs_hand_laws.specs.Owned.{Has}
+use Rattle.ufs_promise_laws.specs.Parts.{FileOwns, Parts}
 use Rattle.ufs_joint.specs.Cells.{FileCell, NamesCell, StoreCell, View}
 use Rattle.ufs_joint.specs.Whole.{pooled}
 

@@ -5,7 +5,7 @@ use Rattle.std.specs.List.{slice_get}
 use Rattle.ufs_file.specs.Content.{own_bytes}
 use Rattle.ufs_model.specs.FileBytes.{bytes_of}
 use Rattle.ufs_model.specs.PosixTree.{PosixTree}
-use Rattle.ufs_sound.specs.Owned.{Has}
+use Rattle.ufs_hand_laws.specs.Owned.{Has}
 use Rattle.ufs_joint.specs.Cells.{FileCell}
 
 -- A block of a file that was read, by its place, and the file's own bytes in it at the beginning.

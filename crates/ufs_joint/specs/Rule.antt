@@ -10,7 +10,7 @@ use Rattle.ufs_model.specs.declared.data.Actor.TheVariants.{Primary}
 use Rattle.ufs_model.specs.declared.data.Op.{Op}
 use Rattle.ufs_model.specs.declared.data.Op.TheVariants.{Sync}
 use Rattle.ufs_model.specs.declared.data.Reply.TheVariants.{Done}
-use Rattle.ufs_sound.specs.declared.fresh.Fresh.{Fresh}
+use Rattle.ufs_hand_laws.specs.declared.fresh.Fresh.{Fresh}
 use Rattle.ufs_joint.specs.Cells.{NamesCell, Start, StoreCell, View, Word, spent}
 use Rattle.ufs_joint.specs.Codes.{view_code}
 use Rattle.ufs_joint.specs.Draws.{Leaves, MayDraw, drawn}

@@ -5,7 +5,7 @@ use Rattle.std.specs.FinMap as fin
 use Rattle.std.specs.FinSet as set
 use mathlib.Core.Option.{some}
 use lib.ListN.{get_elem?}
-use Rattle.ufs_alike.specs.Alike.{AreAlike}
+use Rattle.ufs_bytes_laws.specs.Alike.{AreAlike}
 use Rattle.ufs_base.specs.Images.{Image}
 use Rattle.ufs_bitmap.specs.Blocks.{BlockSet}
 use Rattle.ufs_disk.specs.Disk.{Leaves}
@@ -14,21 +14,21 @@ use Rattle.ufs_model.specs.History.{IsLegal, entries_of, tree_after}
 use Rattle.ufs_model.specs.PosixTree.{IsTree, PosixTree, desc_at}
 use Rattle.ufs_model.specs.declared.data.Entry.{Entry}
 use Rattle.ufs_model.specs.declared.data.Op.{Op}
-use Rattle.ufs_on_disk.specs.Requests.{with_free}
-use Rattle.ufs_prefix.specs.Changes.{changes_of, name_changes}
-use Rattle.ufs_sound.specs.Asked.{IsAnswered, IsStill}
-use Rattle.ufs_sound.specs.DiskBytes.{state_of}
-use Rattle.ufs_sound.specs.Owned.{Has, Held, count, present}
-use Rattle.ufs_sound.specs.Parts.{AskedPart, Cells, ClientPart, Stretch, only_one}
+use Rattle.ufs_event_laws.specs.FileRequests.{with_free}
+use Rattle.ufs_crash_laws.specs.Changes.{changes_of, name_changes}
+use Rattle.ufs_hand_laws.specs.Asked.{IsAnswered, IsStill}
+use Rattle.ufs_hand_laws.specs.DiskBytes.{state_of}
+use Rattle.ufs_hand_laws.specs.Owned.{Has, Held, count, present}
+use Rattle.ufs_hand_laws.specs.Parts.{AskedPart, Cells, ClientPart, Stretch, only_one}
 use Rattle.ufs_store.specs.State.{geometry_of_store}
-use Rattle.ufs_stored.specs.OnDisk.{IsExplainedImage}
-use Rattle.ufs_stored.specs.Parts.{Parts}
-use Rattle.ufs_stored.specs.Sound.{IsSoundServer}
-use Rattle.ufs_stored.specs.Stored.{ArePartsOf}
+use Rattle.ufs_promise_laws.specs.OnDisk.{IsExplainedImage}
+use Rattle.ufs_promise_laws.specs.Parts.{Parts}
+use Rattle.ufs_promise_laws.specs.Sound.{IsSoundServer}
+use Rattle.ufs_promise_laws.specs.Stored.{ArePartsOf}
 use Rattle.ufs_joint.specs.Cells.{FileCell, Start, StoreCell, View, Word, World, store_of}
 use Rattle.ufs_joint.specs.Faults.{AreFaultsOnce}
 use Rattle.ufs_joint.specs.NoneLost.{HandHas, IsHad}
-use Rattle.ufs_stored.specs.Known.{IsDiskKept}
+use Rattle.ufs_promise_laws.specs.Known.{IsDiskKept}
 use Rattle.ufs_joint.specs.Picks.{HasPicked, IsAbsent, IsUnpicked, Pick, bytes_at}
 use Rattle.ufs_joint.specs.Whole.{AreFreeIn, ArePartsIn, ArePoolsApart, HasFileCell, HasNamesCell, known_in, no_blocks}
 

@@ -7,15 +7,15 @@ use Rattle.ufs_layout.specs.declared.geometry.Geometry.{Geometry}
 use Rattle.ufs_model.specs.History.{tree_after}
 use Rattle.ufs_model.specs.PosixTree.{PosixTree}
 use Rattle.ufs_model.specs.declared.data.Entry.{Entry}
-use Rattle.ufs_sound.specs.Owned.{Has, count, find, times}
-use Rattle.ufs_sound.specs.Parts.{Cells, Stretch, only_one}
+use Rattle.ufs_hand_laws.specs.Owned.{Has, count, find, times}
+use Rattle.ufs_hand_laws.specs.Parts.{Cells, Stretch, only_one}
 use Rattle.ufs_store.specs.State.{geometry_of_store}
-use Rattle.ufs_stored.specs.Parts.{Parts}
-use Rattle.ufs_stored.specs.Sound.{IsSoundServer}
-use Rattle.ufs_stored.specs.Stored.{ArePartsOf}
+use Rattle.ufs_promise_laws.specs.Parts.{Parts}
+use Rattle.ufs_promise_laws.specs.Sound.{IsSoundServer}
+use Rattle.ufs_promise_laws.specs.Stored.{ArePartsOf}
 use Rattle.ufs_joint.specs.Cells.{FileCell, NamesCell, StoreCell, View, store_of}
 use Rattle.ufs_joint.specs.NoneLost.{IsHad}
-use Rattle.ufs_stored.specs.Known.{IsDiskKept, Known}
+use Rattle.ufs_promise_laws.specs.Known.{IsDiskKept, Known}
 use Rattle.ufs_joint.specs.Picks.{ArePicksOnce, HasPicked, IsAbsent, IsUnpicked, Pick}
 use Rattle.ufs_joint.specs.Sound.{IsExplainedState}
 use Rattle.ufs_joint.specs.Whole.{GoOnBy, HasCells, KnowsCells, birth_known, changes_known, name_changes_at}

@@ -7,17 +7,16 @@ ghost use Rattle.ufs_joint.specs.NamesTurns.{NamesCommitsGoOn, NamesCommitsMayEn
 ghost use Rattle.ufs_joint.specs.Reclaims.{ReclaimFailuresMayEnd, ReclaimsGoOn, ReclaimsMayEnd};
 ghost use Rattle.ufs_joint.specs.Laws.{AskKeeps, BeginIsSound, BlocksMoveKeeps, CloseIsWhole, DrawKeeps, HandsKnow, JoinKeeps, LookKeeps, SplitKeeps, TellKeeps, TurnBeginKeeps, TurnEndKeeps};
 
-use ufs_kept::{
+use crate::{
     ack_law, beside_law, draw_law, file_fetch_law, file_law, file_moments_law, lent_law,
     names_draw_law, sync_law,
 };
+use ufs_event_laws::{fetch_law, served_names_law};
 use ufs_layout::Geometry;
 use ufs_ledger::promise_law;
 use ufs_names::a_file_request_keeps_the_names;
-use ufs_names_stored::served_names_law;
-use ufs_on_disk::fetch_law;
-use ufs_stored::{always_law, ready_law};
-use ufs_synced::reclaim_law;
+use ufs_names_commit::reclaim_law;
+use ufs_promise_laws::{always_law, ready_law};
 
 /// The first hand, with every cell, is sound; and what the last one knows, with every cell again.
 pub fn a_session_is_whole()

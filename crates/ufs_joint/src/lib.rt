@@ -1,11 +1,18 @@
 //! The sound state of all hands over the values that they have, and the laws of its steps.
 #![tactic(auto)]
 
+mod events;
+mod first;
 mod hand;
 mod laws;
 mod rule;
 mod view;
 
+pub use events::{
+    ack_law, beside_law, blocks_law, draw_law, file_fetch_law, file_law, file_moments_law,
+    forgetting_law, lent_law, more_law, names_draw_law, pool_law, sync_law,
+};
+pub use first::first_hand_law;
 pub use hand::{Begun, Hand, HandTable, Opened};
 pub use laws::{
     a_checkpoint_ends, a_commit_of_names_ends, a_directory_is_acknowledged, a_failed_commit_ends,

@@ -106,7 +106,7 @@ impl Picked for Brand {
 
 /// The entry that is drawn. Its caller picks it.
 pub trait Drawing {
-    ghost use Rattle.ufs_sound.specs.declared.fresh.Fresh.{Fresh};
+    ghost use Rattle.ufs_hand_laws.specs.declared.fresh.Fresh.{Fresh};
 
     ghost fresh: { Fresh };
 }

@@ -2,8 +2,8 @@
 use Rattle.std.proofs.Common.{◌≡◌, ◌≤◌, ◌++◌, ℕ, suc, inl, true, false, List, [], ◌∷◌, sym, refl, ap, ◌∙◌, subst, arith}
 use Rattle.ufs_layout.specs.declared.geometry.Geometry.{Geometry}
 use Rattle.ufs_model.specs.declared.data.PartName.TheVariants.{Names}
-use Rattle.ufs_stored.specs.AlwaysLaws.{RestIsExplained}
-use Rattle.ufs_sound.specs.Owned.{Has, only}
+use Rattle.ufs_promise_laws.specs.AlwaysLaws.{RestIsExplained}
+use Rattle.ufs_hand_laws.specs.Owned.{Has, only}
 use Rattle.ufs_joint.specs.Cells.{NamesCell, Start, StoreCell, View, given_of, kept_of, spent}
 use Rattle.ufs_joint.specs.FileHands.{FileRequestsMayDraw, served_leaves}
 use Rattle.ufs_joint.specs.Laws.{DrawKeeps, HandsKnow, JoinKeeps, SplitKeeps, TellKeeps, TurnBeginKeeps, TurnEndKeeps}

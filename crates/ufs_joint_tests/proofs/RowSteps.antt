@@ -2,13 +2,13 @@
 use Rattle.std.proofs.Common.{◌≡◌, ◌≤◌, ◌++◌, ℕ, suc, inl, true, List, [], ◌∷◌, sym, refl, ap, ◌∙◌, subst, arith}
 use Rattle.ufs_layout.specs.declared.geometry.Geometry.{Geometry}
 use Rattle.ufs_model.specs.declared.data.PartName.TheVariants.{Store}
-use Rattle.ufs_stored.specs.AlwaysLaws.{RestIsExplained}
+use Rattle.ufs_promise_laws.specs.AlwaysLaws.{RestIsExplained}
 use Rattle.ufs_joint.specs.Cells.{FileCell, Start, StoreCell, View, spent}
 use Rattle.ufs_joint.specs.FileHands.{AcknowledgementsMayDraw, FileFailuresMayEnd, FileRequestsMayDraw, IsSyncHand, failed_turn, same_leaves, served_leaves}
 use Rattle.ufs_joint.specs.Laws.{DrawKeeps, HandsKnow, JoinKeeps, SplitKeeps, TurnBeginKeeps, TurnEndKeeps}
 use Rattle.ufs_joint.specs.Sound.{IsSound}
 use Rattle.ufs_joint.specs.Turns.{begun_at, turn_begun}
-use Rattle.ufs_sound.specs.Owned.{Has}
+use Rattle.ufs_hand_laws.specs.Owned.{Has}
 use Rattle.ufs_joint_tests.specs.Row.{Acknowledges, IsStoreHand, RowKeeps, Stops, Writes, acknowledged, at, begun, cell_written, ended, lent, row_end, written}
 
 pub record Laws (g : Geometry) : Type 0 where

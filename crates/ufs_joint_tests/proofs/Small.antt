@@ -22,16 +22,16 @@ use Rattle.ufs_model.specs.declared.data.Entry.{Entry}
 use Rattle.ufs_model.specs.declared.data.Op.TheVariants.{Sync}
 use Rattle.ufs_model.proofs.Facts.Histories.{legal-push, tree_after-push}
 use Rattle.ufs_names.specs.NamesPart.{IsNamesPart, NamesPart}
-use Rattle.ufs_sound.specs.Draws.{entry_of}
-use Rattle.ufs_sound.specs.Owned.{Has, count, one}
-use Rattle.ufs_sound.specs.Parts.{AskedPart, ClientPart, only_one}
-use Rattle.ufs_sound.specs.Whole.{idle_asked, idle_client}
-use Rattle.ufs_sound.proofs.Drawing.{tells_new}
+use Rattle.ufs_hand_laws.specs.Draws.{entry_of}
+use Rattle.ufs_hand_laws.specs.Owned.{Has, count, one}
+use Rattle.ufs_hand_laws.specs.Parts.{AskedPart, ClientPart, only_one}
+use Rattle.ufs_hand_laws.specs.Whole.{idle_asked, idle_client}
+use Rattle.ufs_hand_laws.proofs.Drawing.{tells_new}
 use Rattle.ufs_store.specs.State.{StoreState, geometry_of_store}
-use Rattle.ufs_stored.specs.Parts.{OneFile, Owner, Owns, Parts, TheNames, ThePool, Unassigned}
-use Rattle.ufs_stored.specs.Sound.{IsSoundServer}
-use Rattle.ufs_stored.specs.Stored.{ArePartsOf}
-use Rattle.ufs_stored.proofs.Entries.{excuse_leaves}
+use Rattle.ufs_promise_laws.specs.Parts.{OneFile, Owner, Owns, Parts, TheNames, ThePool, Unassigned}
+use Rattle.ufs_promise_laws.specs.Sound.{IsSoundServer}
+use Rattle.ufs_promise_laws.specs.Stored.{ArePartsOf}
+use Rattle.ufs_promise_laws.proofs.Entries.{excuse_leaves}
 use Rattle.ufs_joint.specs.Cells.{Start, View}
 use Rattle.ufs_joint.specs.Disks.{cell_of}
 use Rattle.ufs_joint.specs.Draws.{DrawsTo, IsAround, MayDraw}

@@ -5,8 +5,8 @@ use Rattle.ufs_layout.specs.declared.geometry.Geometry.{Geometry}
 use Rattle.ufs_model.specs.declared.data.Ask.{Ask}
 use Rattle.ufs_model.specs.declared.data.Desc.{Desc}
 use Rattle.ufs_model.specs.declared.data.PartName.TheVariants.{Names}
-use Rattle.ufs_sound.specs.Parts.{Cells, ClientPart, OwnFds}
-use Rattle.ufs_sound.specs.declared.fresh.Fresh.{Fresh}
+use Rattle.ufs_hand_laws.specs.Parts.{Cells, ClientPart, OwnFds}
+use Rattle.ufs_hand_laws.specs.declared.fresh.Fresh.{Fresh}
 use Rattle.ufs_joint.specs.Cells.{FileCell, NamesCell, Start, StoreCell, View, both_of, given_of, kept_of, spent}
 use Rattle.ufs_joint.specs.Draws.{drawn}
 use Rattle.ufs_joint.specs.Marks.{births_told}

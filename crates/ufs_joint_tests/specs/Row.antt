@@ -3,14 +3,14 @@
 -- `fsync` of a file of which all is known as committed.
 use Rattle.std.specs.Prelude.{ℕ, suc, ◌≡◌, Bool, true, List, [], ◌∷◌, Option, Some}
 use Rattle.ufs_bitmap.specs.Blocks.{BlockSet}
-use Rattle.ufs_durable.specs.State.{DurableState}
+use Rattle.ufs_file_commits.specs.State.{DurableState}
 use Rattle.ufs_layout.specs.declared.geometry.Geometry.{Geometry}
 use Rattle.ufs_model.specs.declared.data.Actor.{Actor}
 use Rattle.ufs_model.specs.declared.data.Ask.{Ask}
 use Rattle.ufs_model.specs.declared.data.Desc.{Desc}
 use Rattle.ufs_model.specs.declared.data.PartName.TheVariants.{Store}
-use Rattle.ufs_sound.specs.Parts.{Cells, ClientPart, OwnFds}
-use Rattle.ufs_sound.specs.declared.fresh.Fresh.{Fresh}
+use Rattle.ufs_hand_laws.specs.Parts.{Cells, ClientPart, OwnFds}
+use Rattle.ufs_hand_laws.specs.declared.fresh.Fresh.{Fresh}
 use Rattle.ufs_store.specs.State.{geometry_of_store}
 use Rattle.ufs_joint.specs.Cells.{FileCell, Start, StoreCell, View, Word, both_of, given_of, kept_of, spent, store_of}
 use Rattle.ufs_joint.specs.Draws.{drawn}

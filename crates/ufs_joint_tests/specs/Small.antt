@@ -13,8 +13,8 @@ use Rattle.ufs_model.specs.declared.data.Op.TheVariants.{Sync}
 use Rattle.ufs_model.specs.declared.data.PartName.TheVariants.{Client}
 use Rattle.ufs_model.specs.declared.data.Reply.TheVariants.{Excused}
 use Rattle.ufs_names.specs.NamesPart.{NamesPart}
-use Rattle.ufs_sound.specs.Whole.{idle_asked, idle_client}
-use Rattle.ufs_sound.specs.declared.fresh.Fresh.{Fresh}
+use Rattle.ufs_hand_laws.specs.Whole.{idle_asked, idle_client}
+use Rattle.ufs_hand_laws.specs.declared.fresh.Fresh.{Fresh}
 use Rattle.ufs_store.specs.State.{StoreState}
 use Rattle.ufs_joint.specs.Cells.{NamesCell, Start, View, both_of, given_of, kept_of}
 use Rattle.ufs_joint.specs.Disks.{cell_of}

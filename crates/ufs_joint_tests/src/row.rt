@@ -9,7 +9,7 @@ use ufs_joint::{
     births_are_told, hands_are_split_and_joined,
 };
 use ufs_layout::Geometry;
-use ufs_stored::always_law;
+use ufs_promise_laws::always_law;
 
 /// Two servers write, one of them while the other's turn of the store fails and the store stops, and a third acknowledges: the state
 /// is sound.

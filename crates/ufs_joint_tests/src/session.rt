@@ -14,11 +14,11 @@ use std::alloc::Global;
 use std::marker::Brand;
 use ufs_bitmap::Bitmap;
 use ufs_disk::{Disk, PlainDisk};
+use ufs_hand_laws::Fresh;
 use ufs_joint::{Begun, Event, Hand, HandTable, Leaving, Naming, Opened, Opening, Parts};
 use ufs_layout::{Geometry, Super};
 use ufs_model::{Actor, Excuse, Op, PartName, Reply};
 use ufs_names::Names;
-use ufs_sound::Fresh;
 use ufs_store::{Door, Store};
 
 /// The sectors of its disk.

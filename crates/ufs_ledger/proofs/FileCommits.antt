@@ -16,8 +16,8 @@ use Rattle.ufs_model.specs.FileBytes.{bytes_of}
 use Rattle.ufs_model.specs.History.{tree_after}
 use Rattle.ufs_model.specs.declared.data.Entry.{Entry}
 use Rattle.ufs_model.specs.declared.data.Node.TheVariants.{Dir, File}
-use Rattle.ufs_prefix.specs.Changes.{changes_of, name_changes, names_after}
-use Rattle.ufs_prefix.specs.Stored.{IsNamed}
+use Rattle.ufs_crash_laws.specs.Changes.{changes_of, name_changes, names_after}
+use Rattle.ufs_crash_laws.specs.Stored.{IsNamed}
 use Rattle.ufs_image.specs.Catalog.{Catalog, HasBlock}
 use Rattle.ufs_image.specs.Sound.{IsSoundCatalog}
 use Rattle.ufs_image.specs.Walks.{inode_of}

@@ -14,7 +14,7 @@ use Rattle.ufs_image.specs.Images.{IsImageOf, block_at}
 use Rattle.ufs_image.specs.Nodes.{blocks_of}
 use Rattle.ufs_layout.specs.declared.geometry.Geometry.{Geometry}
 use Rattle.ufs_layout.specs.declared.superblock.Super.{Super}
-use Rattle.ufs_prefix.specs.FileChanges.{byte_at}
+use Rattle.ufs_crash_laws.specs.FileChanges.{byte_at}
 use Rattle.ufs_image.specs.Catalog.{Catalog, IsInode, HasBlock, slots_in}
 use Rattle.ufs_image.specs.Nodes.{read_block}
 use Rattle.ufs_image.specs.Sound.{IsSoundCatalog, HasDentry}

@@ -8,7 +8,7 @@ use Rattle.ufs_base.specs.Images.{Image}
 use Rattle.ufs_disk.specs.Disk.{put, put_all, pieces, sectors_of, bytes_from, overwritten, Mixes}
 use Rattle.ufs_disk.proofs.Images.{put_all_below, put_all_above, if_eq}
 use Rattle.ufs_image.specs.Images.{block_at}
-use Rattle.ufs_prefix.specs.FileChanges.{byte_at}
+use Rattle.ufs_crash_laws.specs.FileChanges.{byte_at}
 use Rattle.ufs_image.specs.Agree.{IsOfBlock}
 use Rattle.ufs_ledger.specs.Ledger.{HasByte, IsMixOf}
 

@@ -20,12 +20,12 @@ use Rattle.ufs_model.specs.declared.data.Entry.{Entry}
 use Rattle.ufs_model.specs.declared.data.Node.{Node}
 use Rattle.ufs_model.specs.declared.data.Node.TheVariants.{Dir, File}
 use Rattle.ufs_model.specs.declared.data.PathNode.{PathNode}
-use Rattle.ufs_prefix.specs.Changes.{changes_of, names_after}
-use Rattle.ufs_prefix.specs.Explained.{IsNodeWith, IsTreeWith, IsCovering}
-use Rattle.ufs_prefix.proofs.Facts.Mapped.{get-mapped}
-use Rattle.ufs_prefix.specs.Stored.{IsStored}
-use Rattle.ufs_prefix.proofs.Facts.Explains.{explained_by}
-use Rattle.ufs_prefix.proofs.Facts.Stores.{stored_opens, stored_explained}
+use Rattle.ufs_crash_laws.specs.Changes.{changes_of, names_after}
+use Rattle.ufs_crash_laws.specs.Explained.{IsNodeWith, IsTreeWith, IsCovering}
+use Rattle.ufs_crash_laws.proofs.Facts.Mapped.{get-mapped}
+use Rattle.ufs_crash_laws.specs.Stored.{IsStored}
+use Rattle.ufs_crash_laws.proofs.Facts.Explains.{explained_by}
+use Rattle.ufs_crash_laws.proofs.Facts.Stores.{stored_opens, stored_explained}
 use Rattle.ufs_image.specs.Catalog.{Catalog, IsInode, HasBlock, IsCatalogOf}
 use Rattle.ufs_image.specs.Sound.{IsSoundCatalog}
 use Rattle.ufs_image.specs.Walks.{inode_of, path_text, ArePieces, node_of}

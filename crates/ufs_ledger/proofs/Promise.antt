@@ -11,22 +11,22 @@ use Rattle.ufs_model.specs.Laws.{KeepsTrees}
 use Rattle.ufs_model.specs.History.{IsLegalFrom, IsReplyTo, goes_on, tree_after}
 use Rattle.ufs_model.proofs.Facts.Histories.{tree_after-push}
 use Rattle.ufs_model.specs.declared.data.Entry.{Entry}
-use Rattle.ufs_prefix.specs.FileChanges.{all_changed, byte_at, MayShow}
-use Rattle.ufs_prefix.specs.Steps.{is_served}
-use Rattle.ufs_prefix.specs.Changes.{NameState, names_of, changes_of, change_of, changes_names, names_by, name_changes, names_after}
-use Rattle.ufs_prefix.specs.Stored.{IsNamed}
-use Rattle.ufs_prefix.proofs.Facts.Shows.{may_show_more, may_show_now, bytes_after-append, bytes_after_all}
-use Rattle.ufs_prefix.specs.Steps.{next_step}
-use Rattle.ufs_prefix.proofs.Facts.Histories.{changes_of-push, name_changes-push, names_after-append}
-use Rattle.ufs_prefix.proofs.Facts.Entries.{next_rises}
-use Rattle.ufs_prefix.proofs.Facts.Contents.{unborn_still}
-use Rattle.ufs_prefix.proofs.Facts.Sessions.{tree_after_is, names_last, front_legal, last_replied}
-use Rattle.ufs_prefix.specs.Explained.{IsAckCovered}
+use Rattle.ufs_crash_laws.specs.FileChanges.{all_changed, byte_at, MayShow}
+use Rattle.ufs_crash_laws.specs.Steps.{is_served}
+use Rattle.ufs_crash_laws.specs.Changes.{NameState, names_of, changes_of, change_of, changes_names, names_by, name_changes, names_after}
+use Rattle.ufs_crash_laws.specs.Stored.{IsNamed}
+use Rattle.ufs_crash_laws.proofs.Facts.Shows.{may_show_more, may_show_now, bytes_after-append, bytes_after_all}
+use Rattle.ufs_crash_laws.specs.Steps.{next_step}
+use Rattle.ufs_crash_laws.proofs.Facts.Histories.{changes_of-push, name_changes-push, names_after-append}
+use Rattle.ufs_crash_laws.proofs.Facts.Entries.{next_rises}
+use Rattle.ufs_crash_laws.proofs.Facts.Contents.{unborn_still}
+use Rattle.ufs_crash_laws.proofs.Facts.Sessions.{tree_after_is, names_last, front_legal, last_replied}
+use Rattle.ufs_crash_laws.specs.Explained.{IsAckCovered}
 use Rattle.std.proofs.lemmas.Bool.{cases_lt}
-use Rattle.ufs_prefix.proofs.Facts.Explains.{covering-push}
-use Rattle.ufs_prefix.proofs.Facts.Ends.{covering_more}
-use Rattle.ufs_prefix.proofs.Facts.Stores.{named_before, unborn_changes}
-use Rattle.ufs_prefix.specs.declared.data.FileChange.{FileChange}
+use Rattle.ufs_crash_laws.proofs.Facts.Explains.{covering-push}
+use Rattle.ufs_crash_laws.proofs.Facts.Ends.{covering_more}
+use Rattle.ufs_crash_laws.proofs.Facts.Stores.{named_before, unborn_changes}
+use Rattle.ufs_crash_laws.specs.declared.data.FileChange.{FileChange}
 use Rattle.ufs_ledger.specs.Ledger.{HasByte, Stand}
 use Rattle.ufs_ledger.specs.Changes.{rewritten}
 use Rattle.ufs_ledger.specs.Kept.{Numbers, IsNumberedBy, Shape, shape_of, MayHave, AlwaysShows, IsStandKept}

@@ -7,8 +7,8 @@ use Rattle.std.proofs.lemmas.Bool.{cases_lt}
 use Rattle.ufs_disk.specs.Disk.{Cell, possible}
 use Rattle.ufs_image.specs.Nodes.{blocks_of}
 use Rattle.ufs_layout.specs.declared.geometry.Geometry.{Geometry}
-use Rattle.ufs_prefix.specs.FileChanges.{byte_at, MayShow, IsShown}
-use Rattle.ufs_prefix.specs.declared.data.FileChange.{FileChange}
+use Rattle.ufs_crash_laws.specs.FileChanges.{byte_at, MayShow, IsShown}
+use Rattle.ufs_crash_laws.specs.declared.data.FileChange.{FileChange}
 use Rattle.ufs_image.specs.Catalog.{IsInode, HasBlock}
 use Rattle.ufs_image.specs.Sound.{IsSoundCatalog}
 use Rattle.ufs_image.proofs.Lists.{IsIn}

@@ -13,7 +13,7 @@ use Rattle.ufs_layout.specs.declared.superblock.Super.{Super}
 use Rattle.ufs_layout.specs.declared.records.Committed.{Committed}
 use Rattle.ufs_journal.specs.Found.{IsFreeFrom}
 use Rattle.ufs_journal.specs.Written.{SaysTheSame, CommitsOne, IsAppended, IsMaybeCommitted}
-use Rattle.ufs_prefix.specs.FileChanges.{byte_at}
+use Rattle.ufs_crash_laws.specs.FileChanges.{byte_at}
 use Rattle.ufs_image.specs.Agree.{IsOfBlock}
 use Rattle.ufs_image.specs.CatalogLaws.{FoldsCatalogs, FoldsOneMore}
 use Rattle.ufs_image.proofs.Blocks.{block_same}

@@ -13,9 +13,9 @@ use Rattle.ufs_model.specs.FileBytes.{bytes_of}
 use Rattle.ufs_model.specs.Laws.{KeepsTrees}
 use Rattle.ufs_model.specs.History.{IsLegalFrom}
 use Rattle.ufs_model.specs.declared.data.Entry.{Entry}
-use Rattle.ufs_prefix.specs.FileChanges.{all_changed, byte_at}
-use Rattle.ufs_prefix.specs.Changes.{changes_of}
-use Rattle.ufs_prefix.specs.declared.data.FileChange.{FileChange}
+use Rattle.ufs_crash_laws.specs.FileChanges.{all_changed, byte_at}
+use Rattle.ufs_crash_laws.specs.Changes.{changes_of}
+use Rattle.ufs_crash_laws.specs.declared.data.FileChange.{FileChange}
 use Rattle.ufs_ledger.specs.Ledger.{HasByte, is_held, Standing, with_one, Ledger}
 use Rattle.ufs_ledger.specs.Changes.{settled_cell, settled, home_cells, without_log, written, committing, committed_one, beginning, emptied}
 use Rattle.ufs_ledger.specs.Kept.{Numbers, shape_of, MayHave, AlwaysShows, IsStandKept, Counts, IsKeptBy, IsLedgerKept}

@@ -19,12 +19,12 @@ use Rattle.ufs_model.specs.declared.data.Node.{Node}
 use Rattle.ufs_model.specs.declared.data.Node.TheVariants.{Dir, File}
 use Rattle.ufs_model.specs.declared.data.PathNode.{PathNode}
 use Rattle.ufs_model.specs.declared.data.PathNode.TheVariants as path_node
-use Rattle.ufs_prefix.specs.FileChanges.{bytes_after, MayShow}
-use Rattle.ufs_prefix.specs.Changes.{changes_of, name_changes, names_after}
-use Rattle.ufs_prefix.specs.Explained.{IsCovering, IsExplained, IsExplainedFrom}
-use Rattle.ufs_prefix.specs.Mapped.{mapped}
-use Rattle.ufs_prefix.specs.Stored.{IsNamed}
-use Rattle.ufs_prefix.specs.declared.data.FileChange.{FileChange}
+use Rattle.ufs_crash_laws.specs.FileChanges.{bytes_after, MayShow}
+use Rattle.ufs_crash_laws.specs.Changes.{changes_of, name_changes, names_after}
+use Rattle.ufs_crash_laws.specs.Explained.{IsCovering, IsExplained, IsExplainedFrom}
+use Rattle.ufs_crash_laws.specs.Mapped.{mapped}
+use Rattle.ufs_crash_laws.specs.Stored.{IsNamed}
+use Rattle.ufs_crash_laws.specs.declared.data.FileChange.{FileChange}
 use Rattle.ufs_image.specs.Catalog.{Catalog, IsInode, HasBlock}
 use Rattle.ufs_image.specs.Walks.{inode_of, path_text, ArePieces}
 use Rattle.ufs_ledger.specs.Ledger.{HasByte, is_held, Stand, Standing, Ledger}

@@ -23,12 +23,12 @@ use Rattle.ufs_model.specs.declared.data.Entry.{Entry}
 use Rattle.ufs_journal.specs.Found.{IsFreeFrom}
 use Rattle.ufs_journal.specs.Kept.{HasEarlier}
 use Rattle.ufs_journal.specs.Written.{IsAppended, IsMaybeCommitted, CommitsOne}
-use Rattle.ufs_prefix.specs.FileChanges.{all_changed, byte_at}
-use Rattle.ufs_prefix.specs.Changes.{changes_of, name_changes, names_after}
-use Rattle.ufs_prefix.specs.Explained.{IsCovering}
-use Rattle.ufs_prefix.specs.Stored.{IsNamed}
-use Rattle.ufs_prefix.specs.Explained.{IsAckCovered}
-use Rattle.ufs_prefix.specs.declared.data.FileChange.{FileChange}
+use Rattle.ufs_crash_laws.specs.FileChanges.{all_changed, byte_at}
+use Rattle.ufs_crash_laws.specs.Changes.{changes_of, name_changes, names_after}
+use Rattle.ufs_crash_laws.specs.Explained.{IsCovering}
+use Rattle.ufs_crash_laws.specs.Stored.{IsNamed}
+use Rattle.ufs_crash_laws.specs.Explained.{IsAckCovered}
+use Rattle.ufs_crash_laws.specs.declared.data.FileChange.{FileChange}
 use Rattle.ufs_image.specs.Catalog.{IsInode, HasBlock}
 use Rattle.ufs_image.specs.Sound.{IsSoundCatalog}
 use Rattle.ufs_image.specs.Changes.{MayBecome}

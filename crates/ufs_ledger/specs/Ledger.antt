@@ -16,7 +16,7 @@ use Rattle.ufs_layout.specs.declared.superblock.Super.{Super}
 use Rattle.ufs_layout.specs.declared.records.LogRecord.{LogRecord}
 use Rattle.ufs_layout.specs.declared.records.LogRecord.TheVariants.{Delta, Place, Free}
 use Rattle.ufs_layout.specs.declared.records.Committed.{Committed}
-use Rattle.ufs_prefix.specs.FileChanges.{byte_at}
+use Rattle.ufs_crash_laws.specs.FileChanges.{byte_at}
 use Rattle.ufs_image.specs.Catalog.{Catalog, HasDirBlocks}
 use Rattle.ufs_image.specs.Sound.{IsSoundCatalog}
 use Rattle.ufs_image.specs.Folding.{Spells, with_committed_in}

@@ -5,4 +5,4 @@ mod free;
 mod loading;
 
 pub use loading::{Loaded, load};
-pub use ufs_catalog::RecoverFault;
+pub use ufs_metadata::RecoverFault;

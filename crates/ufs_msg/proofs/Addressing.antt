@@ -2,7 +2,7 @@
 use Rattle.std.proofs.Common.{◌≡◌, ℕ, zero, suc, ◌⊎◌, ⊎_elim, inl, inr, List, [], ◌∷◌, ◌++◌, replicate, slice_get, Option, Some, None, Result, Ok, Err, IfSome, MatchOption, MatchResult, refl, sym, ap, ◌∙◌, subst}
 use Rattle.circular_buffer.specs.Buffer.{Buffer, buffer}
 use Rattle.ufs_ring.specs.Buffers.{HasGained, HasLost}
-use Rattle.ufs_sound.specs.Owned.{Has}
+use Rattle.ufs_hand_laws.specs.Owned.{Has}
 use Rattle.ufs_msg.specs.Addressed.{IsAnswerTo}
 use Rattle.ufs_msg.specs.Plain.{AreAddressed}
 use Rattle.ufs_msg.specs.Rows.{HappensAt}

@@ -13,8 +13,8 @@ use Rattle.ufs_model.specs.declared.data.Actor.{Actor}
 use Rattle.ufs_model.specs.declared.data.Desc.{Desc}
 use Rattle.ufs_model.specs.declared.data.Entry.{Entry}
 use Rattle.ufs_model.specs.declared.data.Lease.{Lease}
-use Rattle.ufs_sound.specs.Owned.{Has}
-use Rattle.ufs_sound.specs.Parts.{ClientPart}
+use Rattle.ufs_hand_laws.specs.Owned.{Has}
+use Rattle.ufs_hand_laws.specs.Parts.{ClientPart}
 use Rattle.ufs_msg.specs.Requests.{Asked, HasClientAlone, asked_code}
 use Rattle.ufs_msg.specs.There.{IsClientThere, IsServerThere, MayServe}
 

@@ -1,7 +1,7 @@
 -- The rings of one thread, as they begin and as they stay.
 use Rattle.std.specs.Prelude.{ℕ, ◌≡◌, List, [], Some, replicate, slice_get}
 use Rattle.circular_buffer.specs.Buffer.{Buffer, buffer}
-use Rattle.ufs_sound.specs.Owned.{Has}
+use Rattle.ufs_hand_laws.specs.Owned.{Has}
 use Rattle.ufs_msg.specs.Addressed.{IsAnswerTo}
 use Rattle.ufs_msg.specs.declared.answer.Answer.{Answer}
 use Rattle.ufs_msg.specs.declared.servers.PerServer.{PerServer}

@@ -7,9 +7,9 @@ use Rattle.ufs_model.specs.PosixTree.{root_alone}
 use Rattle.ufs_model.specs.declared.data.PartName.{PartName}
 use Rattle.ufs_model.specs.declared.data.PartName.TheVariants.{Client}
 use Rattle.ufs_names.specs.NamesPart.{IsNamesPart, NamesPart}
-use Rattle.ufs_sound.specs.Owned.{count, only, without}
-use Rattle.ufs_sound.specs.Parts.{ClientPart, is_asked, is_client, is_file, is_names, is_store}
-use Rattle.ufs_sound.specs.Whole.{idle_client}
+use Rattle.ufs_hand_laws.specs.Owned.{count, only, without}
+use Rattle.ufs_hand_laws.specs.Parts.{ClientPart, is_asked, is_client, is_file, is_names, is_store}
+use Rattle.ufs_hand_laws.specs.Whole.{idle_client}
 use Rattle.ufs_store.specs.State.{StoreState}
 use Rattle.ufs_joint.specs.Cells.{View, both_of, given_of, kept_of}
 use Rattle.ufs_joint.specs.Disks.{cell_of}

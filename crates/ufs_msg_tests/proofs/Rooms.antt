@@ -4,7 +4,7 @@ use Rattle.circular_buffer.specs.Buffer.{Buffer, buffer}
 use Rattle.ufs_msg.proofs.Places.{get_set}
 use Rattle.ufs_msg.specs.Plain.{AreAddressed}
 use Rattle.ufs_msg.specs.declared.answer.Answer.{Answer}
-use Rattle.ufs_sound.specs.Owned.{Has}
+use Rattle.ufs_hand_laws.specs.Owned.{Has}
 
 pub still_addressed : {N : Type 0} (old : List (Buffer (Answer N))) (client room : ℕ) (is : Buffer (Answer N)) → is ≡ buffer [] room → AreAddressed old → AreAddressed (set old client is)
 still_addressed old client room is none are c ring x at has =

@@ -1,6 +1,6 @@
 -- A session of one client and two workers.
 use Rattle.std.specs.Prelude.{[], ◌∷◌}
-use Rattle.ufs_sound.specs.Whole.{idle_client}
+use Rattle.ufs_hand_laws.specs.Whole.{idle_client}
 use Rattle.ufs_joint.specs.Cells.{Start, spent}
 use Rattle.ufs_joint.specs.Rule.{no_start}
 use Rattle.ufs_joint.specs.Whole.{no_blocks}

@@ -15,9 +15,9 @@ use Rattle.ufs_model.specs.declared.data.PartName.TheVariants.{Client}
 use Rattle.ufs_msg.specs.Requests.{HasClientAlone, IsAsked}
 use Rattle.ufs_msg_tests.specs.TwoClients.{both_asked, none_left, second_left, sync_of, two_start}
 use Rattle.ufs_names.specs.NamesPart.{IsNamesPart, NamesPart}
-use Rattle.ufs_sound.specs.Owned.{Has, count, one}
-use Rattle.ufs_sound.specs.Parts.{AskedPart, ClientPart}
-use Rattle.ufs_sound.specs.Whole.{idle_asked, idle_client}
+use Rattle.ufs_hand_laws.specs.Owned.{Has, count, one}
+use Rattle.ufs_hand_laws.specs.Parts.{AskedPart, ClientPart}
+use Rattle.ufs_hand_laws.specs.Whole.{idle_asked, idle_client}
 use Rattle.ufs_store.specs.State.{StoreState, geometry_of_store}
 
 -- a number is one of two at most

@@ -7,7 +7,7 @@ use Rattle.ufs_model.specs.declared.data.Ask.{Ask}
 use Rattle.ufs_model.specs.declared.data.Op.TheVariants.{Sync}
 use Rattle.ufs_model.specs.declared.data.PartName.TheVariants.{Client}
 use Rattle.ufs_names.specs.NamesPart.{NamesPart}
-use Rattle.ufs_sound.specs.Whole.{idle_asked, idle_client}
+use Rattle.ufs_hand_laws.specs.Whole.{idle_asked, idle_client}
 use Rattle.ufs_store.specs.State.{StoreState}
 
 abbrev pub two_view : NamesPart → StoreState → View

@@ -6,7 +6,7 @@ ghost use Rattle.ufs_msg.specs.Requests.{HasClientAlone, IsAsked};
 ghost use Rattle.ufs_msg.specs.There.{IsClientThere, client_count, worker_count};
 ghost use Rattle.ufs_msg_tests.specs.TwoClients.{sync_of, two_start};
 ghost use Rattle.ufs_names.specs.NamesPart.{IsNamesPart};
-ghost use Rattle.ufs_sound.specs.Parts.{ClientPart};
+ghost use Rattle.ufs_hand_laws.specs.Parts.{ClientPart};
 
 use crate::asserts::holds;
 use crate::calls::{answers, asks, has_answer, has_ask, next_ask, redirect, sent_back};

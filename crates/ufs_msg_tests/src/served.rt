@@ -8,7 +8,7 @@ ghost use Rattle.ufs_model.specs.declared.data.PartName.TheVariants.{Client};
 ghost use Rattle.ufs_msg.specs.Requests.{HasClientAlone};
 ghost use Rattle.ufs_msg.specs.There.{client_count, worker_count};
 ghost use Rattle.ufs_names.specs.NamesPart.{IsNamesPart};
-ghost use Rattle.ufs_sound.specs.Parts.{ClientPart};
+ghost use Rattle.ufs_hand_laws.specs.Parts.{ClientPart};
 
 use crate::asserts::{holds, same};
 use crate::calls::answers;

@@ -4,14 +4,14 @@ ghost use Rattle.ufs_joint.specs.Marks.{asking};
 ghost use Rattle.ufs_joint_tests.specs.Small.{all_left, answered, back, small_start};
 ghost use Rattle.ufs_layout.specs.Areas.{IsGeometry};
 ghost use Rattle.ufs_model.specs.declared.data.Op.TheVariants.{Sync};
-ghost use Rattle.ufs_sound.specs.Owned.{Has};
-ghost use Rattle.ufs_sound.specs.Whole.{idle_asked, idle_client};
+ghost use Rattle.ufs_hand_laws.specs.Owned.{Has};
+ghost use Rattle.ufs_hand_laws.specs.Whole.{idle_asked, idle_client};
 
+use ufs_hand_laws::Fresh;
 use ufs_joint::{Event, Hand, HandTable, Leaving, Naming};
 use ufs_layout::Geometry;
 use ufs_model::{Actor, Excuse, Op, Reply};
 use ufs_names::Names;
-use ufs_sound::Fresh;
 use ufs_store::Door;
 
 // A client that has asked nothing asks for a `sync`.

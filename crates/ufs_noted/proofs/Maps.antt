@@ -5,12 +5,12 @@ use Rattle.std.specs.Cmp.{nat_cmp_total}
 use Rattle.std.specs.Ordering.{nat_cmp}
 use Rattle.std.specs.FinMap as map
 use Rattle.std.specs.FinMap.{nat_cmp-IsAntisymmetric, same_map}
-use Rattle.ufs_durable.specs.State.{CommitState}
+use Rattle.ufs_file_commits.specs.State.{CommitState}
 use Rattle.ufs_file.specs.Hand.{FileState}
 use Rattle.ufs_files.specs.Files.{Files}
 use Rattle.ufs_files.proofs.MapLemmas.{one_or_apart, put_else, put_here}
 use Rattle.ufs_model.proofs.Facts.Lookups.{inserted_else, inserted_here}
-use Rattle.ufs_stored.specs.Parts.{Commits}
+use Rattle.ufs_promise_laws.specs.Parts.{Commits}
 use Rattle.ufs_noted.specs.Noted.{one_file, one_known}
 
 pub none_some : {A : Type 0} (o : Option A) (x : A) → o ≡ None → o ≡ Some x → ⊥

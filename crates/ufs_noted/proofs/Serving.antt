@@ -6,7 +6,7 @@ use Rattle.std.specs.Ordering.{nat_cmp}
 use Rattle.ufs_bitmap.specs.Blocks.{BlockSet}
 use Rattle.ufs_bitmap.specs.Taking.{has, set_of}
 use Rattle.ufs_bitmap.proofs.SetLemmas.{has-difference, has-union}
-use Rattle.ufs_durable.specs.State.{CommitState}
+use Rattle.ufs_file_commits.specs.State.{CommitState}
 use Rattle.ufs_extent.specs.Runs.{blocks_of}
 use Rattle.ufs_file.specs.Hand.{FileState}
 use Rattle.ufs_files.specs.Files.{Files}
@@ -17,8 +17,8 @@ use Rattle.ufs_model.specs.declared.data.Desc.{Desc}
 use Rattle.ufs_model.specs.declared.data.Reply.{Reply}
 use Rattle.ufs_names.specs.Calls.{KeepInodes}
 use Rattle.ufs_names.specs.NamesPart.{NamesPart}
-use Rattle.ufs_names_stored.specs.Serving.{HasLeft, HasServed, HasSettled, emptied_commits}
-use Rattle.ufs_stored.specs.Parts.{Parts}
+use Rattle.ufs_event_laws.specs.Serving.{HasLeft, HasServed, HasSettled, emptied_commits}
+use Rattle.ufs_promise_laws.specs.Parts.{Parts}
 use Rattle.ufs_noted.specs.Known.{IsSettledWith, commits_in, file_in}
 use Rattle.ufs_noted.specs.Noted.{HasApplied, HasServedWith, Noted, one_file, one_known, parts_with}
 use Rattle.ufs_noted.specs.declared.known.KnownFile.{KnownFile}

@@ -3,9 +3,9 @@ use Rattle.std.specs.Prelude.{◌≡◌, [], Option, Some, None}
 use Rattle.std.specs.FinSet as set
 use Rattle.ufs_bitmap.specs.Blocks.{BlockSet}
 use Rattle.ufs_bitmap.specs.Taking.{set_of}
-use Rattle.ufs_durable.specs.State.{CommitState}
+use Rattle.ufs_file_commits.specs.State.{CommitState}
 use Rattle.ufs_file.specs.Hand.{FileState}
-use Rattle.ufs_names_stored.specs.Serving.{emptied_commits}
+use Rattle.ufs_event_laws.specs.Serving.{emptied_commits}
 use Rattle.ufs_noted.specs.declared.known.KnownFile.{KnownFile}
 
 abbrev pub file_in : Option KnownFile → Option FileState

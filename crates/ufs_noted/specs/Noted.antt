@@ -6,7 +6,7 @@ use Rattle.std.specs.FinSet as set
 use Rattle.std.specs.Ordering.{nat_cmp}
 use Rattle.ufs_bitmap.specs.Blocks.{BlockSet}
 use Rattle.ufs_bitmap.specs.Taking.{has}
-use Rattle.ufs_durable.specs.State.{CommitState}
+use Rattle.ufs_file_commits.specs.State.{CommitState}
 use Rattle.ufs_file.specs.Hand.{FileState}
 use Rattle.ufs_files.specs.Files.{Files}
 use Rattle.ufs_model.specs.PosixTree.{PosixTree}
@@ -21,8 +21,8 @@ use Rattle.ufs_names.specs.Calls.{HaveInodes, IsAsked, IsServed, KeepInodes}
 use Rattle.ufs_names.specs.NamesPart.{NamesPart, part_code}
 use Rattle.ufs_names.specs.Notes.{with_notes}
 use Rattle.ufs_names.specs.Space.{AreApart, HaveTheSame}
-use Rattle.ufs_names_stored.specs.Serving.{HasServed}
-use Rattle.ufs_stored.specs.Parts.{Commits, Parts}
+use Rattle.ufs_event_laws.specs.Serving.{HasServed}
+use Rattle.ufs_promise_laws.specs.Parts.{Commits, Parts}
 
 pub record Noted : Type 0 where
   pub names : NamesPart

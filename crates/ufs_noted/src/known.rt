@@ -8,9 +8,9 @@ ghost use Rattle.ufs_names.specs.Calls.{no_bytes};
 use std::alloc::Global;
 use ufs_base::Memory;
 use ufs_bitmap::Pool;
-use ufs_durable::FileCommits;
 use ufs_extent::Extents;
 use ufs_file::{Applied, FileHand};
+use ufs_file_commits::FileCommits;
 use ufs_files::FileHands;
 use ufs_pouring::add_runs;
 

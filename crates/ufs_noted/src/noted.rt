@@ -44,7 +44,7 @@ impl NotedNames {
     ghost use Rattle.std.specs.FinMap as map;
     ghost use Rattle.std.specs.FinSet as set;
     ghost use Rattle.ufs_bitmap.specs.Blocks.{BlockSet};
-    ghost use Rattle.ufs_durable.specs.State.{IsNoted, state_of};
+    ghost use Rattle.ufs_file_commits.specs.State.{IsNoted, state_of};
     ghost use Rattle.ufs_file.specs.Hand.{IsEntryOf};
     ghost use Rattle.ufs_model.specs.Asks.{IsAsk};
     ghost use Rattle.ufs_model.specs.Excuses.{ExcuseFits};

@@ -31,18 +31,18 @@ use Rattle.ufs_model.specs.declared.data.Reply.TheVariants as reply
 use Rattle.ufs_model.proofs.AlikeLemmas.{live_alike}
 use Rattle.ufs_model.proofs.Facts.Allowed.{first_none}
 use Rattle.ufs_model.proofs.ToldLemmas.{bytes_same, own_same, tree_same}
-use Rattle.ufs_prefix.specs.Changes.{asks_dir_fsync, asks_fsync, change_of, names_by}
-use Rattle.ufs_prefix.proofs.Facts.Kinds.{unserved_names, unserved_stays}
-use Rattle.ufs_prefix.proofs.Facts.Local.{file_alike, file_untouched, names_alike}
-use Rattle.ufs_sound.specs.Covers.{step_in}
-use Rattle.ufs_sound.specs.Draws.{IsIn}
-use Rattle.ufs_sound.specs.Owned.{Has, count}
-use Rattle.ufs_sound.specs.Parts.{NamesPart, View, Start, is_holder}
-use Rattle.ufs_sound.proofs.Owning.{has_count}
-use Rattle.ufs_sound.proofs.Keys.{itself, alike}
-use Rattle.ufs_sound.proofs.Covering.{excused_or, excused_unserved, tree_served, tree_stays}
-use Rattle.ufs_sound.proofs.Drawing.{touches_own}
-use Rattle.ufs_sound.proofs.Draw.Setting.{file_or, names_or}
+use Rattle.ufs_crash_laws.specs.Changes.{asks_dir_fsync, asks_fsync, change_of, names_by}
+use Rattle.ufs_crash_laws.proofs.Facts.Kinds.{unserved_names, unserved_stays}
+use Rattle.ufs_crash_laws.proofs.Facts.Local.{file_alike, file_untouched, names_alike}
+use Rattle.ufs_hand_laws.specs.Covers.{step_in}
+use Rattle.ufs_hand_laws.specs.Draws.{IsIn}
+use Rattle.ufs_hand_laws.specs.Owned.{Has, count}
+use Rattle.ufs_hand_laws.specs.Parts.{NamesPart, View, Start, is_holder}
+use Rattle.ufs_hand_laws.proofs.Owning.{has_count}
+use Rattle.ufs_hand_laws.proofs.Keys.{itself, alike}
+use Rattle.ufs_hand_laws.proofs.Covering.{excused_or, excused_unserved, tree_served, tree_stays}
+use Rattle.ufs_hand_laws.proofs.Drawing.{touches_own}
+use Rattle.ufs_hand_laws.proofs.Draw.Setting.{file_or, names_or}
 use Rattle.ufs_one_hand.specs.OneHand.{HasSession}
 use Rattle.ufs_one_hand.proofs.Reached.{touch_same}
 use Rattle.ufs_one_hand.proofs.Started.{one_client}

@@ -10,17 +10,17 @@ use Rattle.ufs_model.specs.PosixTree.{PosixTree, is_number}
 use Rattle.ufs_model.specs.declared.data.Entry.{Entry}
 use Rattle.ufs_model.specs.declared.data.Op.{Op}
 use Rattle.ufs_model.specs.declared.data.Op.TheVariants as op
-use Rattle.ufs_prefix.specs.Changes.{NameState, asks_commit, asks_dir_fsync, asks_fsync, asks_sync, changes_names, name_changes, names_after, names_by, names_of, syncs_file, syncs_names}
-use Rattle.ufs_prefix.specs.Steps.{is_ok, is_served}
-use Rattle.ufs_prefix.proofs.Facts.Histories.{name_changes-push}
-use Rattle.ufs_prefix.proofs.Facts.Sessions.{fsynced_live, names_last, next_names}
-use Rattle.ufs_sound.specs.Acknowledged.{AreNamesAcknowledged, BirthsAreAcknowledged, NamesAreAcknowledged}
-use Rattle.ufs_sound.specs.Covers.{SyncsFile, SyncsNames, step_in}
-use Rattle.ufs_sound.specs.Marks.{IsMadeBy}
-use Rattle.ufs_sound.specs.Owned.{one, Has}
-use Rattle.ufs_sound.specs.Parts.{FilePart, NamesPart, Start, View}
-use Rattle.ufs_sound.proofs.Keys.{itself, alike}
-use Rattle.ufs_sound.proofs.Owning.{count_has}
+use Rattle.ufs_crash_laws.specs.Changes.{NameState, asks_commit, asks_dir_fsync, asks_fsync, asks_sync, changes_names, name_changes, names_after, names_by, names_of, syncs_file, syncs_names}
+use Rattle.ufs_crash_laws.specs.Steps.{is_ok, is_served}
+use Rattle.ufs_crash_laws.proofs.Facts.Histories.{name_changes-push}
+use Rattle.ufs_crash_laws.proofs.Facts.Sessions.{fsynced_live, names_last, next_names}
+use Rattle.ufs_hand_laws.specs.Acknowledged.{AreNamesAcknowledged, BirthsAreAcknowledged, NamesAreAcknowledged}
+use Rattle.ufs_hand_laws.specs.Covers.{SyncsFile, SyncsNames, step_in}
+use Rattle.ufs_hand_laws.specs.Marks.{IsMadeBy}
+use Rattle.ufs_hand_laws.specs.Owned.{one, Has}
+use Rattle.ufs_hand_laws.specs.Parts.{FilePart, NamesPart, Start, View}
+use Rattle.ufs_hand_laws.proofs.Keys.{itself, alike}
+use Rattle.ufs_hand_laws.proofs.Owning.{count_has}
 use Rattle.ufs_one_hand.specs.Drawn.{IsAcknowledged}
 use Rattle.ufs_one_hand.specs.OneHand.{HasSession}
 use Rattle.ufs_one_hand.proofs.Passage.{store_there}

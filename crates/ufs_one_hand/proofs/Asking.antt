@@ -5,12 +5,12 @@ use Rattle.ufs_base.specs.declared.limits.TheConstants.{MAX_CLIENTS, MAX_REQUEST
 use Rattle.ufs_model.specs.History.{tree_after, entries_of}
 use Rattle.ufs_model.specs.declared.data.Entry.{Entry}
 use Rattle.ufs_model.specs.declared.data.Op.{Op}
-use Rattle.ufs_sound.specs.Marks.{MayAsk, asking_client, asking_asked, asked_by}
-use Rattle.ufs_sound.specs.Owned.{one, Has}
-use Rattle.ufs_sound.specs.Parts.{ClientPart, AskedPart, Start, View}
-use Rattle.ufs_sound.specs.Whole.{idle_client}
-use Rattle.ufs_sound.proofs.Keys.{itself, alike}
-use Rattle.ufs_sound.proofs.Owning.{has_count, has_find, has_each, weigh_each}
+use Rattle.ufs_hand_laws.specs.Marks.{MayAsk, asking_client, asking_asked, asked_by}
+use Rattle.ufs_hand_laws.specs.Owned.{one, Has}
+use Rattle.ufs_hand_laws.specs.Parts.{ClientPart, AskedPart, Start, View}
+use Rattle.ufs_hand_laws.specs.Whole.{idle_client}
+use Rattle.ufs_hand_laws.proofs.Keys.{itself, alike}
+use Rattle.ufs_hand_laws.proofs.Owning.{has_count, has_find, has_each, weigh_each}
 use Rattle.ufs_hand.specs.Session.{IsEvent}
 use Rattle.ufs_one_hand.specs.Drawn.{asked_view}
 use Rattle.ufs_one_hand.specs.OneHand.{HasSession, IsClientAt, client_in}

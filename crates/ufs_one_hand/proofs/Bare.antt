@@ -5,11 +5,11 @@ use Rattle.std.specs.List.{range_with_len}
 use Rattle.std.specs.Ordering.{nat_cmp}
 use Rattle.std.specs.FinMap as fin
 use Rattle.ufs_model.specs.Start.{PathNodes, start_of}
-use Rattle.ufs_sound.specs.Marks.{IsDiskKept}
-use Rattle.ufs_sound.specs.Opened.{OpenedDisk, opened_file, opened_view}
-use Rattle.ufs_sound.specs.Owned.{Has, times, weigh}
-use Rattle.ufs_sound.specs.Parts.{Cells, FilePart, Start, StorePart, View, file_uses, uses}
-use Rattle.ufs_sound.proofs.Owning.{none_some}
+use Rattle.ufs_hand_laws.specs.Marks.{IsDiskKept}
+use Rattle.ufs_hand_laws.specs.Opened.{OpenedDisk, opened_file, opened_view}
+use Rattle.ufs_hand_laws.specs.Owned.{Has, times, weigh}
+use Rattle.ufs_hand_laws.specs.Parts.{Cells, FilePart, Start, StorePart, View, file_uses, uses}
+use Rattle.ufs_hand_laws.proofs.Owning.{none_some}
 use Rattle.ufs_one_hand.specs.OneHand.{disk_with, IsStart}
 
 module _ (nodes : PathNodes) (cells : Cells) (is_visible : Bool) where

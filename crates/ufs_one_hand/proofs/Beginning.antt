@@ -5,13 +5,13 @@ use Rattle.std.specs.Ordering.{nat_cmp}
 use Rattle.std.specs.FinMap as fin
 use Rattle.ufs_model.specs.Order.{fd_cmp}
 use Rattle.ufs_model.specs.Start.{PathNodes, IsPathTree, start_of}
-use Rattle.ufs_sound.specs.ByImages.{by_images}
-use Rattle.ufs_sound.specs.Opened.{OpenedDisk, opened_file, opened_names, opened_store, opened_view, CanBeOpened, OpenedDisksServe}
-use Rattle.ufs_sound.specs.Owned.{one}
-use Rattle.ufs_sound.specs.Parts.{Cells, FilePart, Start, View}
-use Rattle.ufs_sound.specs.Whole.{CanOpen, idle_client}
-use Rattle.ufs_sound.proofs.Owning.{none_some}
-use Rattle.ufs_sound.proofs.First.{all_are}
+use Rattle.ufs_hand_laws.specs.ByImages.{by_images}
+use Rattle.ufs_hand_laws.specs.Opened.{OpenedDisk, opened_file, opened_names, opened_store, opened_view, CanBeOpened, OpenedDisksServe}
+use Rattle.ufs_hand_laws.specs.Owned.{one}
+use Rattle.ufs_hand_laws.specs.Parts.{Cells, FilePart, Start, View}
+use Rattle.ufs_hand_laws.specs.Whole.{CanOpen, idle_client}
+use Rattle.ufs_hand_laws.proofs.Owning.{none_some}
+use Rattle.ufs_hand_laws.proofs.First.{all_are}
 use Rattle.ufs_hand.specs.Session.{CanBegin, first_view}
 use Rattle.ufs_one_hand.specs.declared.pools.TheConstants.{PRIMARY_POOL}
 use Rattle.ufs_one_hand.specs.Apart.{HasEachFile}

@@ -8,15 +8,15 @@ use Rattle.ufs_model.specs.PosixTree.{PosixTree, IsTree, is_node_of}
 use Rattle.ufs_model.specs.History.{tree_after, entries_of}
 use Rattle.ufs_model.specs.declared.data.Entry.{Entry}
 use Rattle.ufs_model.proofs.Facts.Held.{open_by}
-use Rattle.ufs_sound.specs.Draws.{IsIn}
-use Rattle.ufs_sound.specs.Owned.{one, Has, count}
-use Rattle.ufs_sound.specs.Parts.{Cells, ClientPart, Start, StorePart, Stretch, View}
-use Rattle.ufs_sound.specs.Whole.{HoldsAll, IsMerge}
-use Rattle.ufs_sound.proofs.Keys.{itself, alike}
-use Rattle.ufs_sound.proofs.Owning.{has_count, count_has}
-use Rattle.ufs_sound.specs.Durable.{IsDurable, IsExplainedThroughout}
-use Rattle.ufs_sound.specs.Explained.{AreJoined}
-use Rattle.ufs_sound.specs.Visible.{IsDiskVisible}
+use Rattle.ufs_hand_laws.specs.Draws.{IsIn}
+use Rattle.ufs_hand_laws.specs.Owned.{one, Has, count}
+use Rattle.ufs_hand_laws.specs.Parts.{Cells, ClientPart, Start, StorePart, Stretch, View}
+use Rattle.ufs_hand_laws.specs.Whole.{HoldsAll, IsMerge}
+use Rattle.ufs_hand_laws.proofs.Keys.{itself, alike}
+use Rattle.ufs_hand_laws.proofs.Owning.{has_count, count_has}
+use Rattle.ufs_hand_laws.specs.Durable.{IsDurable, IsExplainedThroughout}
+use Rattle.ufs_hand_laws.specs.Explained.{AreJoined}
+use Rattle.ufs_hand_laws.specs.Visible.{IsDiskVisible}
 use Rattle.ufs_hand.specs.Session.{KnowsAll, word_of}
 use Rattle.ufs_one_hand.specs.Apart.{HasEachFile}
 use Rattle.ufs_one_hand.specs.OneHand.{HasSession, IsStampedIn}
@@ -25,8 +25,8 @@ use Rattle.ufs_one_hand.proofs.Counting.{none_of, numbered, one_list, same_lengt
 
 module _ (k : Start) (history : List Entry) (v : View) (h : HasSession k history None v) where
   module _ (t : PosixTree) (is : IsTree t) (within : IsIn v t) where
-    has_names : Has {A = Unit {0} × Rattle.ufs_sound.specs.Parts.NamesPart} (tt, h.names) v.names
-    has_names = subst (Has {A = Unit {0} × Rattle.ufs_sound.specs.Parts.NamesPart} (tt, h.names)) (sym h.has_names) (inl refl)
+    has_names : Has {A = Unit {0} × Rattle.ufs_hand_laws.specs.Parts.NamesPart} (tt, h.names) v.names
+    has_names = subst (Has {A = Unit {0} × Rattle.ufs_hand_laws.specs.Parts.NamesPart} (tt, h.names)) (sym h.has_names) (inl refl)
 
     -- whichever tree the parts are of, it has the same files
     same_live : (f : ℕ) → is_some (fin.get t.bytes f) ≡ is_some (fin.get (tree_after k.tree history).bytes f)

@@ -3,9 +3,9 @@ use Rattle.std.proofs.Common.{◌≡◌, ◌≢◌, ◌⊎◌, ℕ, zero, suc, �
 use Rattle.ufs_model.specs.History.{IsLegalFrom, entries_of, goes_on}
 use Rattle.ufs_model.specs.PosixTree.{PosixTree}
 use Rattle.ufs_model.specs.declared.data.Entry.{Entry}
-use Rattle.ufs_sound.specs.Owned.{Has}
-use Rattle.ufs_sound.proofs.Keys.{itself}
-use Rattle.ufs_sound.proofs.Ruling.{tally, tally_step, tally_none}
+use Rattle.ufs_hand_laws.specs.Owned.{Has}
+use Rattle.ufs_hand_laws.proofs.Keys.{itself}
+use Rattle.ufs_hand_laws.proofs.Ruling.{tally, tally_step, tally_none}
 
 -- each entry is of a client below this
 abbrev pub AreBelow : ℕ → List Entry → Type 0

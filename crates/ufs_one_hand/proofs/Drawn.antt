@@ -9,20 +9,20 @@ use Rattle.ufs_model.specs.Touched.{holds}
 use Rattle.ufs_model.specs.declared.data.Entry.{Entry}
 use Rattle.ufs_model.specs.declared.data.PartName.TheVariants as part
 use Rattle.ufs_model.proofs.Facts.Histories.{tree_after-push, legal_from_push, own-push, others-push}
-use Rattle.ufs_prefix.specs.Changes.{NameState, change_of, changes_of, name_changes, names_by}
-use Rattle.ufs_prefix.specs.declared.data.FileChange.{FileChange}
-use Rattle.ufs_prefix.proofs.Facts.Contents.{unborn_still}
-use Rattle.ufs_prefix.proofs.Facts.Histories.{changes_of-push, name_changes-push}
-use Rattle.ufs_prefix.proofs.Facts.Stores.{unborn_changes}
-use Rattle.ufs_prefix.proofs.Facts.Sessions.{tree_goes_on}
-use Rattle.ufs_sound.specs.Covers.{step_in}
-use Rattle.ufs_sound.specs.Draws.{Leaves, client_after, drawn, entry_of, new_file}
-use Rattle.ufs_sound.specs.Owned.{one, Has, count}
-use Rattle.ufs_sound.specs.Parts.{ClientPart, FilePart, NamesPart, View, OwnFds, Start}
-use Rattle.ufs_sound.specs.declared.fresh.Fresh.{Fresh}
-use Rattle.ufs_sound.proofs.Covering.{excused_or, tree_served, tree_stays}
-use Rattle.ufs_sound.proofs.Drawing.{touches_own}
-use Rattle.ufs_sound.proofs.Owning.{weigh_each, has_append, has_each}
+use Rattle.ufs_crash_laws.specs.Changes.{NameState, change_of, changes_of, name_changes, names_by}
+use Rattle.ufs_crash_laws.specs.declared.data.FileChange.{FileChange}
+use Rattle.ufs_crash_laws.proofs.Facts.Contents.{unborn_still}
+use Rattle.ufs_crash_laws.proofs.Facts.Histories.{changes_of-push, name_changes-push}
+use Rattle.ufs_crash_laws.proofs.Facts.Stores.{unborn_changes}
+use Rattle.ufs_crash_laws.proofs.Facts.Sessions.{tree_goes_on}
+use Rattle.ufs_hand_laws.specs.Covers.{step_in}
+use Rattle.ufs_hand_laws.specs.Draws.{Leaves, client_after, drawn, entry_of, new_file}
+use Rattle.ufs_hand_laws.specs.Owned.{one, Has, count}
+use Rattle.ufs_hand_laws.specs.Parts.{ClientPart, FilePart, NamesPart, View, OwnFds, Start}
+use Rattle.ufs_hand_laws.specs.declared.fresh.Fresh.{Fresh}
+use Rattle.ufs_hand_laws.proofs.Covering.{excused_or, tree_served, tree_stays}
+use Rattle.ufs_hand_laws.proofs.Drawing.{touches_own}
+use Rattle.ufs_hand_laws.proofs.Owning.{weigh_each, has_append, has_each}
 use Rattle.ufs_one_hand.specs.Apart.{FileViews, HasEachFile, IsHandOfFile}
 use Rattle.ufs_one_hand.specs.OneHand.{HasSession, IsClientAt, IsFileAt, AreNamesAt}
 use Rattle.ufs_one_hand.specs.Drawn.{IsAnswer, file_drawn, leaves_after}

@@ -18,21 +18,21 @@ use Rattle.ufs_model.specs.declared.data.PartName.{PartName}
 use Rattle.ufs_model.specs.declared.data.PartName.TheVariants as part
 use Rattle.ufs_model.specs.declared.data.Reply.{Reply}
 use Rattle.ufs_model.specs.declared.data.Reply.TheVariants as reply
-use Rattle.ufs_prefix.specs.Changes.{change_of, asks_commit, asks_dir_fsync, asks_fsync, asks_sync, syncs_file, syncs_names}
-use Rattle.ufs_prefix.specs.Steps.{is_ok, is_served}
+use Rattle.ufs_crash_laws.specs.Changes.{change_of, asks_commit, asks_dir_fsync, asks_fsync, asks_sync, syncs_file, syncs_names}
+use Rattle.ufs_crash_laws.specs.Steps.{is_ok, is_served}
 use Rattle.ufs_model.proofs.Facts.Allowed.{first_none}
 use Rattle.ufs_model.proofs.Facts.Live.{number_is}
-use Rattle.ufs_prefix.proofs.Facts.Local.{not_refused}
-use Rattle.ufs_prefix.proofs.Facts.Sessions.{fsynced_live}
-use Rattle.ufs_sound.specs.Covers.{step_in, SyncsFile, SyncsNames}
-use Rattle.ufs_sound.specs.Draws.{IsIn, IsAbsent, IsUnchanged, IsFileAfter, IsNamesAfter, DrawsOn, MayDraw, Leaves, drawn, entry_of, new_file}
-use Rattle.ufs_sound.specs.LeasesTrue.{IsListedIn}
-use Rattle.ufs_sound.specs.Owned.{one, weigh, Has, count, each, times}
-use Rattle.ufs_sound.specs.Parts.{ClientPart, FilePart, NamesPart, View, OwnFds, Start, HoldsPart, only_one, file_uses, names_uses, dropped_uses, uses, is_holder}
-use Rattle.ufs_sound.specs.declared.fresh.Fresh.{Fresh}
-use Rattle.ufs_sound.proofs.Drawing.{touches_own}
-use Rattle.ufs_sound.proofs.Keys.{itself, alike}
-use Rattle.ufs_sound.proofs.Owning.{weigh_each, has_append, append_has, count_has, has_count, none_some}
+use Rattle.ufs_crash_laws.proofs.Facts.Local.{not_refused}
+use Rattle.ufs_crash_laws.proofs.Facts.Sessions.{fsynced_live}
+use Rattle.ufs_hand_laws.specs.Covers.{step_in, SyncsFile, SyncsNames}
+use Rattle.ufs_hand_laws.specs.Draws.{IsIn, IsAbsent, IsUnchanged, IsFileAfter, IsNamesAfter, DrawsOn, MayDraw, Leaves, drawn, entry_of, new_file}
+use Rattle.ufs_hand_laws.specs.LeasesTrue.{IsListedIn}
+use Rattle.ufs_hand_laws.specs.Owned.{one, weigh, Has, count, each, times}
+use Rattle.ufs_hand_laws.specs.Parts.{ClientPart, FilePart, NamesPart, View, OwnFds, Start, HoldsPart, only_one, file_uses, names_uses, dropped_uses, uses, is_holder}
+use Rattle.ufs_hand_laws.specs.declared.fresh.Fresh.{Fresh}
+use Rattle.ufs_hand_laws.proofs.Drawing.{touches_own}
+use Rattle.ufs_hand_laws.proofs.Keys.{itself, alike}
+use Rattle.ufs_hand_laws.proofs.Owning.{weigh_each, has_append, append_has, count_has, has_count, none_some}
 use Rattle.ufs_one_hand.specs.OneHand.{HasSession, KnowsSynced}
 use Rattle.ufs_one_hand.specs.Drawn.{IsAnswer, leaves_after, names_drawn, file_drawn, files_gone}
 use Rattle.ufs_one_hand.proofs.Alike.{AreAlike, IsMine, TouchesMine, alike_dir, alike_fsync, session_alike, names_there, names_are, alike_reply, alike_after, alike_file_changes, alike_name_changes, alike_touched}

@@ -7,13 +7,13 @@ use Rattle.ufs_model.specs.PosixTree.{PosixTree, IsTree}
 use Rattle.ufs_model.specs.declared.data.Entry.{Entry}
 use Rattle.ufs_model.proofs.Facts.Live.{HasBytes}
 use Rattle.ufs_model.proofs.Facts.Lookups.{from_some}
-use Rattle.ufs_prefix.specs.FileChanges.{all_changed}
-use Rattle.ufs_prefix.proofs.Facts.Contents.{bytes_go_on, unborn_empty, unborn_still}
-use Rattle.ufs_sound.specs.Draws.{new_file}
-use Rattle.ufs_sound.specs.Owned.{one, Has, count, named}
-use Rattle.ufs_sound.specs.Parts.{FilePart}
-use Rattle.ufs_sound.proofs.Keys.{itself}
-use Rattle.ufs_sound.proofs.Owning.{weigh_append, has_append}
+use Rattle.ufs_crash_laws.specs.FileChanges.{all_changed}
+use Rattle.ufs_crash_laws.proofs.Facts.Contents.{bytes_go_on, unborn_empty, unborn_still}
+use Rattle.ufs_hand_laws.specs.Draws.{new_file}
+use Rattle.ufs_hand_laws.specs.Owned.{one, Has, count, named}
+use Rattle.ufs_hand_laws.specs.Parts.{FilePart}
+use Rattle.ufs_hand_laws.proofs.Keys.{itself}
+use Rattle.ufs_hand_laws.proofs.Owning.{weigh_append, has_append}
 use Rattle.ufs_one_hand.specs.Drawn.{file_drawn, files_left, files_made, files_gone}
 
 module _ (t : PosixTree) (e : Entry) where

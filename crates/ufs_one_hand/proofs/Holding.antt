@@ -7,7 +7,7 @@ use Rattle.ufs_model.specs.PosixTree.{Fds, is_desc_of, is_number}
 use Rattle.ufs_model.specs.Touched.{holds}
 use Rattle.ufs_model.specs.declared.data.Desc.{Desc}
 use Rattle.ufs_model.proofs.Facts.Rising.{none_first}
-use Rattle.ufs_sound.specs.Parts.{is_holder}
+use Rattle.ufs_hand_laws.specs.Parts.{is_holder}
 use Rattle.ufs_one_hand.specs.Drawn.{holds_in}
 
 abbrev pairs : List ((ℕ × ℕ) × Desc) → List (ℕ × ℕ)

@@ -15,18 +15,18 @@ use Rattle.ufs_model.specs.PosixTree.{PosixTree}
 use Rattle.ufs_model.specs.declared.data.Entry.{Entry}
 use Rattle.ufs_model.specs.declared.data.Op.{Op}
 use Rattle.ufs_model.proofs.Facts.Lookups.{inserted_here, inserted_else}
-use Rattle.ufs_prefix.specs.Changes.{name_changes, file_synced, syncs_file, syncs_names}
-use Rattle.ufs_sound.specs.Acknowledged.{AcknowledgedShow, AreFilesAcknowledged, AreNamesAcknowledged, BirthsAreAcknowledged, FilesAreAcknowledged, NamesAreAcknowledged}
-use Rattle.ufs_sound.specs.ByImages.{by_images}
-use Rattle.ufs_sound.specs.Covers.{step_in}
-use Rattle.ufs_sound.specs.Marks.{value_after, IsSingle, IsMadeBy, StoreGoes, NamesGo, RemakesOn, MayRemake, IsBeginningKnown}
-use Rattle.ufs_sound.specs.Owned.{one, Has, count, each, weigh}
-use Rattle.ufs_sound.specs.Parts.{Cells, FilePart, NamesPart, Start, StorePart, View, committed, file_uses, later, only_one, store_uses}
-use Rattle.ufs_sound.specs.Shown.{ExplainsImages, ShowsImages}
-use Rattle.ufs_sound.specs.Visible.{IsDiskVisible}
-use Rattle.ufs_sound.proofs.Happening.Staying.{answers_stay, blocks_stay, both_remake, same_file, same_parts_keep, same_parts_know}
-use Rattle.ufs_sound.proofs.Keys.{itself, alike}
-use Rattle.ufs_sound.proofs.Owning.{count_has, has_count, has_append, append_has, has_each, weigh_each}
+use Rattle.ufs_crash_laws.specs.Changes.{name_changes, file_synced, syncs_file, syncs_names}
+use Rattle.ufs_hand_laws.specs.Acknowledged.{AcknowledgedShow, AreFilesAcknowledged, AreNamesAcknowledged, BirthsAreAcknowledged, FilesAreAcknowledged, NamesAreAcknowledged}
+use Rattle.ufs_hand_laws.specs.ByImages.{by_images}
+use Rattle.ufs_hand_laws.specs.Covers.{step_in}
+use Rattle.ufs_hand_laws.specs.Marks.{value_after, IsSingle, IsMadeBy, StoreGoes, NamesGo, RemakesOn, MayRemake, IsBeginningKnown}
+use Rattle.ufs_hand_laws.specs.Owned.{one, Has, count, each, weigh}
+use Rattle.ufs_hand_laws.specs.Parts.{Cells, FilePart, NamesPart, Start, StorePart, View, committed, file_uses, later, only_one, store_uses}
+use Rattle.ufs_hand_laws.specs.Shown.{ExplainsImages, ShowsImages}
+use Rattle.ufs_hand_laws.specs.Visible.{IsDiskVisible}
+use Rattle.ufs_hand_laws.proofs.Happening.Staying.{answers_stay, blocks_stay, both_remake, same_file, same_parts_keep, same_parts_know}
+use Rattle.ufs_hand_laws.proofs.Keys.{itself, alike}
+use Rattle.ufs_hand_laws.proofs.Owning.{count_has, has_count, has_append, append_has, has_each, weigh_each}
 use Rattle.ufs_hand.specs.Session.{IsEvent}
 use Rattle.ufs_one_hand.specs.Drawn.{IsAcknowledged, turned}
 use Rattle.ufs_one_hand.specs.OneHand.{HasSession, IsCovered, IsCoveredIn, IsStampedIn, IsStoreAt, KnowsSynced, faults_in, in_store, passed_in, state_in}

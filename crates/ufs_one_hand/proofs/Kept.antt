@@ -7,10 +7,10 @@ use Rattle.ufs_model.specs.declared.data.Entry.{Entry}
 use Rattle.ufs_model.specs.declared.data.Op.{Op}
 use Rattle.ufs_model.specs.declared.data.Op.TheVariants as op
 use Rattle.ufs_model.specs.Descriptors.{opened}
-use Rattle.ufs_prefix.specs.Changes.{NameState, syncs_file, syncs_names}
-use Rattle.ufs_sound.specs.Covers.{step_in}
-use Rattle.ufs_sound.specs.Owned.{Has, each}
-use Rattle.ufs_sound.specs.Parts.{FilePart, NamesPart, View, later}
+use Rattle.ufs_crash_laws.specs.Changes.{NameState, syncs_file, syncs_names}
+use Rattle.ufs_hand_laws.specs.Covers.{step_in}
+use Rattle.ufs_hand_laws.specs.Owned.{Has, each}
+use Rattle.ufs_hand_laws.specs.Parts.{FilePart, NamesPart, View, later}
 use Rattle.ufs_one_hand.specs.Drawn.{turned}
 use Rattle.ufs_one_hand.specs.declared.hand.Learned.{Learned}
 use Rattle.ufs_one_hand.specs.declared.hand.Learned.TheVariants as learned

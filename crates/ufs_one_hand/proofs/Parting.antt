@@ -6,8 +6,8 @@ use Rattle.std.specs.FinMap as fin
 use Rattle.ufs_model.specs.History.{tree_after}
 use Rattle.ufs_model.specs.declared.data.Entry.{Entry}
 use Rattle.ufs_model.specs.declared.data.Op.{Op}
-use Rattle.ufs_sound.specs.Owned.{count, one}
-use Rattle.ufs_sound.specs.Parts.{Start, View}
+use Rattle.ufs_hand_laws.specs.Owned.{count, one}
+use Rattle.ufs_hand_laws.specs.Parts.{Start, View}
 use Rattle.ufs_one_hand.specs.Apart.{FileViews, HasEachFile, HasTouched, IsHandOfFile}
 
 -- a file's hand knows of no stop but the store's

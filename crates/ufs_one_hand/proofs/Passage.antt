@@ -8,16 +8,16 @@ use Rattle.ufs_model.specs.Laws.{KeepsTrees}
 use Rattle.ufs_model.specs.PosixTree.{PosixTree, Paths}
 use Rattle.ufs_model.specs.declared.data.Entry.{Entry}
 use Rattle.ufs_model.specs.declared.data.Op.{Op}
-use Rattle.ufs_sound.specs.Acknowledged.{ExplainedShow}
-use Rattle.ufs_prefix.specs.Changes.{changes_of}
-use Rattle.ufs_sound.specs.ByImages.{by_images}
-use Rattle.ufs_sound.specs.Marks.{value_after, IsSingle, IsTurn, AreAnswers, RemakesOn, MayRemake, IsBeginningKnown, HasChanges}
-use Rattle.ufs_sound.specs.Owned.{one, Has, count, each, times, weigh}
-use Rattle.ufs_sound.specs.Parts.{Cells, FilePart, NamesPart, Shortage, Start, StorePart, Stretch, View, committed}
-use Rattle.ufs_sound.specs.Shown.{ExplainsImages, ShowsImages}
-use Rattle.ufs_sound.specs.Visible.{IsDiskVisible}
-use Rattle.ufs_sound.proofs.Happening.Staying.{answers_stay, store_remakes, same_file, blocks_stay, numbers_stay, same_parts_keep, same_parts_know, times_append}
-use Rattle.ufs_sound.proofs.Owning.{has_append, append_has}
+use Rattle.ufs_hand_laws.specs.Acknowledged.{ExplainedShow}
+use Rattle.ufs_crash_laws.specs.Changes.{changes_of}
+use Rattle.ufs_hand_laws.specs.ByImages.{by_images}
+use Rattle.ufs_hand_laws.specs.Marks.{value_after, IsSingle, IsTurn, AreAnswers, RemakesOn, MayRemake, IsBeginningKnown, HasChanges}
+use Rattle.ufs_hand_laws.specs.Owned.{one, Has, count, each, times, weigh}
+use Rattle.ufs_hand_laws.specs.Parts.{Cells, FilePart, NamesPart, Shortage, Start, StorePart, Stretch, View, committed}
+use Rattle.ufs_hand_laws.specs.Shown.{ExplainsImages, ShowsImages}
+use Rattle.ufs_hand_laws.specs.Visible.{IsDiskVisible}
+use Rattle.ufs_hand_laws.proofs.Happening.Staying.{answers_stay, store_remakes, same_file, blocks_stay, numbers_stay, same_parts_keep, same_parts_know, times_append}
+use Rattle.ufs_hand_laws.proofs.Owning.{has_append, append_has}
 use Rattle.ufs_hand.specs.Session.{IsEvent}
 use Rattle.ufs_one_hand.specs.Drawn.{MayPass, fault_met, faults_met, store_passed, passed_view, turned, turned_view}
 use Rattle.ufs_one_hand.specs.OneHand.{AreNamesAt, HasSession, IsCovered, IsCoveredIn, IsFileAt, IsStampedIn, IsStoreAt, faults_in, in_store, passed_in, stamp_in, state_in}

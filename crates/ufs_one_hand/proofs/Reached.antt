@@ -25,7 +25,7 @@ use Rattle.ufs_model.specs.declared.data.Whence.TheVariants as whence
 use Rattle.ufs_model.proofs.AlikeLemmas.{fds_gone, holds_after, live_alike}
 use Rattle.ufs_model.proofs.Facts.Lookups.{key_passes, passing_key}
 use Rattle.ufs_model.proofs.ToldLemmas.{own_same}
-use Rattle.ufs_sound.proofs.Keys.{itself}
+use Rattle.ufs_hand_laws.proofs.Keys.{itself}
 
 -- ---- a file that a request drops
 

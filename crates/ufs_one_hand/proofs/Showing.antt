@@ -9,14 +9,14 @@ use Rattle.ufs_model.specs.declared.data.Reply.TheVariants as reply
 use Rattle.ufs_model.proofs.Facts.Histories.{legal-push}
 use Rattle.std.proofs.lemmas.List.{length-append}
 use native.Mathlib.Decide.{dec_le}
-use Rattle.ufs_prefix.specs.Changes.{NameState, asks_commit, is_fsync_of, name_changes, names_by}
-use Rattle.ufs_prefix.specs.Steps.{next_step}
-use Rattle.ufs_prefix.proofs.Facts.Between.{file_less, names_less}
-use Rattle.ufs_prefix.proofs.Facts.Histories.{is_fsynced-push, name_changes-push, names_after-append}
-use Rattle.ufs_sound.specs.Covers.{CoversBirths, CoversNames}
-use Rattle.ufs_sound.specs.Acknowledged.{AcknowledgedShow, ExplainedShow, AreFilesAcknowledged, AreNamesAcknowledged}
-use Rattle.ufs_sound.specs.Parts.{Cells, Start, StorePart, View, committed}
-use Rattle.ufs_sound.specs.Shown.{ExplainsImages, ShowsImages}
+use Rattle.ufs_crash_laws.specs.Changes.{NameState, asks_commit, is_fsync_of, name_changes, names_by}
+use Rattle.ufs_crash_laws.specs.Steps.{next_step}
+use Rattle.ufs_crash_laws.proofs.Facts.Between.{file_less, names_less}
+use Rattle.ufs_crash_laws.proofs.Facts.Histories.{is_fsynced-push, name_changes-push, names_after-append}
+use Rattle.ufs_hand_laws.specs.Covers.{CoversBirths, CoversNames}
+use Rattle.ufs_hand_laws.specs.Acknowledged.{AcknowledgedShow, ExplainedShow, AreFilesAcknowledged, AreNamesAcknowledged}
+use Rattle.ufs_hand_laws.specs.Parts.{Cells, Start, StorePart, View, committed}
+use Rattle.ufs_hand_laws.specs.Shown.{ExplainsImages, ShowsImages}
 use Rattle.ufs_one_hand.specs.OneHand.{IsCovered, IsCoveredIn, IsStart}
 use Rattle.ufs_one_hand.proofs.Started.{start_tree, start_named}
 

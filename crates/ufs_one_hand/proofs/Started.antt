@@ -12,11 +12,11 @@ use Rattle.ufs_model.specs.declared.data.Op.{Op}
 use Rattle.ufs_model.proofs.ContentLemmas.{start_is_numbered}
 use Rattle.ufs_model.proofs.Facts.Orders.{path_total, path_same}
 use Rattle.ufs_model.proofs.Facts.Starts.{start_is_tree}
-use Rattle.ufs_sound.specs.Acknowledged.{IsNamedOnce}
-use Rattle.ufs_sound.specs.Owned.{count}
-use Rattle.ufs_sound.specs.Parts.{Cells, Start, View}
-use Rattle.ufs_sound.specs.Whole.{idle_client, idle_asked}
-use Rattle.ufs_sound.proofs.First.{each_once}
+use Rattle.ufs_hand_laws.specs.Acknowledged.{IsNamedOnce}
+use Rattle.ufs_hand_laws.specs.Owned.{count}
+use Rattle.ufs_hand_laws.specs.Parts.{Cells, Start, View}
+use Rattle.ufs_hand_laws.specs.Whole.{idle_client, idle_asked}
+use Rattle.ufs_hand_laws.proofs.First.{each_once}
 use Rattle.ufs_one_hand.specs.OneHand.{HasSession, IsStart, seeing}
 
 numbered_once : (t : PosixTree) → IsNumberedByPath t → IsNamedOnce t.paths

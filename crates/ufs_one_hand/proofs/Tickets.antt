@@ -6,12 +6,12 @@ use Rattle.ufs_base.specs.declared.limits.TheConstants.{MAX_CLIENTS}
 use Rattle.ufs_model.specs.History.{entries_of}
 use Rattle.ufs_model.specs.declared.data.Entry.{Entry}
 use Rattle.ufs_model.specs.declared.data.Op.{Op}
-use Rattle.ufs_sound.specs.Marks.{IsBeginningKnown}
-use Rattle.ufs_sound.specs.Owned.{count}
-use Rattle.ufs_sound.specs.Parts.{Start, View}
-use Rattle.ufs_sound.specs.Rule.{KnowsTickets}
-use Rattle.ufs_sound.proofs.Keys.{itself, alike}
-use Rattle.ufs_sound.proofs.Owning.{has_count}
+use Rattle.ufs_hand_laws.specs.Marks.{IsBeginningKnown}
+use Rattle.ufs_hand_laws.specs.Owned.{count}
+use Rattle.ufs_hand_laws.specs.Parts.{Start, View}
+use Rattle.ufs_hand_laws.specs.Rule.{KnowsTickets}
+use Rattle.ufs_hand_laws.proofs.Keys.{itself, alike}
+use Rattle.ufs_hand_laws.proofs.Owning.{has_count}
 use Rattle.ufs_one_hand.specs.OneHand.{HasSession}
 use Rattle.ufs_one_hand.proofs.Counting.{none_of, numbered, one_list, same_length_all}
 use Rattle.ufs_one_hand.proofs.Started.{one_client}

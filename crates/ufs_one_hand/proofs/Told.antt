@@ -2,8 +2,8 @@
 use Rattle.std.proofs.Common.{◌≡◌, ℕ, List, ap, refl, ⊎_elim}
 use Rattle.ufs_model.specs.declared.data.Reply.{Reply}
 use Rattle.ufs_model.specs.declared.data.Reply.TheVariants as reply
-use Rattle.ufs_sound.specs.Draws.{left_faults}
-use Rattle.ufs_sound.specs.Parts.{Start}
+use Rattle.ufs_hand_laws.specs.Draws.{left_faults}
+use Rattle.ufs_hand_laws.specs.Parts.{Start}
 use Rattle.ufs_one_hand.specs.Drawn.{AreBothRead, IsReplyAlike}
 
 -- what was read uses no fault

@@ -8,9 +8,9 @@ use Rattle.ufs_model.specs.Touched.{IsPartOf, touched_parts}
 use Rattle.ufs_model.specs.declared.data.Entry.{Entry}
 use Rattle.ufs_model.specs.declared.data.Op.{Op}
 use Rattle.ufs_model.specs.declared.data.PartName.TheVariants as part
-use Rattle.ufs_prefix.specs.Changes.{changes_of}
-use Rattle.ufs_sound.specs.Owned.{one, count}
-use Rattle.ufs_sound.specs.Parts.{FilePart, Start, View}
+use Rattle.ufs_crash_laws.specs.Changes.{changes_of}
+use Rattle.ufs_hand_laws.specs.Owned.{one, count}
+use Rattle.ufs_hand_laws.specs.Parts.{FilePart, Start, View}
 use Rattle.ufs_one_hand.specs.OneHand.{IsFileAt}
 
 -- hands of files, by the files' numbers

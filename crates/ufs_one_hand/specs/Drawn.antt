@@ -13,16 +13,16 @@ use Rattle.ufs_model.specs.declared.data.Excuse.TheVariants as excuse
 use Rattle.ufs_model.specs.declared.data.Op.{Op}
 use Rattle.ufs_model.specs.declared.data.Reply.{Reply}
 use Rattle.ufs_model.specs.declared.data.Reply.TheVariants as reply
-use Rattle.ufs_prefix.specs.Changes.{asks_commit, change_of, names_by}
-use Rattle.ufs_sound.specs.Covers.{step_in}
-use Rattle.ufs_sound.specs.Draws.{Leaves, entry_of, new_file}
-use Rattle.ufs_sound.specs.Durable.{IsExplainedThroughout}
-use Rattle.ufs_sound.specs.Marks.{asking}
-use Rattle.ufs_sound.specs.Owned.{Has, each, times}
-use Rattle.ufs_sound.specs.Parts.{Cells, FilePart, NamesPart, OwnFds, Shortage, Start, StorePart, View}
-use Rattle.ufs_sound.specs.Shown.{ExplainsImages}
-use Rattle.ufs_sound.specs.Visible.{IsDiskVisible}
-use Rattle.ufs_sound.specs.declared.fresh.Fresh.{Fresh}
+use Rattle.ufs_crash_laws.specs.Changes.{asks_commit, change_of, names_by}
+use Rattle.ufs_hand_laws.specs.Covers.{step_in}
+use Rattle.ufs_hand_laws.specs.Draws.{Leaves, entry_of, new_file}
+use Rattle.ufs_hand_laws.specs.Durable.{IsExplainedThroughout}
+use Rattle.ufs_hand_laws.specs.Marks.{asking}
+use Rattle.ufs_hand_laws.specs.Owned.{Has, each, times}
+use Rattle.ufs_hand_laws.specs.Parts.{Cells, FilePart, NamesPart, OwnFds, Shortage, Start, StorePart, View}
+use Rattle.ufs_hand_laws.specs.Shown.{ExplainsImages}
+use Rattle.ufs_hand_laws.specs.Visible.{IsDiskVisible}
+use Rattle.ufs_hand_laws.specs.declared.fresh.Fresh.{Fresh}
 use Rattle.ufs_one_hand.specs.OneHand.{HasSession, IsCoveredIn, KnowsSynced, client_in, stamp_in, state_in}
 use Rattle.ufs_one_hand.specs.Apart.{HasTouched}
 

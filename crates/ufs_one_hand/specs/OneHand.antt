@@ -9,13 +9,13 @@ use Rattle.ufs_model.specs.Start.{PathNodes, IsPathTree, start_of}
 use Rattle.ufs_model.specs.Touched.{holds}
 use Rattle.ufs_model.specs.declared.data.Entry.{Entry}
 use Rattle.ufs_model.specs.declared.data.Op.{Op}
-use Rattle.ufs_prefix.specs.Changes.{names_of, changes_of, name_changes, syncs_file, syncs_names}
-use Rattle.ufs_prefix.specs.Steps.{Step}
-use Rattle.ufs_sound.specs.Acknowledged.{AreFilesAcknowledged, AreNamesAcknowledged}
-use Rattle.ufs_sound.specs.Opened.{OpenedDisk, opened_start}
-use Rattle.ufs_sound.specs.Owned.{one, Has, count, each, find, times, weigh}
-use Rattle.ufs_sound.specs.Parts.{Cells, ClientPart, FilePart, NamesPart, StorePart, Stretch, View, Start, committed, is_holder}
-use Rattle.ufs_sound.specs.Whole.{idle_client}
+use Rattle.ufs_crash_laws.specs.Changes.{names_of, changes_of, name_changes, syncs_file, syncs_names}
+use Rattle.ufs_crash_laws.specs.Steps.{Step}
+use Rattle.ufs_hand_laws.specs.Acknowledged.{AreFilesAcknowledged, AreNamesAcknowledged}
+use Rattle.ufs_hand_laws.specs.Opened.{OpenedDisk, opened_start}
+use Rattle.ufs_hand_laws.specs.Owned.{one, Has, count, each, find, times, weigh}
+use Rattle.ufs_hand_laws.specs.Parts.{Cells, ClientPart, FilePart, NamesPart, StorePart, Stretch, View, Start, committed, is_holder}
+use Rattle.ufs_hand_laws.specs.Whole.{idle_client}
 use Rattle.ufs_hand.specs.Session.{CanBegin}
 use Rattle.ufs_one_hand.specs.declared.pools.TheConstants.{PRIMARY_POOL}
 

@@ -4,26 +4,26 @@ ghost use Rattle.std.specs.Prelude.{ℕ, ◌+◌, ◌≡◌, ◌≤◌, ◌<◌,
 ghost use Rattle.ufs_model.specs.History.{entries_of};
 ghost use Rattle.ufs_model.specs.declared.data.Entry.{Entry};
 ghost use Rattle.ufs_model.specs.declared.data.Op.{Op};
-ghost use Rattle.ufs_sound.specs.Draws.{entry_of, left_faults};
-ghost use Rattle.ufs_sound.specs.Owned.{Has, times};
-ghost use Rattle.ufs_sound.specs.Parts.{Cells, HoldsPart, both_of, given_of, kept_of};
+ghost use Rattle.ufs_hand_laws.specs.Draws.{entry_of, left_faults};
+ghost use Rattle.ufs_hand_laws.specs.Owned.{Has, times};
+ghost use Rattle.ufs_hand_laws.specs.Parts.{Cells, HoldsPart, both_of, given_of, kept_of};
 ghost use Rattle.ufs_hand.specs.Session.{HoldsPool, IsEvent, KnowsAll};
 ghost use Rattle.ufs_one_hand.specs.Apart.{FileViews, HasEachFile};
 ghost use Rattle.ufs_one_hand.specs.Drawn.{IsAcknowledged, IsAnswer, IsExplainedAtStamps, IsReplyAlike, MayPass, asked_view, fault_met, faults_met, told_as};
 ghost use Rattle.ufs_one_hand.specs.OneHand.{HasSession, IsCoveredIn, IsStampedIn, IsStart, KnowsSynced, StartsCanBegin, faults_in, passed_in, stamp_in, state_in};
-ghost use Rattle.ufs_sound.specs.Covers.{step_in};
-ghost use Rattle.ufs_sound.specs.Visible.{IsDiskVisible};
+ghost use Rattle.ufs_hand_laws.specs.Covers.{step_in};
+ghost use Rattle.ufs_hand_laws.specs.Visible.{IsDiskVisible};
 
 use crate::picks::{Answering, Passing};
 use std::marker::{Brand, Model};
 use ufs_base::{MAX_CLIENTS, MAX_REQUESTS};
 use ufs_hand::{Begun, Event, Hand, HandTable, Naming, Opened};
+use ufs_hand_laws::{
+    Fresh, a_disk_with_files_can_be_opened, acknowledged_numbers, explained_images_show,
+};
 use ufs_model::{
     Entry, Op, PartName, a_request_is_local, a_request_keeps_the_tree,
     a_request_makes_one_file_at_most,
-};
-use ufs_sound::{
-    Fresh, a_disk_with_files_can_be_opened, acknowledged_numbers, explained_images_show,
 };
 
 /// The right to parts of a session, and the table that gives its tickets. It begins with every part; what is split off is apart
@@ -45,8 +45,8 @@ enum Learned {
 }
 
 impl<N: Naming> Model for OneHand<N> {
-    ghost use Rattle.ufs_sound.specs.Codes.{view_code};
-    ghost use Rattle.ufs_sound.specs.Parts.{View};
+    ghost use Rattle.ufs_hand_laws.specs.Codes.{view_code};
+    ghost use Rattle.ufs_hand_laws.specs.Parts.{View};
 
     ghost Value = { View };
 

@@ -4,7 +4,7 @@ use std::marker::Brand;
 /// What the disk came to in a request: its caller picks it.
 pub trait Passing {
     ghost use Rattle.std.specs.Prelude.{ℕ, List, Option};
-    ghost use Rattle.ufs_sound.specs.Parts.{Cells, Shortage};
+    ghost use Rattle.ufs_hand_laws.specs.Parts.{Cells, Shortage};
 
     /// A read that failed, at which the store didn't stop.
     ghost failed: { Option ℕ };
@@ -41,7 +41,7 @@ impl Passing for Brand {
 pub trait Answering {
     ghost use Rattle.ufs_model.specs.PosixTree.{PosixTree};
     ghost use Rattle.ufs_model.specs.declared.data.Reply.{Reply};
-    ghost use Rattle.ufs_sound.specs.Parts.{OwnFds};
+    ghost use Rattle.ufs_hand_laws.specs.Parts.{OwnFds};
 
     ghost before: { PosixTree };
 

@@ -12,10 +12,10 @@ use Rattle.ufs_model.specs.declared.data.PartName.TheVariants as part
 use Rattle.ufs_model.proofs.Facts.Lookups.{inserted_else, inserted_here}
 use Rattle.ufs_one_hand.specs.Apart.{FileViews, HasEachFile, IsHandOfFile}
 use Rattle.ufs_one_hand.specs.OneHand.{HasSession, IsFileAt}
-use Rattle.ufs_prefix.specs.Changes.{changes_of}
-use Rattle.ufs_sound.specs.Owned.{Has, count, named, one, only, without}
-use Rattle.ufs_sound.specs.Parts.{FilePart, Start, View, both_of, either, given_of, kept_of, later}
-use Rattle.ufs_sound.proofs.Owning.{has_append, has_cut, weigh_append, weigh_cut}
+use Rattle.ufs_crash_laws.specs.Changes.{changes_of}
+use Rattle.ufs_hand_laws.specs.Owned.{Has, count, named, one, only, without}
+use Rattle.ufs_hand_laws.specs.Parts.{FilePart, Start, View, both_of, either, given_of, kept_of, later}
+use Rattle.ufs_hand_laws.proofs.Owning.{has_append, has_cut, weigh_append, weigh_cut}
 
 -- the hand of the second file alone is apart
 abbrev pub only_other : View → FileViews

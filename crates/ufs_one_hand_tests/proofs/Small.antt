@@ -16,13 +16,13 @@ use Rattle.ufs_one_hand.specs.Apart.{HasEachFile, HasTouched}
 use Rattle.ufs_one_hand.specs.Drawn.{HasCauses, IsAcknowledged, IsAnswer, MayPass, faults_met}
 use Rattle.ufs_one_hand.specs.OneHand.{HasSession, IsCoveredIn, IsStart, KnowsSynced, stamp_in}
 use Rattle.ufs_one_hand.proofs.Parting.{all_touched}
-use Rattle.ufs_prefix.specs.Changes.{asks_commit, file_synced, name_changes}
-use Rattle.ufs_sound.specs.Covers.{step_in}
-use Rattle.ufs_sound.specs.Draws.{entry_of}
-use Rattle.ufs_sound.specs.Owned.{Has, times}
-use Rattle.ufs_sound.specs.Parts.{Cells, Start, View}
-use Rattle.ufs_sound.specs.Visible.{IsDiskVisible}
-use Rattle.ufs_sound.specs.declared.fresh.Fresh.{Fresh}
+use Rattle.ufs_crash_laws.specs.Changes.{asks_commit, file_synced, name_changes}
+use Rattle.ufs_hand_laws.specs.Covers.{step_in}
+use Rattle.ufs_hand_laws.specs.Draws.{entry_of}
+use Rattle.ufs_hand_laws.specs.Owned.{Has, times}
+use Rattle.ufs_hand_laws.specs.Parts.{Cells, Start, View}
+use Rattle.ufs_hand_laws.specs.Visible.{IsDiskVisible}
+use Rattle.ufs_hand_laws.specs.declared.fresh.Fresh.{Fresh}
 use Rattle.ufs_one_hand_tests.specs.Small.{bare, done_sync, excused_sync, failed_sync, unread_sync}
 
 pub starts : IsStart bare

@@ -25,10 +25,10 @@ use Rattle.ufs_model.proofs.Facts.Rising.{entries-rising}
 use Rattle.ufs_model.proofs.Facts.Starts.{path_tree_of}
 use Rattle.ufs_one_hand.specs.Drawn.{HasCauses, IsAnswer, IsReplyAlike}
 use Rattle.ufs_one_hand.specs.OneHand.{HasSession, IsStart}
-use Rattle.ufs_sound.specs.Draws.{entry_of}
-use Rattle.ufs_sound.specs.Owned.{count}
-use Rattle.ufs_sound.specs.Parts.{OwnFds, Start, View}
-use Rattle.ufs_sound.specs.Visible.{IsDiskVisible}
+use Rattle.ufs_hand_laws.specs.Draws.{entry_of}
+use Rattle.ufs_hand_laws.specs.Owned.{count}
+use Rattle.ufs_hand_laws.specs.Parts.{OwnFds, Start, View}
+use Rattle.ufs_hand_laws.specs.Visible.{IsDiskVisible}
 use Rattle.ufs_one_hand_tests.specs.TwoFiles.{file_nodes, file_path, opens, other_path, reads, two_files}
 
 -- ---- the trees

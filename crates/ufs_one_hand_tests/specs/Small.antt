@@ -7,8 +7,8 @@ use Rattle.ufs_model.specs.declared.data.Op.TheVariants.{Sync}
 use Rattle.ufs_model.specs.declared.data.Reply.{Reply}
 use Rattle.ufs_model.specs.declared.data.Reply.TheVariants.{Done, Excused}
 use Rattle.ufs_one_hand.specs.OneHand.{start_with}
-use Rattle.ufs_sound.specs.Parts.{Start}
-use Rattle.ufs_sound.specs.declared.fresh.Fresh.{Fresh}
+use Rattle.ufs_hand_laws.specs.Parts.{Start}
+use Rattle.ufs_hand_laws.specs.declared.fresh.Fresh.{Fresh}
 
 abbrev pub bare : Start
 bare = start_with path_root

@@ -8,8 +8,8 @@ use Rattle.ufs_model.specs.declared.data.Op.TheVariants.{OpenFile, Pread}
 use Rattle.ufs_model.specs.declared.data.PathNode.TheVariants.{Dir, File}
 use Rattle.ufs_model.specs.declared.data.Reply.TheVariants.{Fd, Got}
 use Rattle.ufs_one_hand.specs.OneHand.{start_with}
-use Rattle.ufs_sound.specs.Parts.{Start}
-use Rattle.ufs_sound.specs.declared.fresh.Fresh.{Fresh}
+use Rattle.ufs_hand_laws.specs.Parts.{Start}
+use Rattle.ufs_hand_laws.specs.declared.fresh.Fresh.{Fresh}
 
 -- `/f`
 abbrev pub file_path : List ℕ

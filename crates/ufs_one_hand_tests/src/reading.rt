@@ -5,7 +5,7 @@ ghost use Rattle.std.specs.Prelude.{◌≡◌, ◌∷◌, [], None, length};
 ghost use Rattle.ufs_one_hand.specs.Apart.{FileViews, HasEachFile};
 ghost use Rattle.ufs_one_hand.specs.OneHand.{HasSession};
 ghost use Rattle.ufs_one_hand_tests.specs.TwoFiles.{file_path, opens, reads, two_files};
-ghost use Rattle.ufs_sound.specs.Draws.{entry_of};
+ghost use Rattle.ufs_hand_laws.specs.Draws.{entry_of};
 
 use crate::asserts::same;
 use std::alloc::AllocGlobal;
@@ -13,9 +13,9 @@ use std::marker::Brand;
 use std::process::Abort;
 use std::rt::HostRuntime;
 use ufs_hand::{Naming, Opened, Parts};
+use ufs_hand_laws::Fresh;
 use ufs_model::{Actor, Bytes, Op, PartName, Reply};
 use ufs_one_hand::{OneHand, starts_can_begin};
-use ufs_sound::Fresh;
 
 #[test]
 fn another_byte_is_read(rt: HostRuntime) {

@@ -6,7 +6,7 @@ ghost use Rattle.std.specs.FinMap as map;
 ghost use Rattle.ufs_one_hand.specs.Apart.{HasEachFile};
 ghost use Rattle.ufs_one_hand.specs.OneHand.{HasSession, IsCoveredIn, faults_in};
 ghost use Rattle.ufs_one_hand_tests.specs.Small.{bare, done_sync, excused_sync, failed_sync, unread_sync};
-ghost use Rattle.ufs_sound.specs.Draws.{entry_of};
+ghost use Rattle.ufs_hand_laws.specs.Draws.{entry_of};
 
 use crate::asserts::same;
 use std::alloc::AllocGlobal;
@@ -14,9 +14,9 @@ use std::marker::Brand;
 use std::process::Abort;
 use std::rt::HostRuntime;
 use ufs_hand::{Naming, Opened, Parts};
+use ufs_hand_laws::Fresh;
 use ufs_model::{Actor, Entry, Excuse, Op, Reply};
 use ufs_one_hand::{OneHand, abandon, starts_can_begin};
-use ufs_sound::Fresh;
 
 #[test]
 fn four_entries_are_drawn(rt: HostRuntime) {

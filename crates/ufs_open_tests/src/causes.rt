@@ -3,8 +3,8 @@ use crate::asserts::{holds, same};
 use crate::images::{cause, gives, new_disk, sector_of, set_sector};
 use std::alloc::Global;
 use ufs_base::SECTOR;
-use ufs_catalog::RecoverFault;
 use ufs_disk::PlainDisk;
+use ufs_metadata::RecoverFault;
 use ufs_opening::tree_of;
 
 #[test]

@@ -3,7 +3,7 @@ use crate::asserts::{holds, same};
 use crate::images::{ROOT, cause, file, gives, new_disk, set_sector};
 use std::alloc::Global;
 use ufs_base::SECTOR;
-use ufs_catalog::RecoverFault;
+use ufs_metadata::RecoverFault;
 
 // The cause for which a new image isn't opened that has these as inodes 2 and 3.
 fn cause_with(alloc: Global, second: &[u8; SECTOR], third: &[u8; SECTOR]) -> Option<RecoverFault> {

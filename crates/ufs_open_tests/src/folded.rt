@@ -4,10 +4,10 @@ use crate::asserts::{holds, same};
 use crate::images::{cause, mark_in_use, new_disk, put_name, set_sector};
 use std::alloc::Global;
 use ufs_base::SECTOR;
-use ufs_catalog::RecoverFault;
 use ufs_check::check;
 use ufs_disk::PlainDisk;
 use ufs_load_image::load;
+use ufs_metadata::RecoverFault;
 use ufs_model::{PathEntry, PathNode};
 use ufs_opening::{NodeHead, PathHead, tree_heads, tree_of};
 

@@ -2,9 +2,9 @@
 // table begins in sector 16 and whose data area begins in block 12.
 use std::alloc::Global;
 use ufs_base::SECTOR;
-use ufs_catalog::RecoverFault;
 use ufs_disk::{Disk, PlainDisk};
 use ufs_layout::Geometry;
+use ufs_metadata::RecoverFault;
 use ufs_opening::tree_of;
 use ufs_recover::format;
 

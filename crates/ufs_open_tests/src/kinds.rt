@@ -3,10 +3,10 @@ use crate::asserts::holds;
 use crate::images::{ROOT, cause, inode, mark_in_use, new_disk, put_name, set_sector};
 use std::alloc::Global;
 use ufs_base::SECTOR;
-use ufs_catalog::RecoverFault;
 use ufs_check::check;
 use ufs_damage::Damage;
 use ufs_disk::PlainDisk;
+use ufs_metadata::RecoverFault;
 
 // The first sector of the root's block, which has its first eight slots.
 const SLOTS: u32 = 96;

@@ -5,10 +5,10 @@ use Rattle.ufs_base.specs.Images.{Image}
 use Rattle.ufs_image.specs.Damage.{bad_tree}
 use Rattle.ufs_image.specs.Volume.{Refusal, Volume, volume}
 use Rattle.ufs_image.specs.Opens.{opens, entries_of, by_damage, tree_from}
-use Rattle.ufs_catalog.specs.Faults.{IsWhyNot}
-use Rattle.ufs_catalog.proofs.Outside.{why_then}
-use Rattle.ufs_catalog.specs.declared.fault.RecoverFault.{RecoverFault}
-use Rattle.ufs_catalog.specs.declared.fault.RecoverFault.TheVariants.{NoSuperblock, BadVersion, BadGeometry, BadRecord, BadTree, Device, Lack}
+use Rattle.ufs_metadata.specs.Faults.{IsWhyNot}
+use Rattle.ufs_metadata.proofs.Outside.{why_then}
+use Rattle.ufs_metadata.specs.declared.fault.RecoverFault.{RecoverFault}
+use Rattle.ufs_metadata.specs.declared.fault.RecoverFault.TheVariants.{NoSuperblock, BadVersion, BadGeometry, BadRecord, BadTree, Device, Lack}
 use Rattle.ufs_opening.specs.Told.{TellsWhy, IsBlame}
 
 module _ (sectors : ℕ) (disk : Image) where

@@ -2,10 +2,10 @@
 use Rattle.std.specs.Prelude.{ℕ, ◌≡◌, Option, Some}
 use Rattle.ufs_base.specs.Images.{Image}
 use Rattle.ufs_image.specs.Opens.{opens}
-use Rattle.ufs_catalog.specs.Faults.{IsWhyNot}
-use Rattle.ufs_catalog.specs.Lacks.{IsOfNumbers}
-use Rattle.ufs_catalog.specs.declared.fault.RecoverFault.{RecoverFault}
-use Rattle.ufs_catalog.specs.declared.fault.RecoverFault.TheVariants.{BadTree, Lack}
+use Rattle.ufs_metadata.specs.Faults.{IsWhyNot}
+use Rattle.ufs_metadata.specs.Lacks.{IsOfNumbers}
+use Rattle.ufs_metadata.specs.declared.fault.RecoverFault.{RecoverFault}
+use Rattle.ufs_metadata.specs.declared.fault.RecoverFault.TheVariants.{BadTree, Lack}
 
 -- The cause is the one for which the image stands for no tree. Faults from outside say nothing of it.
 abbrev pub TellsWhy : ℕ → Image → RecoverFault → Type 0

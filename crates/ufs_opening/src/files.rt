@@ -7,16 +7,16 @@ ghost use Rattle.ufs_disk.specs.Moments.{reads};
 ghost use Rattle.ufs_layout.specs.Areas.{IsGeometry, sector_count};
 ghost use Rattle.ufs_image.specs.Images.{block_at};
 ghost use Rattle.ufs_image.specs.Nodes.{blocks_of, leaves_data};
-ghost use Rattle.ufs_catalog.specs.Faults.{HasFaultCause, IsOutside};
-ghost use Rattle.ufs_catalog.specs.Folded.{IsFolded};
-ghost use Rattle.ufs_catalog.specs.Reading.{IsReadOnly};
+ghost use Rattle.ufs_metadata.specs.Faults.{HasFaultCause, IsOutside};
+ghost use Rattle.ufs_metadata.specs.Folded.{IsFolded};
+ghost use Rattle.ufs_metadata.specs.Reading.{IsReadOnly};
 ghost use Rattle.ufs_opening.specs.Heads.{IsFrontOf, enough_of};
 
 use std::alloc::{AllocError, Global};
 use ufs_base::BLOCK;
-use ufs_catalog::{RecoverFault, read_block};
 use ufs_disk::Disk;
 use ufs_layout::{Extent, Geometry, Inode};
+use ufs_metadata::{RecoverFault, read_block};
 use ufs_overlay::Overlay;
 
 fn append(bytes: &mut Vec<u8>, block: &[u8]) -> Result<(), AllocError>

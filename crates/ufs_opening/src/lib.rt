@@ -13,4 +13,4 @@ pub use head::{NodeHead, PathHead};
 pub use opened::Opened;
 pub use opening::open;
 pub use tree::{tree_heads, tree_of};
-pub use ufs_catalog::RecoverFault;
+pub use ufs_metadata::RecoverFault;

@@ -5,18 +5,18 @@ ghost use Rattle.ufs_layout.specs.Areas.{IsGeometry, sector_count};
 ghost use Rattle.ufs_image.specs.Damage.{bad_tree};
 ghost use Rattle.ufs_image.specs.Volume.{volume};
 ghost use Rattle.ufs_damage.specs.Findings.{AreFindingsOf};
-ghost use Rattle.ufs_catalog.specs.Faults.{HasFaultCause};
-ghost use Rattle.ufs_catalog.specs.Reading.{IsReadOnly};
+ghost use Rattle.ufs_metadata.specs.Faults.{HasFaultCause};
+ghost use Rattle.ufs_metadata.specs.Reading.{IsReadOnly};
 ghost use Rattle.ufs_overlay.specs.Seen.{HasAdded};
 ghost use Rattle.ufs_volume.specs.Volumes.{committed_in, folded_image, highest_number, volume_in};
 ghost use Rattle.ufs_opening.specs.Told.{IsBlame, TellsWhy};
 
 use crate::opened::Opened;
 use std::alloc::Global;
-use ufs_catalog::{RecoverFault, read_findings};
 use ufs_damage::{Findings, damage_of};
 use ufs_disk::Disk;
 use ufs_layout::Geometry;
+use ufs_metadata::{RecoverFault, read_findings};
 use ufs_volume::read_volume;
 
 // Refuses an image of whose tree something is damaged, by the lowest inode that is blamed.

@@ -19,7 +19,7 @@ use Rattle.ufs_model.specs.declared.data.Reply.TheVariants as reply
 use Rattle.ufs_msg.specs.Answers.{IsTold}
 use Rattle.ufs_msg.specs.Requests.{HasClientAlone, IsAsked}
 use Rattle.ufs_msg.specs.There.{IsClientThere}
-use Rattle.ufs_sound.specs.Owned.{Has, count, one}
+use Rattle.ufs_hand_laws.specs.Owned.{Has, count, one}
 use Rattle.ufs_primary.specs.All.{numbers_in}
 
 -- ---- numbers

@@ -37,7 +37,7 @@ use Rattle.ufs_owner.specs.Owners.{Files, arrived, is_going, owner_at, recalled,
 use Rattle.ufs_owner.specs.declared.owner.Owner.{Owner}
 use Rattle.ufs_owner.specs.declared.owner.Owner.TheVariants.{Primary, Worker, Coming, Going}
 use Rattle.ufs_owner.specs.declared.owner.Standing.{Standing}
-use Rattle.ufs_prefix.specs.Changes.{asks_commit}
+use Rattle.ufs_crash_laws.specs.Changes.{asks_commit}
 use Rattle.ufs_primary.specs.All.{IsAllSynced, numbers_in}
 use Rattle.ufs_primary.specs.Dirs.{IsDirDone}
 use Rattle.ufs_primary.specs.Here.{IsDoneHere}

@@ -3,7 +3,7 @@ use Rattle.std.proofs.Common.{◌≡◌, false, refl}
 use Rattle.ufs_model.specs.FileCalls.{is_on_file}
 use Rattle.ufs_model.specs.declared.data.Op.{Op}
 use Rattle.ufs_model.specs.declared.data.Op.TheVariants as op
-use Rattle.ufs_prefix.specs.Changes.{asks_commit}
+use Rattle.ufs_crash_laws.specs.Changes.{asks_commit}
 
 -- of those that are on no descriptor of a file, all but a `sync`
 pub beside_none : (o : Op) → is_on_file o ≡ false → (o ≡ op.Sync → ⊥) → asks_commit o ≡ false

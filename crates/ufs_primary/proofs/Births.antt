@@ -8,7 +8,7 @@ use Rattle.std.specs.FinSet as set
 use Rattle.std.specs.FinSet.{contains-from_list}
 use Rattle.ufs_base.specs.declared.lack.Lack.TheVariants as lack
 use Rattle.ufs_bitmap.specs.Blocks.{BlockSet}
-use Rattle.ufs_first_hand.specs.FirstHand.{HasPoolAlone, pool_of}
+use Rattle.ufs_joint.specs.FirstHand.{HasPoolAlone, pool_of}
 use Rattle.ufs_held_names.specs.HeldNames.{AreCommitted}
 use Rattle.ufs_joint.specs.Cells.{FileCell, NamesCell, View}
 use Rattle.ufs_joint.specs.NamesTurns.{live_files}

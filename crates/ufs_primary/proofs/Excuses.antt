@@ -15,7 +15,7 @@ use Rattle.ufs_joint.specs.FileHands.{own_desc}
 use Rattle.ufs_joint.specs.NamesHands.{AreNumberedOnce, IsNextOf, still_leaves}
 use Rattle.ufs_joint.proofs.StillDraws.{IsStillHand, may_draw}
 use Rattle.ufs_joint.proofs.StillKinds.{excuse_still}
-use Rattle.ufs_kept.specs.Draws.{ExcusesStayKept}
+use Rattle.ufs_joint.specs.KnownDraws.{ExcusesStayKept}
 use Rattle.ufs_model.specs.Asks.{fd_named, fd_told, file_in}
 use Rattle.ufs_model.specs.History.{IsReplyTo, is_excused, tree_after}
 use Rattle.ufs_model.specs.PosixTree.{PosixTree}
@@ -30,12 +30,12 @@ use Rattle.ufs_msg.specs.Answers.{IsTold}
 use Rattle.ufs_msg.specs.Requests.{HasClientAlone, IsAsked}
 use Rattle.ufs_msg.specs.There.{IsServerThere}
 use Rattle.ufs_owner.specs.Owners.{Files}
-use Rattle.ufs_sound.specs.Draws.{client_after, entry_of}
-use Rattle.ufs_sound.specs.Owned.{each}
-use Rattle.ufs_sound.specs.Parts.{ClientPart}
-use Rattle.ufs_sound.specs.declared.fresh.Fresh.{Fresh}
-use Rattle.ufs_sound.proofs.Keys.{itself}
-use Rattle.ufs_stored.specs.Parts.{Parts}
+use Rattle.ufs_hand_laws.specs.Draws.{client_after, entry_of}
+use Rattle.ufs_hand_laws.specs.Owned.{each}
+use Rattle.ufs_hand_laws.specs.Parts.{ClientPart}
+use Rattle.ufs_hand_laws.specs.declared.fresh.Fresh.{Fresh}
+use Rattle.ufs_hand_laws.proofs.Keys.{itself}
+use Rattle.ufs_promise_laws.specs.Parts.{Parts}
 use Rattle.ufs_primary.specs.Named.{server_at, server_told}
 use Rattle.ufs_primary.proofs.NamesTold.{names_told}
 

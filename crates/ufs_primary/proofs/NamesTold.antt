@@ -27,8 +27,8 @@ use Rattle.ufs_msg.specs.Requests.{HasClientAlone, IsAsked}
 use Rattle.ufs_msg.specs.There.{IsClientThere, IsServerThere}
 use Rattle.ufs_names.specs.Calls.{IsOfNames}
 use Rattle.ufs_owner.specs.Owners.{Files}
-use Rattle.ufs_prefix.specs.Changes.{asks_commit}
-use Rattle.ufs_sound.specs.Parts.{ClientPart}
+use Rattle.ufs_crash_laws.specs.Changes.{asks_commit}
+use Rattle.ufs_hand_laws.specs.Parts.{ClientPart}
 use Rattle.ufs_turns.specs.Lent.{AreTold}
 use Rattle.ufs_primary.specs.Named.{server_told}
 use Rattle.ufs_serving.specs.Pools.{IsWithin}

@@ -22,7 +22,7 @@ use Rattle.ufs_model.specs.declared.data.Ask.{Ask}
 use Rattle.ufs_model.specs.declared.data.Desc.{Desc}
 use Rattle.ufs_msg.specs.Requests.{Asked, HasClientAlone, IsAsked, asked_of}
 use Rattle.ufs_msg.specs.There.{IsByHint, is_by_hint}
-use Rattle.ufs_sound.specs.Parts.{ClientPart}
+use Rattle.ufs_hand_laws.specs.Parts.{ClientPart}
 use Rattle.ufs_primary.specs.All.{numbers_in}
 use Rattle.ufs_primary.specs.Kinds.{IsOnFile}
 use Rattle.ufs_primary.specs.Primary.{StockState}

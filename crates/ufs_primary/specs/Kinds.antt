@@ -6,7 +6,7 @@ use Rattle.ufs_model.specs.declared.data.Ask.{Ask}
 use Rattle.ufs_model.specs.declared.data.Op.TheVariants as op
 use Rattle.ufs_msg.specs.There.{is_by_hint}
 use Rattle.ufs_names.specs.Calls.{IsOfNames}
-use Rattle.ufs_prefix.specs.Changes.{asks_commit}
+use Rattle.ufs_crash_laws.specs.Changes.{asks_commit}
 use Rattle.ufs_primary.specs.declared.kinds.Kind.{Kind}
 use Rattle.ufs_primary.specs.declared.kinds.Kind.TheVariants.{All, OnFile, OnNone, Names}
 

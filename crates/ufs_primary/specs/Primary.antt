@@ -4,7 +4,7 @@ use Rattle.std.specs.Coded.{Coded, code_by, coded×, coded_list, coded_option, c
 use Rattle.std.specs.FinMap as fin
 use Rattle.std.specs.FinSet as set
 use Rattle.ufs_bitmap.specs.Blocks.{BlockSet}
-use Rattle.ufs_first_hand.specs.FirstHand.{HasPoolAlone, pool_of}
+use Rattle.ufs_joint.specs.FirstHand.{HasPoolAlone, pool_of}
 use Rattle.ufs_home.specs.Home.{HomeState, home_code}
 use Rattle.ufs_home.specs.Places.{file_here}
 use Rattle.ufs_joint.specs.Cells.{FileCell, NamesCell, Start, View}

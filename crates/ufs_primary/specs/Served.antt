@@ -18,7 +18,7 @@ use Rattle.ufs_msg.specs.declared.answer.Answer.{Answer}
 use Rattle.ufs_msg.specs.declared.answer.Answer.TheVariants as says
 use Rattle.ufs_owner.specs.Owners.{owner_at}
 use Rattle.ufs_owner.specs.declared.owner.Owner.TheVariants as owner
-use Rattle.ufs_sound.specs.Parts.{ClientPart}
+use Rattle.ufs_hand_laws.specs.Parts.{ClientPart}
 use Rattle.ufs_primary.specs.All.{IsAllSynced}
 use Rattle.ufs_primary.specs.Dirs.{IsDirServed}
 use Rattle.ufs_primary.specs.Excused.{IsExcusedHere}

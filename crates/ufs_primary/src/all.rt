@@ -1,7 +1,7 @@
 // A `sync`.
 ghost use Rattle.std.specs.Prelude.{◌≡◌, ◌<◌, ◌^◌};
 ghost use Rattle.ufs_bitmap.specs.Blocks.{BlockSet};
-ghost use Rattle.ufs_first_hand.specs.FirstHand.{HasPoolAlone, pool_of};
+ghost use Rattle.ufs_joint.specs.FirstHand.{HasPoolAlone, pool_of};
 ghost use Rattle.ufs_held_names.specs.SyncAll.{AreAllLive};
 ghost use Rattle.ufs_joint.specs.Cells.{FileCell};
 ghost use Rattle.ufs_layout.specs.Areas.{IsGeometry};
@@ -9,7 +9,7 @@ ghost use Rattle.ufs_model.specs.declared.data.Op.TheVariants as op;
 ghost use Rattle.ufs_msg.specs.Answers.{Told};
 ghost use Rattle.ufs_msg.specs.declared.answer.Answer.TheVariants as answer;
 ghost use Rattle.ufs_primary.specs.All.{IsAllSynced};
-ghost use Rattle.ufs_sound.specs.Owned.{Has};
+ghost use Rattle.ufs_hand_laws.specs.Owned.{Has};
 
 use ufs_held::HeldFile;
 use ufs_held_names::{HeldNames, NamesSynced};

@@ -13,9 +13,9 @@ use crate::turn::PrimaryTurn;
 use crate::waiting::Waiting;
 use std::collections::VecDeque;
 use ufs_base::Lack;
+use ufs_held::Parcel;
 use ufs_joint::{HandTable, Naming};
 use ufs_msg::{Answer, Letter, Request, ServerPost};
-use ufs_parcel::Parcel;
 use ufs_serving::send_answers;
 use ufs_turns::Turns;
 

@@ -2,7 +2,7 @@
 ghost use Rattle.std.specs.Prelude.{ℕ, ◌≡◌, IsSome, None};
 ghost use Rattle.ufs_bitmap.specs.Blocks.{BlockSet};
 ghost use Rattle.ufs_file.specs.Hand.{IsEntryOf};
-ghost use Rattle.ufs_first_hand.specs.FirstHand.{HasPoolAlone, pool_of};
+ghost use Rattle.ufs_joint.specs.FirstHand.{HasPoolAlone, pool_of};
 ghost use Rattle.ufs_held.specs.Asking.{IsGuest};
 ghost use Rattle.ufs_held_names.specs.Dirs.{AsksDir, AsksUnopened, answered};
 ghost use Rattle.ufs_model.specs.Asks.{file_in};
@@ -11,7 +11,7 @@ ghost use Rattle.ufs_model.specs.declared.data.Op.TheVariants as op;
 ghost use Rattle.ufs_msg.specs.Answers.{Told};
 ghost use Rattle.ufs_msg.specs.declared.answer.Answer.TheVariants as answer;
 ghost use Rattle.ufs_primary.specs.Dirs.{IsDirDone, IsDirServed};
-ghost use Rattle.ufs_sound.specs.Parts.{ClientPart};
+ghost use Rattle.ufs_hand_laws.specs.Parts.{ClientPart};
 
 use ufs_held_names::{HeldNames, NamesSynced, refuse_unopened};
 use ufs_joint::{Hand, HandTable, Naming};

@@ -2,7 +2,7 @@
 ghost use Rattle.std.specs.Prelude.{ℕ, ◌≡◌};
 ghost use Rattle.ufs_bitmap.specs.Blocks.{BlockSet};
 ghost use Rattle.ufs_file.specs.Hand.{IsEntryOf};
-ghost use Rattle.ufs_first_hand.specs.FirstHand.{HasPoolAlone, pool_of};
+ghost use Rattle.ufs_joint.specs.FirstHand.{HasPoolAlone, pool_of};
 ghost use Rattle.ufs_held.specs.Asking.{IsGuest};
 ghost use Rattle.ufs_held.specs.Drawn.{replied_to};
 ghost use Rattle.ufs_held_names.specs.Dirs.{answered};
@@ -13,15 +13,14 @@ ghost use Rattle.ufs_model.specs.declared.data.Reply.TheVariants as reply;
 ghost use Rattle.ufs_msg.specs.Answers.{Told};
 ghost use Rattle.ufs_msg.specs.declared.answer.Answer.TheVariants as answer;
 ghost use Rattle.ufs_primary.specs.Excused.{IsExcusedHere};
-ghost use Rattle.ufs_sound.specs.Parts.{ClientPart};
+ghost use Rattle.ufs_hand_laws.specs.Parts.{ClientPart};
 
 use crate::kinds::file_in;
 use crate::named::server_of;
 use ufs_base::Lack;
 use ufs_held::draw_reply;
 use ufs_home::Home;
-use ufs_joint::{Hand, HandTable, Naming};
-use ufs_kept::draw_law;
+use ufs_joint::{Hand, HandTable, Naming, draw_law};
 use ufs_model::{Actor, Ask, Entry, Excuse, Reply};
 use ufs_msg::{Answer, Request, Served};
 use ufs_serving::{lend_pool, pool_number, take_pool};

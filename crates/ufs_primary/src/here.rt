@@ -2,7 +2,7 @@
 ghost use Rattle.std.specs.Prelude.{◌≡◌, ◌<◌, ◌≤◌, ◌^◌, IsSome, true};
 ghost use Rattle.std.specs.FinSet as set;
 ghost use Rattle.ufs_file.specs.Hand.{IsEntryOf, IsOf};
-ghost use Rattle.ufs_first_hand.specs.FirstHand.{HasPoolAlone, pool_of};
+ghost use Rattle.ufs_joint.specs.FirstHand.{HasPoolAlone, pool_of};
 ghost use Rattle.ufs_held.specs.Asking.{Asks, IsAnswered};
 ghost use Rattle.ufs_layout.specs.Areas.{IsGeometry};
 ghost use Rattle.ufs_model.specs.Bounds.{IsBounded};
@@ -11,10 +11,10 @@ ghost use Rattle.ufs_model.specs.declared.data.Actor.TheVariants.{Primary};
 ghost use Rattle.ufs_msg.specs.Answers.{Told};
 ghost use Rattle.ufs_msg.specs.Requests.{HasClientAlone, IsAsked};
 ghost use Rattle.ufs_msg.specs.declared.answer.Answer.TheVariants as answer;
-ghost use Rattle.ufs_prefix.specs.Changes.{asks_commit};
+ghost use Rattle.ufs_crash_laws.specs.Changes.{asks_commit};
 ghost use Rattle.ufs_primary.specs.Here.{IsDoneHere, IsServedHere};
 ghost use Rattle.ufs_serving.specs.Pools.{most_at_rest};
-ghost use Rattle.ufs_sound.specs.Parts.{ClientPart};
+ghost use Rattle.ufs_hand_laws.specs.Parts.{ClientPart};
 
 use crate::syncing::sync_here;
 use ufs_bitmap::Pool;

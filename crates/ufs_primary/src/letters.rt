@@ -3,10 +3,10 @@ ghost use Rattle.std.specs.Prelude.{◌≡◌, None};
 ghost use Rattle.ufs_primary.specs.Letters.{IsFrontDone, IsLetterDone, IsNextDone, IsSettled};
 
 use crate::turn::PrimaryTurn;
+use ufs_held::Parcel;
 use ufs_home::Home;
 use ufs_joint::Naming;
 use ufs_msg::{Letter, ServerPost};
-use ufs_parcel::Parcel;
 
 /// A file that came and waits for room is tried first; else the front letter of the ring is done, if there is one: a file that was coming
 /// is here, or goes on. There is no turn where there was no letter, or it asked nothing.

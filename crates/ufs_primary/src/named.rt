@@ -1,7 +1,7 @@
 // What the primary answers a request of the names.
 ghost use Rattle.std.specs.Prelude.{◌≡◌, ◌<◌, ◌≤◌, ◌^◌, IfSome, false};
 ghost use Rattle.std.specs.FinSet as set;
-ghost use Rattle.ufs_first_hand.specs.FirstHand.{HasPoolAlone, pool_of};
+ghost use Rattle.ufs_joint.specs.FirstHand.{HasPoolAlone, pool_of};
 ghost use Rattle.ufs_held_names.specs.Asked.{IsNeeded, number_of};
 ghost use Rattle.ufs_layout.specs.Areas.{IsGeometry};
 ghost use Rattle.ufs_model.specs.Asks.{file_in};
@@ -9,7 +9,7 @@ ghost use Rattle.ufs_msg.specs.Answers.{Told};
 ghost use Rattle.ufs_msg.specs.There.{IsServerThere};
 ghost use Rattle.ufs_msg.specs.declared.answer.Answer.TheVariants as answer;
 ghost use Rattle.ufs_names.specs.Calls.{IsOfNames};
-ghost use Rattle.ufs_prefix.specs.Changes.{asks_commit};
+ghost use Rattle.ufs_crash_laws.specs.Changes.{asks_commit};
 ghost use Rattle.ufs_primary.specs.Named.{IsNamesServed, server_at, server_told};
 ghost use Rattle.ufs_serving.specs.Pools.{most_at_rest};
 

@@ -2,7 +2,7 @@
 ghost use Rattle.std.specs.Prelude.{◌≡◌, ◌<◌, ◌≤◌, ◌^◌};
 ghost use Rattle.std.specs.FinSet as set;
 ghost use Rattle.ufs_file.specs.Hand.{IsEntryOf};
-ghost use Rattle.ufs_first_hand.specs.FirstHand.{HasPoolAlone};
+ghost use Rattle.ufs_joint.specs.FirstHand.{HasPoolAlone};
 ghost use Rattle.ufs_held_names.specs.Asked.{IsNamedApart, IsNeeded, number_of};
 ghost use Rattle.ufs_held_names.specs.Asking.{AsksNames, IsAnsweredNames};
 ghost use Rattle.ufs_layout.specs.Areas.{IsGeometry};
@@ -10,7 +10,7 @@ ghost use Rattle.ufs_model.specs.declared.data.Actor.TheVariants.{Primary};
 ghost use Rattle.ufs_msg.specs.Requests.{HasClientAlone};
 ghost use Rattle.ufs_primary.specs.Named.{IsDoneByNames};
 ghost use Rattle.ufs_serving.specs.Pools.{most_at_rest};
-ghost use Rattle.ufs_sound.specs.Parts.{ClientPart};
+ghost use Rattle.ufs_hand_laws.specs.Parts.{ClientPart};
 
 use ufs_bitmap::Pool;
 use ufs_held::HeldFile;

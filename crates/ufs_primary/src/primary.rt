@@ -8,12 +8,12 @@ use std::alloc::Global;
 use std::collections::VecDeque;
 use std::marker::Model;
 use ufs_bitmap::Pool;
+use ufs_held::Parcel;
 use ufs_held_names::HeldNames;
 use ufs_home::Home;
 use ufs_joint::{Hand, HandTable, Naming};
 use ufs_layout::Geometry;
 use ufs_msg::{Answer, Letter, ServerPost};
-use ufs_parcel::Parcel;
 use ufs_serving::send_answers;
 use ufs_turns::Turns;
 
@@ -45,7 +45,7 @@ impl<N: Naming> Model for Primary<N> {
 impl<N: Naming> Primary<N> {
     ghost use Rattle.std.specs.Prelude.{◌≡◌, ◌≢◌, ◌≤◌, [], None, is_some};
     ghost use Rattle.std.specs.FinSet as set;
-    ghost use Rattle.ufs_first_hand.specs.FirstHand.{HasPoolAlone, pool_of};
+    ghost use Rattle.ufs_joint.specs.FirstHand.{HasPoolAlone, pool_of};
     ghost use Rattle.ufs_home.specs.Letters.{letter_of};
     ghost use Rattle.ufs_layout.specs.Areas.{IsGeometry};
     ghost use Rattle.ufs_model.specs.declared.data.Actor.TheVariants.{Primary as primary, Worker};

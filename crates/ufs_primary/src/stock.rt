@@ -14,12 +14,12 @@ use std::collections::VecDeque;
 use std::marker::Model;
 use ufs_base::{Lack, Memory};
 use ufs_bitmap::Pool;
+use ufs_held::Parcel;
 use ufs_held_names::HeldNames;
 use ufs_home::Home;
 use ufs_joint::{Hand, HandTable, Naming};
 use ufs_layout::Geometry;
 use ufs_msg::{Answer, Letter, Request, ServerPost};
-use ufs_parcel::Parcel;
 use ufs_turns::Turns;
 
 /// The names, the files and the pool of the primary, each with its hand, and the session's form.
@@ -58,7 +58,7 @@ impl<N: Naming> Stock<N> {
     ghost use Rattle.std.specs.Prelude.{◌≡◌, ◌<◌, ◌≤◌, ◌+◌, IfErr, MatchOption, OnErr, OnOk, is_some};
     ghost use Rattle.std.specs.FinSet as set;
     ghost use Rattle.std.specs.VecDeque.{deque_capacity, deque_len};
-    ghost use Rattle.ufs_first_hand.specs.FirstHand.{HasPoolAlone, pool_of};
+    ghost use Rattle.ufs_joint.specs.FirstHand.{HasPoolAlone, pool_of};
     ghost use Rattle.ufs_home.specs.Letters.{RingsGo, letter_of};
     ghost use Rattle.ufs_layout.specs.Areas.{IsGeometry};
     ghost use Rattle.ufs_model.specs.declared.data.Actor.TheVariants.{Worker};

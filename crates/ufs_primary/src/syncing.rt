@@ -1,14 +1,14 @@
 // An `fsync` of a file that is at the primary.
 ghost use Rattle.std.specs.Prelude.{ℕ, ◌≡◌, ◌≢◌};
 ghost use Rattle.ufs_file.specs.Hand.{IsEntryOf, IsOf};
-ghost use Rattle.ufs_first_hand.specs.FirstHand.{HasPoolAlone};
+ghost use Rattle.ufs_joint.specs.FirstHand.{HasPoolAlone};
 ghost use Rattle.ufs_held.specs.Asking.{Asks, IsAnswered};
 ghost use Rattle.ufs_layout.specs.Areas.{IsGeometry};
 ghost use Rattle.ufs_model.specs.declared.data.Actor.TheVariants.{Primary};
 ghost use Rattle.ufs_model.specs.declared.data.Op.TheVariants as op;
 ghost use Rattle.ufs_msg.specs.Requests.{HasClientAlone};
 ghost use Rattle.ufs_primary.specs.Here.{IsSyncedHere};
-ghost use Rattle.ufs_sound.specs.Parts.{ClientPart};
+ghost use Rattle.ufs_hand_laws.specs.Parts.{ClientPart};
 
 use ufs_bitmap::Pool;
 use ufs_held::{HeldFile, Served};

@@ -2,7 +2,7 @@
 ghost use Rattle.std.specs.Prelude.{◌≡◌, ◌≢◌, ◌<◌, ◌≤◌, ◌⊎◌, ◌^◌, IfNone, IfOk, IfSome, IsSome, None, OnErr, Some, false, true};
 ghost use Rattle.std.specs.FinMap as fin;
 ghost use Rattle.ufs_bitmap.specs.Blocks.{BlockSet};
-ghost use Rattle.ufs_first_hand.specs.FirstHand.{HasPoolAlone, pool_of};
+ghost use Rattle.ufs_joint.specs.FirstHand.{HasPoolAlone, pool_of};
 ghost use Rattle.ufs_held_names.specs.Asked.{IsNeeded, number_of};
 ghost use Rattle.ufs_home.specs.Places.{file_here};
 ghost use Rattle.ufs_primary.specs.Kinds.{IsByNames};

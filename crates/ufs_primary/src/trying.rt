@@ -2,7 +2,7 @@
 ghost use Rattle.std.specs.Prelude.{◌≡◌, ◌<◌, ◌≤◌, ◌^◌, Bool, None, Option, true};
 ghost use Rattle.std.specs.FinSet as set;
 ghost use Rattle.ufs_bitmap.specs.Blocks.{BlockSet};
-ghost use Rattle.ufs_first_hand.specs.FirstHand.{HasPoolAlone, pool_of};
+ghost use Rattle.ufs_joint.specs.FirstHand.{HasPoolAlone, pool_of};
 ghost use Rattle.ufs_held_names.specs.Asked.{IsNeeded};
 ghost use Rattle.ufs_held_names.specs.SyncAll.{AreAllLive};
 ghost use Rattle.ufs_home.specs.Places.{file_here};
@@ -20,7 +20,7 @@ ghost use Rattle.ufs_primary.specs.Kinds.{IsByNames, IsOnFile};
 ghost use Rattle.ufs_primary.specs.Primary.{AreHere, stock_of};
 ghost use Rattle.ufs_primary.specs.Served.{IsNamesTried, IsTried};
 ghost use Rattle.ufs_serving.specs.Pools.{most_at_rest};
-ghost use Rattle.ufs_sound.specs.Owned.{Has};
+ghost use Rattle.ufs_hand_laws.specs.Owned.{Has};
 
 use crate::all::serve_sync_all;
 use crate::dirs::serve_dir;

@@ -1,12 +1,12 @@
 -- What a command answers that calls no leg.
 use Rattle.std.proofs.Common.{◌≡◌, ℕ, true, false, IsTrue, List, Option, Some, None, refl, sym, ◌∙◌, subst, inl, inr}
-use Rattle.ufs_quiet.specs.Endings.{IsAnswer, IsFixed}
-use Rattle.ufs_quiet.specs.Left.{LeavesSource}
-use Rattle.ufs_quiet.specs.Seen.{Writing}
-use Rattle.ufs_quiet.specs.declared.ending.Ending.{Ending}
-use Rattle.ufs_quiet.specs.declared.ending.Ending.TheVariants.{NotBuilt, OutOfMemory, Usage}
-use Rattle.ufs_quiet.specs.declared.words.Command.{Command}
-use Rattle.ufs_quiet.specs.declared.words.Command.TheVariants as command
+use Rattle.ufs_command.specs.Endings.{IsAnswer, IsFixed}
+use Rattle.ufs_command.specs.Left.{LeavesSource}
+use Rattle.ufs_command.specs.Seen.{Writing}
+use Rattle.ufs_command.specs.declared.ending.Ending.{Ending}
+use Rattle.ufs_command.specs.declared.ending.Ending.TheVariants.{NotBuilt, OutOfMemory, Usage}
+use Rattle.ufs_command.specs.declared.words.Command.{Command}
+use Rattle.ufs_command.specs.declared.words.Command.TheVariants as command
 use Rattle.ufs_mirror.specs.Refused.{IsMakeFault, IsOpenFault}
 use Rattle.ufs_mirror.specs.declared.fault.MirrorFault.{MirrorFault}
 use Rattle.ufs_mirror.specs.declared.fault.MirrorFault.TheVariants.{NoLabel}

@@ -18,13 +18,13 @@ use Rattle.ufs_disk.proofs.Runs.{started}
 use Rattle.ufs_recover.specs.Stopped.{IsNew, IsNewDisk, IsStopped}
 use Rattle.ufs_recovery.specs.Home.{OpensAlike}
 use Rattle.ufs_session.specs.Throughout.{IsExplainedThroughout}
-use Rattle.ufs_stored.specs.OnDisk.{IsExplainedImage}
-use Rattle.ufs_quiet.specs.Bench.{IsOnceFormatted}
-use Rattle.ufs_quiet.specs.Left.{ActsOn, FormatsAndPlays, LeavesUnserved, Plays}
-use Rattle.ufs_quiet.specs.Seen.{Formatting}
-use Rattle.ufs_quiet.proofs.BenchLemmas.{begins, may}
-use Rattle.ufs_quiet.specs.declared.words.Command.{Command}
-use Rattle.ufs_quiet.specs.declared.words.Command.TheVariants as command
+use Rattle.ufs_promise_laws.specs.OnDisk.{IsExplainedImage}
+use Rattle.ufs_command.specs.Bench.{IsOnceFormatted}
+use Rattle.ufs_command.specs.Left.{ActsOn, FormatsAndPlays, LeavesUnserved, Plays}
+use Rattle.ufs_command.specs.Seen.{Formatting}
+use Rattle.ufs_command.proofs.BenchLemmas.{begins, may}
+use Rattle.ufs_command.specs.declared.words.Command.{Command}
+use Rattle.ufs_command.specs.declared.words.Command.TheVariants as command
 use Rattle.ufs_process.specs.Throughout.{OpensAsAnswered, OpensBenched, OpensFromTo, OpensOn, OpensPlayed, OpensUnserved}
 use Rattle.ufs_process.specs.Views.{Kind, View, course_of, moments_in, pairs_in}
 use Rattle.ufs_process.proofs.ThroughoutLemmas.{opens_as_answered, opens_from_to, opens_only, opens_throughout, right_each, throughout_passes}

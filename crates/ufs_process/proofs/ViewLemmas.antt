@@ -3,10 +3,10 @@ use Rattle.std.proofs.Common.{◌⊎◌, inl, inr, ℕ, List, Option, Some, None
 use Rattle.ufs_bench.specs.Workload.{bench_geometry}
 use Rattle.ufs_model.specs.declared.data.Entry.{Entry}
 use Rattle.ufs_layout.specs.declared.geometry.Geometry.{Geometry}
-use Rattle.ufs_quiet.specs.declared.words.Command.{Command}
-use Rattle.ufs_quiet.specs.declared.words.Command.TheVariants as command
-use Rattle.ufs_quiet.specs.Left.{ActsOn, Benches, Formats, FormatsAndPlays, LeavesDisk, LeavesUnserved, Plays}
-use Rattle.ufs_quiet.specs.Seen.{Course}
+use Rattle.ufs_command.specs.declared.words.Command.{Command}
+use Rattle.ufs_command.specs.declared.words.Command.TheVariants as command
+use Rattle.ufs_command.specs.Left.{ActsOn, Benches, Formats, FormatsAndPlays, LeavesDisk, LeavesUnserved, Plays}
+use Rattle.ufs_command.specs.Seen.{Course}
 
 module _ {D E : Type 0} (see : D → E) where
   -- the same course of what is seen

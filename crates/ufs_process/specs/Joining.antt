@@ -13,8 +13,8 @@ use Rattle.ufs_mirror.specs.declared.fault.MirrorFault.TheVariants.{NoLabel}
 use Rattle.ufs_mirror.specs.declared.legs.Legpair.{Legpair}
 use Rattle.ufs_mirror.specs.declared.legs.Picks.{Picks}
 use Rattle.ufs_mirror.specs.declared.legs.Picks.TheVariants.{Either}
-use Rattle.ufs_quiet.specs.declared.words.Command.{Command}
-use Rattle.ufs_quiet.specs.declared.words.Command.TheVariants as command
+use Rattle.ufs_command.specs.declared.words.Command.{Command}
+use Rattle.ufs_command.specs.declared.words.Command.TheVariants as command
 use Rattle.ufs_process.specs.Views.{Kind, View, moments_in, pairs_in}
 
 -- the command works on a disk

@@ -3,15 +3,15 @@ use Rattle.std.specs.Prelude.{ℕ, ◌≡◌, ◌⊎◌, ◌&&◌, IsTrue, List,
 use Rattle.ufs_mirror.specs.Opens.{OpenRight}
 use Rattle.ufs_mirror.specs.Pairs.{Follows}
 use Rattle.ufs_mirror.specs.declared.fault.MirrorFault.{MirrorFault}
-use Rattle.ufs_quiet.specs.Endings.{IsAnswer, IsFixed, IsLine}
-use Rattle.ufs_quiet.specs.Ends.{Ends}
-use Rattle.ufs_quiet.specs.Left.{LeavesDisk}
-use Rattle.ufs_quiet.specs.Seen.{Reading, Writing}
-use Rattle.ufs_quiet.specs.Told.{Tells}
-use Rattle.ufs_quiet.specs.declared.ending.Ending.{Ending}
-use Rattle.ufs_quiet.specs.declared.ending.Ending.TheVariants.{NotBuilt, OutOfMemory, Usage}
-use Rattle.ufs_quiet.specs.declared.words.Command.{Command}
-use Rattle.ufs_quiet.specs.declared.words.Command.TheVariants as command
+use Rattle.ufs_command.specs.Endings.{IsAnswer, IsFixed, IsLine}
+use Rattle.ufs_command.specs.Ends.{Ends}
+use Rattle.ufs_command.specs.Left.{LeavesDisk}
+use Rattle.ufs_command.specs.Seen.{Reading, Writing}
+use Rattle.ufs_command.specs.Told.{Tells}
+use Rattle.ufs_command.specs.declared.ending.Ending.{Ending}
+use Rattle.ufs_command.specs.declared.ending.Ending.TheVariants.{NotBuilt, OutOfMemory, Usage}
+use Rattle.ufs_command.specs.declared.words.Command.{Command}
+use Rattle.ufs_command.specs.declared.words.Command.TheVariants as command
 use Rattle.ufs_process.specs.Counts.{HasFailed}
 use Rattle.ufs_process.specs.Joining.{Joins, Unjoined, works_on_disk}
 use Rattle.ufs_process.specs.Refusals.{mirror_ending, mirror_line}

@@ -3,9 +3,9 @@ use Rattle.std.specs.Prelude.{ℕ, List, codes}
 use Rattle.ufs_mirror.specs.declared.fault.MirrorFault.{MirrorFault}
 use Rattle.ufs_mirror.specs.declared.fault.MirrorFault.TheVariants.{NoLabel, Unequal, TooSmall, Device}
 use Rattle.ufs_print.specs.Lines.{line}
-use Rattle.ufs_quiet.specs.Texts.{device_line}
-use Rattle.ufs_quiet.specs.declared.ending.Ending.{Ending}
-use Rattle.ufs_quiet.specs.declared.ending.Ending.TheVariants.{DeviceFault, NoTree}
+use Rattle.ufs_command.specs.Texts.{device_line}
+use Rattle.ufs_command.specs.declared.ending.Ending.{Ending}
+use Rattle.ufs_command.specs.declared.ending.Ending.TheVariants.{DeviceFault, NoTree}
 
 -- Its status is 4 for a fault of a leg, and else 3, as where an image stands for no tree.
 abbrev pub mirror_ending : MirrorFault → Ending

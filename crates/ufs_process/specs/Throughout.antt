@@ -17,9 +17,9 @@ use Rattle.ufs_model.specs.declared.data.Entry.{Entry}
 use Rattle.ufs_recover.specs.Stopped.{IsNew, IsStopped}
 use Rattle.ufs_recovery.specs.Home.{OpensAlike}
 use Rattle.ufs_recovery.specs.Recovered.{IsProperDisk}
-use Rattle.ufs_stored.specs.OnDisk.{IsExplainedImage}
-use Rattle.ufs_quiet.specs.declared.words.Command.{Command}
-use Rattle.ufs_quiet.specs.declared.words.Command.TheVariants as command
+use Rattle.ufs_promise_laws.specs.OnDisk.{IsExplainedImage}
+use Rattle.ufs_command.specs.declared.words.Command.{Command}
+use Rattle.ufs_command.specs.declared.words.Command.TheVariants as command
 use Rattle.ufs_process.specs.Views.{Kind, View, moments_in, pairs_in}
 
 -- the moments of the pair from the one to the other, both included

@@ -5,7 +5,7 @@ use Rattle.ufs_mirror.specs.Pairs.{Pairs, moments_of, watched}
 use Rattle.ufs_mirror.specs.declared.legs.Legpair.{Legpair}
 use Rattle.ufs_mirror.specs.declared.legs.Picks.{Picks}
 use Rattle.ufs_model.specs.declared.data.Entry.{Entry}
-use Rattle.ufs_quiet.specs.Seen.{Course, Formatting, course, formatting}
+use Rattle.ufs_command.specs.Seen.{Course, Formatting, course, formatting}
 
 -- A kind of disk, by what contracts see of each of that kind.
 pub record Kind (D : Type 0) : Type 0 where

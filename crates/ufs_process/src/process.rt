@@ -4,9 +4,9 @@ use std::env::{self, Env};
 use std::fs::{File, Files};
 use std::io;
 use ufs_base::Lack;
+use ufs_command::{WordsFault, image_path, respond};
 use ufs_disk::FileDisk;
 use ufs_io::{StreamSink, StreamSource};
-use ufs_quiet::{WordsFault, image_path, respond};
 use ufs_words::{image_of, mirror_of};
 
 // The words of the command line behind the program's name.

@@ -1,12 +1,12 @@
 // Telling why nothing is done.
 ghost use Rattle.std.specs.Prelude.{◌≡◌, ◌⊎◌};
-ghost use Rattle.ufs_quiet.specs.Endings.{IsAnswer, IsLine, sink_status, status_of};
-ghost use Rattle.ufs_quiet.specs.Seen.{writing};
+ghost use Rattle.ufs_command.specs.Endings.{IsAnswer, IsLine, sink_status, status_of};
+ghost use Rattle.ufs_command.specs.Seen.{writing};
 ghost use Rattle.ufs_process.specs.Refusals.{mirror_ending, mirror_line};
 
+use ufs_command::{Ending, tell, tell_device};
 use ufs_io::Sink;
 use ufs_mirror::MirrorFault;
-use ufs_quiet::{Ending, tell, tell_device};
 
 /// Ends with why two legs make no mirror. Takes no memory.
 pub fn tell_mirror_fault<K: Sink>(sink: &mut K, fault: MirrorFault) -> u8

@@ -1,8 +1,8 @@
 ghost use Rattle.std.specs.Prelude.{◌≡◌, ◌⊎◌, [], Some, IsTrue, false};
 ghost use Rattle.ufs_mirror.specs.Pairs.{watched};
-ghost use Rattle.ufs_quiet.specs.Commands.{asked, serves};
-ghost use Rattle.ufs_quiet.specs.Left.{LeavesSource};
-ghost use Rattle.ufs_quiet.specs.Seen.{reading, writing};
+ghost use Rattle.ufs_command.specs.Commands.{asked, serves};
+ghost use Rattle.ufs_command.specs.Left.{LeavesSource};
+ghost use Rattle.ufs_command.specs.Seen.{reading, writing};
 ghost use Rattle.ufs_process.specs.Counts.{HaveCounted};
 ghost use Rattle.ufs_process.specs.Joining.{Joins, is_mkfs, works_on_disk};
 ghost use Rattle.ufs_process.specs.Mirrored.{AnswersOver, LeavesLegs, RefusesLegs, ServesMirror};
@@ -14,10 +14,10 @@ use crate::refusal::tell_mirror_fault;
 use std::alloc::Global;
 use std::marker::Brand;
 use ufs_base::Lack;
+use ufs_command::{Command, Ending, finish, nothing_told, out_of_memory, quiet, read_command};
 use ufs_disk::Disk;
 use ufs_io::{Sink, Source};
 use ufs_mirror::{Legpair, Mirror};
-use ufs_quiet::{Command, Ending, finish, nothing_told, out_of_memory, quiet, read_command};
 
 // A command over a mirror.
 fn serve<S: Source, K: Sink, A: Disk, B: Disk, N: Origin>(

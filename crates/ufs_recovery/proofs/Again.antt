@@ -1,7 +1,7 @@
 -- Where orphans were freed, the inodes are read again, and files are cut.
 use Rattle.std.proofs.Common.{◌≡◌, ℕ, Bool, sym, subst}
 use Rattle.ufs_base.specs.Images.{Image}
-use Rattle.ufs_catalog.specs.Reading.{IsReadOnly}
+use Rattle.ufs_metadata.specs.Reading.{IsReadOnly}
 use Rattle.ufs_damage.specs.Findings.{AreFindingsOf, CatalogRead}
 use Rattle.ufs_disk.specs.Disk.{IsSettled}
 use Rattle.ufs_disk.specs.Moments.{Moments, reads}

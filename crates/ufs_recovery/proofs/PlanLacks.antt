@@ -2,7 +2,7 @@
 use Rattle.std.proofs.Common.{ℕ, List, Option}
 use Rattle.ufs_base.specs.declared.lack.Lack.{Lack}
 use Rattle.ufs_base.specs.declared.lack.Lack.TheVariants.{Memory, AtEnd, Unsound, Told}
-use Rattle.ufs_catalog.specs.Lacks.{IsOfNumbers}
+use Rattle.ufs_metadata.specs.Lacks.{IsOfNumbers}
 use Rattle.ufs_layout.specs.InodeForm.{InodeForm}
 use Rattle.ufs_layout.specs.declared.superblock.Super.{Super}
 use Rattle.ufs_recovery.specs.Orphans.{IsLackOfPlan}

@@ -2,7 +2,7 @@
 use Rattle.std.proofs.Common.{◌≡◌, ℕ, Bool, None, sym, subst}
 use Rattle.std.specs.Prelude.{Ok}
 use Rattle.ufs_base.specs.Images.{Image}
-use Rattle.ufs_catalog.specs.Reading.{IsReadOnly}
+use Rattle.ufs_metadata.specs.Reading.{IsReadOnly}
 use Rattle.ufs_damage.specs.Findings.{AreFindingsOf, CatalogRead}
 use Rattle.ufs_disk.specs.Disk.{IsSettled}
 use Rattle.ufs_disk.specs.Moments.{Moments, reads}

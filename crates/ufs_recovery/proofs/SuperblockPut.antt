@@ -9,7 +9,7 @@ use Rattle.ufs_layout.specs.Superblock.{super_of}
 use Rattle.ufs_layout.specs.declared.superblock.Super.{Super}
 use Rattle.ufs_image.specs.Opens.{opens}
 use Rattle.ufs_image.specs.Proper.{IsProperImage}
-use Rattle.ufs_catalog.specs.Reading.{IsReadOnly}
+use Rattle.ufs_metadata.specs.Reading.{IsReadOnly}
 use Rattle.ufs_recovery.specs.Cleared.{HasSectorPut}
 use Rattle.ufs_recovery.specs.Home.{IsAtHome, IsBroughtHome, OpensAlike, KeepsTree}
 use Rattle.ufs_recovery.proofs.Home.{superblock_put_home, superblock_put_tree}

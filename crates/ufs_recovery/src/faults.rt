@@ -1,9 +1,9 @@
 ghost use Rattle.std.specs.Prelude.{ℕ, ◌≡◌, Ok, IfOk, IfErr, OnOk};
 ghost use Rattle.ufs_base.specs.Faults.{HasCause};
-ghost use Rattle.ufs_catalog.specs.Faults.{HasFaultCause, IsOutside};
+ghost use Rattle.ufs_metadata.specs.Faults.{HasFaultCause, IsOutside};
 
-use ufs_catalog::RecoverFault;
 use ufs_disk::Fault;
+use ufs_metadata::RecoverFault;
 
 /// The end of a step over the disk, as a recovery tells it.
 pub(crate) fn of_device(done: Result<(), Fault>) -> Result<(), RecoverFault>

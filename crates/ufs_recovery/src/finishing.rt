@@ -1,6 +1,6 @@
 // A recovery from its plan to the end.
 ghost use Rattle.std.specs.Prelude.{ℕ, ◌≡◌, ◌≤◌, length, IsTrue, IfErr, OnOk};
-ghost use Rattle.ufs_catalog.specs.Faults.{HasFaultCause, IsOutside};
+ghost use Rattle.ufs_metadata.specs.Faults.{HasFaultCause, IsOutside};
 ghost use Rattle.ufs_disk.specs.Disk.{IsSettled};
 ghost use Rattle.ufs_disk.specs.Moments.{reads};
 ghost use Rattle.ufs_layout.specs.Areas.{IsGeometry, sector_count};
@@ -14,10 +14,10 @@ use crate::freeing::tidy;
 use crate::plan::{Plan, make_plan};
 use crate::steps::{begin, close};
 use std::alloc::Global;
-use ufs_catalog::RecoverFault;
 use ufs_damage::Findings;
 use ufs_disk::Disk;
 use ufs_layout::Geometry;
+use ufs_metadata::RecoverFault;
 use ufs_volume::FoldedVolume;
 
 // What is left once the next epoch has begun.

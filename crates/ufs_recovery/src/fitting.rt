@@ -2,7 +2,7 @@
 ghost use Rattle.std.specs.Prelude.{ℕ, ◌≡◌, ◌≤◌, ◌<◌, ◌+◌, length, IsTrue, IfErr, OnOk};
 ghost use Rattle.ufs_base.specs.Faults.{HasCause};
 ghost use Rattle.ufs_base.specs.Images.{Image};
-ghost use Rattle.ufs_catalog.specs.Faults.{HasFaultCause, IsOutside};
+ghost use Rattle.ufs_metadata.specs.Faults.{HasFaultCause, IsOutside};
 ghost use Rattle.ufs_disk.specs.Disk.{IsSettled};
 ghost use Rattle.ufs_disk.specs.Moments.{LeavesOnly, reads};
 ghost use Rattle.ufs_layout.specs.Areas.{IsGeometry, sector_count};
@@ -16,9 +16,9 @@ use crate::faults::of_device;
 use crate::sector::put_sector;
 use std::alloc::Global;
 use ufs_base::SECTORS_PER_BLOCK;
-use ufs_catalog::RecoverFault;
 use ufs_disk::{Disk, Fault};
 use ufs_layout::{Geometry, Inode};
+use ufs_metadata::RecoverFault;
 
 // Writes the inode at this place of the inode table, and waits until it is on the disk for good.
 fn put_form<D: Disk>(

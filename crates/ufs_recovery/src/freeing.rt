@@ -1,8 +1,8 @@
 // Orphans are freed and files are cut where there are such, and the used blocks are told.
 ghost use Rattle.std.specs.Prelude.{ℕ, ◌≡◌, ◌≤◌, length, IsTrue, IfOk, IfErr, OnOk};
 ghost use Rattle.ufs_base.specs.Images.{Image};
-ghost use Rattle.ufs_catalog.specs.Faults.{HasFaultCause, IsOutside};
-ghost use Rattle.ufs_catalog.specs.Reading.{IsReadOnly};
+ghost use Rattle.ufs_metadata.specs.Faults.{HasFaultCause, IsOutside};
+ghost use Rattle.ufs_metadata.specs.Reading.{IsReadOnly};
 ghost use Rattle.ufs_damage.specs.Findings.{AreFindingsOf};
 ghost use Rattle.ufs_damage.specs.Taken.{AreTaken};
 ghost use Rattle.ufs_disk.specs.Disk.{IsSettled};
@@ -21,10 +21,10 @@ use crate::fitting::fit;
 use crate::orphans::has_none;
 use crate::pruning::{Orphans, prune};
 use std::alloc::Global;
-use ufs_catalog::{RecoverFault, read_findings};
 use ufs_damage::{Findings, TakenBlocks, taken_blocks};
 use ufs_disk::Disk;
 use ufs_layout::Geometry;
+use ufs_metadata::{RecoverFault, read_findings};
 use ufs_overlay::Overlay;
 
 fn used_blocks(

@@ -15,9 +15,9 @@ use crate::pruning::Orphans;
 use crate::superblocks::next_superblock;
 use std::alloc::Global;
 use ufs_base::Lack;
-use ufs_catalog::ImageSuperblock;
 use ufs_damage::Findings;
 use ufs_layout::Super;
+use ufs_metadata::ImageSuperblock;
 use ufs_walk::reached_inodes;
 
 /// The orphans that are to be freed, and the superblock of the next epoch.

@@ -1,6 +1,6 @@
 ghost use Rattle.std.specs.Prelude.{ℕ, ◌≡◌, false, length, Ok, Err, IsTrue, IfOk, IfErr, OnOk};
-ghost use Rattle.ufs_catalog.specs.Faults.{HasFaultCause, IsOutside};
-ghost use Rattle.ufs_catalog.specs.Reading.{IsReadOnly};
+ghost use Rattle.ufs_metadata.specs.Faults.{HasFaultCause, IsOutside};
+ghost use Rattle.ufs_metadata.specs.Reading.{IsReadOnly};
 ghost use Rattle.ufs_disk.specs.Moments.{reads};
 ghost use Rattle.ufs_image.specs.Opens.{ImageTree, opens};
 ghost use Rattle.ufs_image.specs.Proper.{IsProperImage};
@@ -11,8 +11,8 @@ ghost use Rattle.ufs_recovery.specs.Recovered.{IsCleanDisk, IsProperDisk, IsReco
 
 use crate::finishing::write_back;
 use std::alloc::Global;
-use ufs_catalog::RecoverFault;
 use ufs_disk::Disk;
+use ufs_metadata::RecoverFault;
 use ufs_opening::open;
 
 /// Makes the image on a disk clean, and answers how many transactions are committed in its journal. A clean image

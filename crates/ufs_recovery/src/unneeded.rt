@@ -1,6 +1,6 @@
 ghost use Rattle.std.specs.Prelude.{ℕ, ◌≡◌, Ok, Err, IsTrue, IfErr, OnOk};
-ghost use Rattle.ufs_catalog.specs.Faults.{HasFaultCause, IsOutside};
-ghost use Rattle.ufs_catalog.specs.Reading.{IsReadOnly};
+ghost use Rattle.ufs_metadata.specs.Faults.{HasFaultCause, IsOutside};
+ghost use Rattle.ufs_metadata.specs.Reading.{IsReadOnly};
 ghost use Rattle.ufs_disk.specs.Moments.{reads};
 ghost use Rattle.ufs_image.specs.Opens.{ImageTree, opens};
 ghost use Rattle.ufs_image.specs.Proper.{IsProperImage};
@@ -11,8 +11,8 @@ ghost use Rattle.ufs_recovery.specs.Recovered.{IsCleanDisk, IsProperDisk, IsReco
 
 use crate::finishing::write_back;
 use std::alloc::Global;
-use ufs_catalog::RecoverFault;
 use ufs_disk::Disk;
+use ufs_metadata::RecoverFault;
 use ufs_opening::open;
 
 /// Frees the inodes that no path names, and the blocks that a file has beyond its size, also on an image that is marked clean,

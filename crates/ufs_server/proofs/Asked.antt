@@ -8,8 +8,8 @@ use Rattle.ufs_model.specs.PosixTree.{PosixTree}
 use Rattle.ufs_model.specs.declared.data.Ask.{Ask}
 use Rattle.ufs_model.specs.declared.data.Desc.{Desc}
 use Rattle.ufs_model.proofs.Facts.Live.{held_has}
-use Rattle.ufs_stored.specs.Parts.{Parts}
-use Rattle.ufs_stored.specs.Stored.{ArePartsOf}
+use Rattle.ufs_promise_laws.specs.Parts.{Parts}
+use Rattle.ufs_promise_laws.specs.Stored.{ArePartsOf}
 
 module _ (p : Parts) (t : PosixTree) (parts : ArePartsOf p t) where
   file_here : (client : ℕ) (fd : Option ℕ) (d : Desc) (file : ℕ) → desc_of_fd t.fds client fd ≡ Some d → d.file ≡ Some file → IsSome (map.get p.files file)

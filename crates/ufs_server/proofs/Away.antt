@@ -4,15 +4,15 @@ use Rattle.std.specs.Prelude.{unwrap_or}
 use Rattle.std.specs.FinMap as map
 use Rattle.std.specs.List.{slice_get}
 use Rattle.ufs_bitmap.specs.Blocks.{BlockSet}
-use Rattle.ufs_durable.specs.State.{DurableState}
+use Rattle.ufs_file_commits.specs.State.{DurableState}
 use Rattle.ufs_file.specs.Content.{own_bytes}
 use Rattle.ufs_file.specs.Hand.{FileState}
 use Rattle.ufs_files.specs.Files.{Files}
 use Rattle.ufs_model.specs.FileBytes.{bytes_of}
 use Rattle.ufs_model.specs.PosixTree.{PosixTree}
 use Rattle.ufs_names.specs.Calls.{FilesGoOn, HasNoByte}
-use Rattle.ufs_stored.specs.Parts.{Parts, with_file}
-use Rattle.ufs_stored.proofs.Puts.{either}
+use Rattle.ufs_promise_laws.specs.Parts.{Parts, with_file}
+use Rattle.ufs_promise_laws.proofs.Puts.{either}
 use Rattle.ufs_server.specs.Away.{AwayStays, ForgetsNothing, IsAway}
 
 -- the same files, and no other

@@ -13,11 +13,11 @@ use Rattle.ufs_store.specs.Refusals.{fault_of, is_no_space, stop_after}
 use Rattle.ufs_store.specs.State.{StoreState, geometry_of_store}
 use Rattle.ufs_store.specs.declared.fault.StoreFault.{StoreFault}
 use Rattle.ufs_store.specs.declared.fault.StoreFault.TheVariants as refusal
-use Rattle.ufs_stored.specs.AlwaysLaws.{CheckpointsAreExplained, RestIsExplained}
-use Rattle.ufs_stored.specs.OnDisk.{IsExplainedBetween, IsOnDisk}
-use Rattle.ufs_stored.specs.Parts.{Parts}
-use Rattle.ufs_stored.specs.Sound.{IsSoundServer}
-use Rattle.ufs_synced.specs.Laws.{CheckpointsFail, DroppedIsReclaimed, HasNothingNoted, IsBeside, with_reclaimed}
+use Rattle.ufs_promise_laws.specs.AlwaysLaws.{CheckpointsAreExplained, RestIsExplained}
+use Rattle.ufs_promise_laws.specs.OnDisk.{IsExplainedBetween, IsOnDisk}
+use Rattle.ufs_promise_laws.specs.Parts.{Parts}
+use Rattle.ufs_promise_laws.specs.Sound.{IsSoundServer}
+use Rattle.ufs_names_commit.specs.Laws.{CheckpointsFail, DroppedIsReclaimed, HasNothingNoted, IsBeside, with_reclaimed}
 
 some_stop : (o : Option ℕ) (n : ℕ) → IsSome (stop_after o (Some n))
 some_stop None n = refl

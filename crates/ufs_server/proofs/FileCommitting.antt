@@ -17,22 +17,22 @@ use Rattle.ufs_layout.specs.declared.geometry.Geometry.{Geometry}
 use Rattle.ufs_model.specs.PosixTree.{PosixTree}
 use Rattle.ufs_model.specs.declared.data.Entry.{Entry}
 use Rattle.ufs_model.proofs.Facts.Lookups as lookups
-use Rattle.ufs_durable.specs.Committing.{FitsInode}
-use Rattle.ufs_durable.specs.Stamping.{MayLeaveSynced}
-use Rattle.ufs_durable.specs.State.{CommitState, DurableState, file_committed, state_of}
-use Rattle.ufs_durable.specs.Writes.{AreDataBlocks}
-use Rattle.ufs_durable.proofs.Stamping.{synced_more}
-use Rattle.ufs_on_disk.specs.Syncs.{CommittedIsForgotten, FailedSyncsGoOn, FileSyncsAreExplained, FileSyncsGoOn, FileSyncsMayLeave, HasFailed, HasSynced, HasWritten, IsSpaceOf, LeavesStages, OnDiskAsTold, PutBackAsItWas, SoundAsTold, SoundByFileSyncs, SyncedAsTold, SyncsMayBegin, WrittenSyncsGoOn}
+use Rattle.ufs_file_commits.specs.Committing.{FitsInode}
+use Rattle.ufs_file_commits.specs.Stamping.{MayLeaveSynced}
+use Rattle.ufs_file_commits.specs.State.{CommitState, DurableState, file_committed, state_of}
+use Rattle.ufs_file_commits.specs.Writes.{AreDataBlocks}
+use Rattle.ufs_file_commits.proofs.Stamping.{synced_more}
+use Rattle.ufs_event_laws.specs.Syncs.{CommittedIsForgotten, FailedSyncsGoOn, FileSyncsAreExplained, FileSyncsGoOn, FileSyncsMayLeave, HasFailed, HasSynced, HasWritten, IsSpaceOf, LeavesStages, OnDiskAsTold, PutBackAsItWas, SoundAsTold, SoundByFileSyncs, SyncedAsTold, SyncsMayBegin, WrittenSyncsGoOn}
 use Rattle.ufs_store.specs.Blocks.{MayReturn}
 use Rattle.ufs_store.specs.State.{StoreState, geometry_of_store}
-use Rattle.ufs_stored.specs.OnDisk.{HasFiles, HasNames, IsExplainedBetween, IsOnDisk}
-use Rattle.ufs_stored.specs.Parts.{Commits, Parts, durable_in, with_file}
-use Rattle.ufs_stored.specs.Sound.{IsSoundServer}
-use Rattle.ufs_stored.specs.Stamping.{ExplainsNamed}
-use Rattle.ufs_stored.specs.Stored.{ArePartsOf}
-use Rattle.ufs_stored.proofs.FileEntries.{parts_now}
-use Rattle.ufs_stored.proofs.Puts.{here, other_file}
-use Rattle.ufs_stored.proofs.Whole.{cleaned_stays}
+use Rattle.ufs_promise_laws.specs.OnDisk.{HasFiles, HasNames, IsExplainedBetween, IsOnDisk}
+use Rattle.ufs_promise_laws.specs.Parts.{Commits, Parts, durable_in, with_file}
+use Rattle.ufs_promise_laws.specs.Sound.{IsSoundServer}
+use Rattle.ufs_promise_laws.specs.Stamping.{ExplainsNamed}
+use Rattle.ufs_promise_laws.specs.Stored.{ArePartsOf}
+use Rattle.ufs_promise_laws.proofs.FileEntries.{parts_now}
+use Rattle.ufs_promise_laws.proofs.Puts.{here, other_file}
+use Rattle.ufs_promise_laws.proofs.Whole.{cleaned_stays}
 use Rattle.ufs_server.specs.Away.{ForgetsNothing}
 use Rattle.ufs_server.proofs.Away.{forgets_none, forgets_put}
 use Rattle.ufs_server.proofs.FileServing.{IsOut, at, same_pool}

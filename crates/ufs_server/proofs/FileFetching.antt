@@ -25,15 +25,15 @@ use Rattle.ufs_model.specs.declared.data.Op.{Op}
 use Rattle.ufs_model.specs.declared.data.Op.TheVariants as op
 use Rattle.ufs_model.proofs.Facts.Lookups as lookups
 use Rattle.ufs_model.proofs.Facts.Lookups.{from_some, same_some}
-use Rattle.ufs_durable.specs.State.{CommitState, DurableState, IsNoted, state_of}
-use Rattle.ufs_on_disk.specs.Fetches.{FetchesAreExplained, FetchesGoOn, IsFetched, SoundByFetches, with_read}
-use Rattle.ufs_on_disk.specs.Syncs.{TellsTheSame}
+use Rattle.ufs_file_commits.specs.State.{CommitState, DurableState, IsNoted, state_of}
+use Rattle.ufs_event_laws.specs.Fetches.{FetchesAreExplained, FetchesGoOn, IsFetched, SoundByFetches, with_read}
+use Rattle.ufs_event_laws.specs.Syncs.{TellsTheSame}
 use Rattle.ufs_store.specs.State.{StoreState, geometry_of_store}
-use Rattle.ufs_stored.specs.OnDisk.{IsOnDisk}
-use Rattle.ufs_stored.specs.Parts.{Parts, committed_as, durable_in, with_file}
-use Rattle.ufs_stored.specs.Sound.{IsSoundServer}
-use Rattle.ufs_stored.specs.Stored.{ArePartsOf}
-use Rattle.ufs_stored.proofs.Puts.{durable_else, either, here, other_file}
+use Rattle.ufs_promise_laws.specs.OnDisk.{IsOnDisk}
+use Rattle.ufs_promise_laws.specs.Parts.{Parts, committed_as, durable_in, with_file}
+use Rattle.ufs_promise_laws.specs.Sound.{IsSoundServer}
+use Rattle.ufs_promise_laws.specs.Stored.{ArePartsOf}
+use Rattle.ufs_promise_laws.proofs.Puts.{durable_else, either, here, other_file}
 use Rattle.ufs_server.specs.Fetched.{HasReadFurther, IsReadFurther, IsReady, LacksBlocks, is_of_read, needs_bytes}
 use Rattle.ufs_server.specs.Served.{StaysOnDisk}
 use Rattle.ufs_server.proofs.FileServing.{IsOut, at, same_pool}

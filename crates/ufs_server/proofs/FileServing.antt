@@ -25,18 +25,18 @@ use Rattle.ufs_model.specs.declared.data.Entry.{Entry}
 use Rattle.ufs_model.specs.declared.data.Op.{Op}
 use Rattle.ufs_model.specs.declared.data.Op.TheVariants as op
 use Rattle.ufs_model.specs.declared.data.Reply.{Reply}
-use Rattle.ufs_prefix.specs.Changes.{asks_commit}
-use Rattle.ufs_durable.specs.Serving.{IsApplied}
-use Rattle.ufs_durable.specs.State.{CommitState, DurableState, blocks_held, state_of}
-use Rattle.ufs_on_disk.specs.Requests.{FileRequestsGoOn, PartsByExcuses, PartsByFileRequests, SoundByFileRequests}
-use Rattle.ufs_on_disk.specs.Syncs.{OnDiskAsTold, PutBackAsItWas}
+use Rattle.ufs_crash_laws.specs.Changes.{asks_commit}
+use Rattle.ufs_file_commits.specs.Serving.{IsApplied}
+use Rattle.ufs_file_commits.specs.State.{CommitState, DurableState, blocks_held, state_of}
+use Rattle.ufs_event_laws.specs.FileRequests.{FileRequestsGoOn, PartsByExcuses, PartsByFileRequests, SoundByFileRequests}
+use Rattle.ufs_event_laws.specs.Syncs.{OnDiskAsTold, PutBackAsItWas}
 use Rattle.ufs_store.specs.State.{StoreState, geometry_of_store}
-use Rattle.ufs_stored.specs.OnDisk.{IsOnDisk}
-use Rattle.ufs_stored.specs.Parts.{FileOwns, Parts, durable_in, with_file}
-use Rattle.ufs_stored.specs.Sound.{IsFileSound, IsSoundServer}
-use Rattle.ufs_stored.specs.Stored.{ArePartsOf}
-use Rattle.ufs_stored.proofs.Puts.{durable_here, here}
-use Rattle.ufs_stored.proofs.Spaced.{pool_apart}
+use Rattle.ufs_promise_laws.specs.OnDisk.{IsOnDisk}
+use Rattle.ufs_promise_laws.specs.Parts.{FileOwns, Parts, durable_in, with_file}
+use Rattle.ufs_promise_laws.specs.Sound.{IsFileSound, IsSoundServer}
+use Rattle.ufs_promise_laws.specs.Stored.{ArePartsOf}
+use Rattle.ufs_promise_laws.proofs.Puts.{durable_here, here}
+use Rattle.ufs_promise_laws.proofs.Spaced.{pool_apart}
 use Rattle.ufs_server.specs.Answered.{IsAnswered}
 use Rattle.ufs_server.specs.Away.{AwayStays, ForgetsNothing}
 use Rattle.ufs_server.proofs.Away.{away_put, forgets_put}

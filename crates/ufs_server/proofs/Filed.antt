@@ -12,9 +12,9 @@ use Rattle.ufs_model.specs.PosixTree.{PosixTree}
 use Rattle.ufs_model.specs.declared.data.Entry.{Entry}
 use Rattle.ufs_names.specs.NamesPart.{Holdings}
 use Rattle.ufs_store.specs.State.{StoreState}
-use Rattle.ufs_stored.specs.OnDisk.{HasFile, HasFiles, HasNames}
-use Rattle.ufs_durable.specs.State.{CommitState}
-use Rattle.ufs_stored.specs.Parts.{Commits, Parts}
+use Rattle.ufs_promise_laws.specs.OnDisk.{HasFile, HasFiles, HasNames}
+use Rattle.ufs_file_commits.specs.State.{CommitState}
+use Rattle.ufs_promise_laws.specs.Parts.{Commits, Parts}
 
 turn : (a b : Bool) → (a || b) ≡ (b || (a || false))
 turn true true = refl

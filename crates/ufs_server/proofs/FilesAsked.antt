@@ -19,7 +19,7 @@ use Rattle.ufs_model.specs.declared.data.PartName.{PartName}
 use Rattle.ufs_model.specs.declared.data.PartName.TheVariants as part
 use Rattle.ufs_model.specs.declared.data.Whence.TheVariants as whence
 use Rattle.ufs_names.specs.Calls.{IsOfNames, IsTouched}
-use Rattle.ufs_prefix.specs.Changes.{asks_commit}
+use Rattle.ufs_crash_laws.specs.Changes.{asks_commit}
 use Rattle.ufs_server.proofs.Syncs.{which}
 
 module _ (t : PosixTree) (client : ℕ) where

@@ -11,9 +11,9 @@ use Rattle.ufs_store.specs.Blocks.{AreApart, MovesLowest}
 use Rattle.ufs_store.specs.State.{StoreState}
 use Rattle.ufs_store.specs.declared.fault.StoreFault.{StoreFault}
 use Rattle.ufs_store.specs.declared.fault.StoreFault.TheVariants as refusal
-use Rattle.ufs_stored.specs.Laws.{MovesBlocks}
-use Rattle.ufs_stored.specs.Parts.{Parts, ThePool, Unassigned}
-use Rattle.ufs_stored.specs.Sound.{IsSoundServer}
+use Rattle.ufs_promise_laws.specs.Laws.{MovesBlocks}
+use Rattle.ufs_promise_laws.specs.Parts.{Parts, ThePool, Unassigned}
+use Rattle.ufs_promise_laws.specs.Sound.{IsSoundServer}
 use Rattle.ufs_server.specs.Answered.{lacks_blocks}
 use Rattle.ufs_server.proofs.NamesServed.{on_one, one_on}
 

@@ -9,8 +9,8 @@ use Rattle.ufs_calls.proofs.Facts.Inserts.{insert_again, insert_same}
 use Rattle.ufs_file.specs.Hand.{FileState}
 use Rattle.ufs_files.specs.Files.{AreNumbered, Files}
 use Rattle.ufs_model.proofs.Facts.Lookups.{from_some, inserted_here, same_some}
-use Rattle.ufs_durable.specs.State.{CommitState, DurableState, state_of}
-use Rattle.ufs_stored.specs.Parts.{Commits, Parts, committed_as, durable_in, with_file}
+use Rattle.ufs_file_commits.specs.State.{CommitState, DurableState, state_of}
+use Rattle.ufs_promise_laws.specs.Parts.{Commits, Parts, committed_as, durable_in, with_file}
 use Rattle.ufs_server.specs.Server.{HasRoomFor, commits_in}
 
 -- the later hand stays

@@ -10,8 +10,8 @@ use Rattle.std.specs.FinMap as map
 use Rattle.std.specs.FinMap.{nat_cmp-IsAntisymmetric}
 use Rattle.ufs_calls.specs.Seen.{seen}
 use Rattle.ufs_calls.proofs.Facts.Maps.{get-seen, set-seen}
-use Rattle.ufs_durable.specs.State.{CommitState}
-use Rattle.ufs_stored.specs.Parts.{Commits}
+use Rattle.ufs_file_commits.specs.State.{CommitState}
+use Rattle.ufs_promise_laws.specs.Parts.{Commits}
 
 module _ (m : BTreeMap ℕ CommitState) (commits : Commits) (file : ℕ) (c : CommitState) (view : seen nat_cmp (λ k. k) m ≡ commits) (got : Some c ≡ tree.get_by (λ k. nat_cmp file k) m) where
   -- what is lent is what is known

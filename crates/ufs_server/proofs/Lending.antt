@@ -14,12 +14,12 @@ use Rattle.ufs_model.specs.declared.data.Reply.{Reply}
 use Rattle.ufs_model.specs.declared.data.Reply.TheVariants as reply
 use Rattle.ufs_names.specs.NamesPart.{NamesPart}
 use Rattle.ufs_names.specs.Space.{IsCause}
-use Rattle.ufs_on_disk.specs.Requests.{with_free}
+use Rattle.ufs_event_laws.specs.FileRequests.{with_free}
 use Rattle.ufs_pouring.specs.Lent.{listed}
 use Rattle.ufs_store.specs.Blocks.{AreApart}
 use Rattle.ufs_store.specs.Refusals.{stop_after}
 use Rattle.ufs_store.specs.State.{StoreState, geometry_of_store}
-use Rattle.ufs_stored.specs.Parts.{Parts}
+use Rattle.ufs_promise_laws.specs.Parts.{Parts}
 use Rattle.ufs_server.specs.Answered.{device_told, is_of_store, lacks_blocks}
 use Rattle.ufs_server.specs.Room.{HasRoom, IsPoolLent, IsShort, LacksBlock, SpendsFree, tells_lack}
 

@@ -17,17 +17,17 @@ use Rattle.ufs_model.specs.declared.data.Entry.{Entry}
 use Rattle.ufs_model.specs.declared.data.Excuse.{Excuse}
 use Rattle.ufs_model.specs.declared.data.Reply.TheVariants as reply
 use Rattle.ufs_names.specs.Calls.{IsTouched}
-use Rattle.ufs_names_stored.specs.Laws.{RequestsAreOnDisk, RequestsAreSound}
-use Rattle.ufs_names_stored.specs.Requests.{IsNamesRequest}
-use Rattle.ufs_prefix.specs.Changes.{asks_commit}
-use Rattle.ufs_prefix.proofs.Facts.Histories.{tree_after-append}
+use Rattle.ufs_event_laws.specs.Laws.{RequestsAreOnDisk, RequestsAreSound}
+use Rattle.ufs_event_laws.specs.Requests.{IsNamesRequest}
+use Rattle.ufs_crash_laws.specs.Changes.{asks_commit}
+use Rattle.ufs_crash_laws.proofs.Facts.Histories.{tree_after-append}
 use Rattle.ufs_store.specs.State.{StoreState, geometry_of_store}
-use Rattle.ufs_stored.specs.OnDisk.{IsOnDisk}
-use Rattle.ufs_stored.specs.OnDiskLaws.{OnDiskIsExcused}
-use Rattle.ufs_stored.specs.Parts.{Parts}
-use Rattle.ufs_stored.specs.Sound.{IsSoundServer}
-use Rattle.ufs_stored.specs.Stored.{ArePartsOf}
-use Rattle.ufs_stored.proofs.FileEntries.{served_goes}
+use Rattle.ufs_promise_laws.specs.OnDisk.{IsOnDisk}
+use Rattle.ufs_promise_laws.specs.OnDiskLaws.{OnDiskIsExcused}
+use Rattle.ufs_promise_laws.specs.Parts.{Parts}
+use Rattle.ufs_promise_laws.specs.Sound.{IsSoundServer}
+use Rattle.ufs_promise_laws.specs.Stored.{ArePartsOf}
+use Rattle.ufs_promise_laws.proofs.FileEntries.{served_goes}
 use Rattle.ufs_server.specs.Away.{ForgetsNothing}
 use Rattle.ufs_server.specs.Served.{IsServedOn, KeepsPromise, StaysOnDisk}
 use Rattle.ufs_server.specs.Touching.{IsFileTouched, IsServedByNames}

@@ -16,9 +16,9 @@ use Rattle.ufs_name_tree.specs.Notes.{GoesByNotes}
 use Rattle.ufs_names.specs.Calls.{HaveInodes, IsServed, IsTouched}
 use Rattle.ufs_names.specs.NamesPart.{NamesPart}
 use Rattle.ufs_names.specs.Space.{AreApart, HaveTheSame}
-use Rattle.ufs_names_stored.specs.Serving.{HasLeft, HasServed}
+use Rattle.ufs_event_laws.specs.Serving.{HasLeft, HasServed}
 use Rattle.ufs_pouring.specs.Lent.{listed}
-use Rattle.ufs_stored.specs.Parts.{Commits, Parts}
+use Rattle.ufs_promise_laws.specs.Parts.{Commits, Parts}
 use Rattle.ufs_server.specs.Touching.{IsSettled}
 
 both_on : (a b : Bool) → (a && not b) ≡ true → (a ≡ true) × (b ≡ false)

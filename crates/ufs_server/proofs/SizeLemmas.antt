@@ -8,8 +8,8 @@ use Rattle.std.specs.FinMap.Entries.{below_all, same_entries}
 use Rattle.std.specs.Ordering.{eq_by_cmp, is_lt, nat_cmp}
 use Rattle.ufs_file.specs.Hand.{FileState}
 use Rattle.ufs_model.specs.PosixTree.{PosixTree}
-use Rattle.ufs_stored.specs.Parts.{Parts}
-use Rattle.ufs_stored.specs.Stored.{ArePartsOf}
+use Rattle.ufs_promise_laws.specs.Parts.{Parts}
+use Rattle.ufs_promise_laws.specs.Stored.{ArePartsOf}
 use Rattle.ufs_server.specs.Sizes.{size_in}
 use Rattle.ufs_server.proofs.Touch.{live_here}
 

@@ -14,18 +14,18 @@ use Rattle.ufs_model.specs.declared.data.Excuse.{Excuse}
 use Rattle.ufs_model.specs.declared.data.Excuse.TheVariants as excuse
 use Rattle.ufs_model.specs.declared.data.Reply.TheVariants as reply
 use Rattle.ufs_names.proofs.FitsLemmas.{fits_memory}
-use Rattle.ufs_on_disk.specs.Requests.{FreeBlocksGoOn, SoundByFreeBlocks, with_free}
-use Rattle.ufs_on_disk.specs.Syncs.{OnDiskAsTold, SoundAsTold, TellsTheSame}
+use Rattle.ufs_event_laws.specs.FileRequests.{FreeBlocksGoOn, SoundByFreeBlocks, with_free}
+use Rattle.ufs_event_laws.specs.Syncs.{OnDiskAsTold, SoundAsTold, TellsTheSame}
 use Rattle.ufs_store.specs.Refusals.{IsTold, stop_after}
 use Rattle.ufs_store.specs.State.{StoreState, geometry_of_store}
-use Rattle.ufs_stored.specs.AlwaysLaws.{RestIsExplained}
-use Rattle.ufs_stored.specs.Laws.{MovesBlocks}
-use Rattle.ufs_stored.specs.OnDisk.{HasNames, IsExplainedBetween, IsOnDisk}
-use Rattle.ufs_stored.specs.OnDiskLaws.{OnDiskIsExcused}
-use Rattle.ufs_stored.specs.Parts.{Parts}
-use Rattle.ufs_stored.specs.Sound.{IsSoundServer}
-use Rattle.ufs_stored.specs.Stored.{ArePartsOf}
-use Rattle.ufs_stored.proofs.Stretches.{explained_joined}
+use Rattle.ufs_promise_laws.specs.AlwaysLaws.{RestIsExplained}
+use Rattle.ufs_promise_laws.specs.Laws.{MovesBlocks}
+use Rattle.ufs_promise_laws.specs.OnDisk.{HasNames, IsExplainedBetween, IsOnDisk}
+use Rattle.ufs_promise_laws.specs.OnDiskLaws.{OnDiskIsExcused}
+use Rattle.ufs_promise_laws.specs.Parts.{Parts}
+use Rattle.ufs_promise_laws.specs.Sound.{IsSoundServer}
+use Rattle.ufs_promise_laws.specs.Stored.{ArePartsOf}
+use Rattle.ufs_promise_laws.proofs.Stretches.{explained_joined}
 use Rattle.ufs_server.specs.Answered.{IsUntold, device_told}
 use Rattle.ufs_server.specs.Served.{CommitEnds, IsServedOn, KeepsPromise, Stays, StaysOnDisk}
 use Rattle.ufs_server.proofs.Away.{forgets_none}

@@ -19,11 +19,11 @@ use Rattle.ufs_model.specs.declared.data.Op.{Op}
 use Rattle.ufs_model.specs.declared.data.Op.TheVariants as op
 use Rattle.ufs_model.specs.declared.data.Reply.{Reply}
 use Rattle.ufs_model.specs.declared.data.Reply.TheVariants as reply
-use Rattle.ufs_prefix.specs.Changes.{asks_commit}
-use Rattle.ufs_prefix.proofs.Facts.Contents.{opened_live}
-use Rattle.ufs_stored.specs.Laws.{leaves_tree}
-use Rattle.ufs_stored.specs.Parts.{Parts}
-use Rattle.ufs_stored.specs.Stored.{ArePartsOf}
+use Rattle.ufs_crash_laws.specs.Changes.{asks_commit}
+use Rattle.ufs_crash_laws.proofs.Facts.Contents.{opened_live}
+use Rattle.ufs_promise_laws.specs.Laws.{leaves_tree}
+use Rattle.ufs_promise_laws.specs.Parts.{Parts}
+use Rattle.ufs_promise_laws.specs.Stored.{ArePartsOf}
 use Rattle.ufs_server.specs.Answered.{IsAnswered, IsSyncReply, is_of_store, reply_to}
 
 -- ---- the two requests

@@ -4,7 +4,7 @@ use Rattle.std.specs.Prelude.{Contains, IsSome, slice_index_or, unwrap_or}
 use Rattle.std.specs.Cmp.{nat_cmp_total}
 use Rattle.std.specs.FinMap as map
 use Rattle.std.specs.FinMap.{nat_cmp-IsAntisymmetric}
-use Rattle.ufs_durable.specs.State.{CommitState, IsNoted, state_of}
+use Rattle.ufs_file_commits.specs.State.{CommitState, IsNoted, state_of}
 use Rattle.ufs_file.specs.Hand.{FileState}
 use Rattle.ufs_files.specs.Files.{AreNumbered}
 use Rattle.ufs_files.proofs.MapLemmas.{one_or_apart}
@@ -15,9 +15,9 @@ use Rattle.ufs_model.specs.declared.data.Ask.{Ask}
 use Rattle.ufs_model.proofs.Facts.Lookups.{from_some, inserted_else, inserted_here, same_some}
 use Rattle.ufs_names.specs.Calls.{IsAsked}
 use Rattle.ufs_names.specs.Needs.{listed}
-use Rattle.ufs_on_disk.specs.Syncs.{TellsTheSame}
-use Rattle.ufs_stored.specs.Parts.{Commits, Parts, committed_as, durable_in}
-use Rattle.ufs_stored.specs.Stored.{ArePartsOf}
+use Rattle.ufs_event_laws.specs.Syncs.{TellsTheSame}
+use Rattle.ufs_promise_laws.specs.Parts.{Commits, Parts, committed_as, durable_in}
+use Rattle.ufs_promise_laws.specs.Stored.{ArePartsOf}
 use Rattle.ufs_server.specs.Server.{commits_in}
 
 -- ---- the file

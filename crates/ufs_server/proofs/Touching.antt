@@ -8,14 +8,14 @@ use Rattle.std.specs.FinSet as set
 use Rattle.ufs_bitmap.specs.Blocks.{BlockSet}
 use Rattle.ufs_bitmap.specs.Taking.{has, set_of}
 use Rattle.ufs_bitmap.proofs.SetLemmas.{has-union}
-use Rattle.ufs_durable.specs.State.{CommitState}
+use Rattle.ufs_file_commits.specs.State.{CommitState}
 use Rattle.ufs_extent.specs.Runs.{blocks_of}
 use Rattle.ufs_extent.specs.declared.Run.{Run}
 use Rattle.ufs_file.specs.Hand.{FileState}
 use Rattle.ufs_files.specs.Files.{Files}
 use Rattle.ufs_model.proofs.Facts.Lookups.{from_some, inserted_else, inserted_here, removed_else, removed_here, same_some, there_or_not}
-use Rattle.ufs_names_stored.specs.Serving.{HasLeft, emptied_commits}
-use Rattle.ufs_stored.specs.Parts.{Commits, Parts}
+use Rattle.ufs_event_laws.specs.Serving.{HasLeft, emptied_commits}
+use Rattle.ufs_promise_laws.specs.Parts.{Commits, Parts}
 use Rattle.ufs_server.specs.Touching.{IsSettled}
 use Rattle.ufs_server.proofs.NamesServed.{on_one, one_on}
 

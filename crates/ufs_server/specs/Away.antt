@@ -6,7 +6,7 @@ use Rattle.ufs_file.specs.Content.{own_bytes}
 use Rattle.ufs_file.specs.Hand.{FileState}
 use Rattle.ufs_model.specs.FileBytes.{bytes_of}
 use Rattle.ufs_model.specs.PosixTree.{PosixTree}
-use Rattle.ufs_stored.specs.Parts.{Parts}
+use Rattle.ufs_promise_laws.specs.Parts.{Parts}
 
 -- A block of a file that is here isn't in memory.
 pub record IsAway (p : Parts) (file place : ℕ) : Type 0 where

@@ -1,7 +1,7 @@
 -- Blocks of files that requests need.
 use Rattle.std.specs.Prelude.{ℕ, ◌≡◌, Bool, List, length, slice_get, true, false, Some, None, IsSome, is_some}
 use Rattle.std.specs.FinMap as map
-use Rattle.ufs_durable.specs.Fetching.{IsReadOn}
+use Rattle.ufs_file_commits.specs.Fetching.{IsReadOn}
 use Rattle.ufs_file.specs.Content.{IsContentOf}
 use Rattle.ufs_file.specs.Hand.{FileState, HasNeeded, IsOf}
 use Rattle.ufs_model.specs.FileCalls.{file_refusal, is_on_file}
@@ -11,8 +11,8 @@ use Rattle.ufs_model.specs.declared.data.Excuse.{Excuse}
 use Rattle.ufs_model.specs.declared.data.Excuse.TheVariants as excuse
 use Rattle.ufs_model.specs.declared.data.Op.{Op}
 use Rattle.ufs_model.specs.declared.data.Op.TheVariants as op
-use Rattle.ufs_on_disk.specs.Syncs.{TellsTheSame}
-use Rattle.ufs_stored.specs.Parts.{Parts}
+use Rattle.ufs_event_laws.specs.Syncs.{TellsTheSame}
+use Rattle.ufs_promise_laws.specs.Parts.{Parts}
 
 -- The request gives or changes bytes of a file: no other needs a block of one.
 abbrev pub needs_bytes : Op → Bool

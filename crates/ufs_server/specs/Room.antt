@@ -13,7 +13,7 @@ use Rattle.ufs_name_tree.specs.Notes.{GoesByNotes}
 use Rattle.ufs_names.specs.Space.{IsCause}
 use Rattle.ufs_pouring.specs.Lent.{listed}
 use Rattle.ufs_store.specs.State.{StoreState, geometry_of_store}
-use Rattle.ufs_stored.specs.Parts.{Parts}
+use Rattle.ufs_promise_laws.specs.Parts.{Parts}
 use Rattle.ufs_server.specs.Answered.{lacks_blocks}
 
 -- ---- the journal

@@ -3,12 +3,12 @@ use Rattle.std.specs.Prelude.{ℕ, IsSome, refl, unwrap_or}
 use Rattle.std.specs.FinMap as map
 use Rattle.std.specs.FinSet as set
 use Rattle.std.specs.Coded.{Coded, code_by, coded×, coded_ℕ, coded_list}
-use Rattle.ufs_durable.specs.contracts.durable.FileCommits as commits
+use Rattle.ufs_file_commits.specs.contracts.durable.FileCommits as commits
 use Rattle.ufs_file.specs.contracts.hand.FileHand as hand
-use Rattle.ufs_durable.specs.State.{CommitState}
+use Rattle.ufs_file_commits.specs.State.{CommitState}
 use Rattle.ufs_file.specs.Hand.{FileState}
 use Rattle.ufs_names.specs.NamesPart.{part_code}
-use Rattle.ufs_stored.specs.Parts.{Commits, Parts, committed_as}
+use Rattle.ufs_promise_laws.specs.Parts.{Commits, Parts, committed_as}
 
 abbrev pub commits_code : Coded Commits
 commits_code = map.code coded_ℕ commits.the_row.coded

@@ -3,7 +3,7 @@ use Rattle.std.specs.Prelude.{ℕ, ◌≡◌, ◌⊎◌, ◌↔◌, [], true, Op
 use Rattle.std.specs.FinMap as map
 use Rattle.std.specs.FinSet as set
 use Rattle.ufs_bitmap.specs.Blocks.{BlockSet}
-use Rattle.ufs_durable.specs.State.{CommitState}
+use Rattle.ufs_file_commits.specs.State.{CommitState}
 use Rattle.ufs_model.specs.Asks.{IsAsk}
 use Rattle.ufs_model.specs.PosixTree.{PosixTree}
 use Rattle.ufs_model.specs.Posix.{posix}
@@ -11,10 +11,10 @@ use Rattle.ufs_model.specs.declared.data.Ask.{Ask}
 use Rattle.ufs_model.specs.declared.data.Desc.{Desc}
 use Rattle.ufs_model.specs.declared.data.Reply.{Reply}
 use Rattle.ufs_names.specs.Calls.{IsTouched}
-use Rattle.ufs_names_stored.specs.Requests.{IsNamesRequest}
-use Rattle.ufs_names_stored.specs.Serving.{HasLeft, HasSettled}
-use Rattle.ufs_stored.specs.Parts.{Commits, Parts}
-use Rattle.ufs_stored.specs.Stored.{ArePartsOf}
+use Rattle.ufs_event_laws.specs.Requests.{IsNamesRequest}
+use Rattle.ufs_event_laws.specs.Serving.{HasLeft, HasSettled}
+use Rattle.ufs_promise_laws.specs.Parts.{Commits, Parts}
+use Rattle.ufs_promise_laws.specs.Stored.{ArePartsOf}
 use Rattle.ufs_server.specs.Answered.{IsAnswered}
 use Rattle.ufs_server.specs.declared.touched.Touched.{Touched}
 

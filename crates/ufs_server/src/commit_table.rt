@@ -4,7 +4,7 @@ use std::alloc::Global;
 use std::collections::BTreeMap;
 use std::marker::Model;
 use ufs_base::Memory;
-use ufs_durable::FileCommits;
+use ufs_file_commits::FileCommits;
 
 /// What is known of the commits of the files that changed since their last one.
 #[derive(Drop)]
@@ -16,7 +16,7 @@ impl Model for CommitTable {
     ghost use Rattle.std.specs.Ordering.{nat_cmp};
     ghost use Rattle.ufs_calls.specs.Seen.{seen};
     ghost use Rattle.ufs_server.specs.Server.{commits_code};
-    ghost use Rattle.ufs_stored.specs.Parts.{Commits};
+    ghost use Rattle.ufs_promise_laws.specs.Parts.{Commits};
 
     ghost Value = { Commits };
 
@@ -30,7 +30,7 @@ impl CommitTable {
     ghost use Rattle.std.specs.Borrow.{LendsSo, sem};
     ghost use Rattle.std.specs.Option.{OnSome, is_some, option_copied, option_copied_mut};
     ghost use Rattle.std.specs.FinMap as map;
-    ghost use Rattle.ufs_durable.specs.contracts.durable.FileCommits as commits;
+    ghost use Rattle.ufs_file_commits.specs.contracts.durable.FileCommits as commits;
     ghost use Rattle.ufs_server.specs.contracts.commit_table.CommitTable.{the_row};
 
     /// Nothing is known.

@@ -30,7 +30,7 @@ impl Model for DiskServer {
     ghost use Rattle.std.specs.Prelude.{◌≡◌};
     ghost use Rattle.std.specs.FinSet as set;
     ghost use Rattle.ufs_server.specs.Server.{parts_code};
-    ghost use Rattle.ufs_stored.specs.Parts.{Parts};
+    ghost use Rattle.ufs_promise_laws.specs.Parts.{Parts};
 
     ghost Value = { Parts };
 

@@ -11,20 +11,20 @@ ghost use Rattle.ufs_model.specs.declared.data.Excuse.TheVariants as excuse;
 ghost use Rattle.ufs_store.specs.Numbers.{HasRaised};
 ghost use Rattle.ufs_store.specs.Refusals.{IsTold, fault_in, fault_of, is_own};
 ghost use Rattle.ufs_store.specs.State.{geometry_of_store};
-ghost use Rattle.ufs_stored.specs.OnDisk.{IsExplainedBetween, IsOnDisk};
-ghost use Rattle.ufs_stored.specs.Sound.{IsSoundServer};
-ghost use Rattle.ufs_stored.specs.Stored.{ArePartsOf};
+ghost use Rattle.ufs_promise_laws.specs.OnDisk.{IsExplainedBetween, IsOnDisk};
+ghost use Rattle.ufs_promise_laws.specs.Sound.{IsSoundServer};
+ghost use Rattle.ufs_promise_laws.specs.Stored.{ArePartsOf};
 ghost use Rattle.ufs_server.specs.Answered.{device_of, device_told};
 ghost use Rattle.ufs_server.specs.Fetched.{HasReadFurther, IsReady, LacksBlocks, is_of_read, needs_bytes};
 ghost use Rattle.ufs_server.specs.Served.{StaysOnDisk};
 
 use crate::disk_server::DiskServer;
 use ufs_base::Lack;
-use ufs_durable::fetch;
+use ufs_event_laws::{fetch_law, file_sync_law};
+use ufs_file_commits::fetch;
 use ufs_model::{Ask, Desc, Excuse, Op, a_file_goes_on_by_itself};
-use ufs_on_disk::{fetch_law, file_sync_law};
+use ufs_promise_laws::always_law;
 use ufs_store::{Door, StoreFault};
-use ufs_stored::always_law;
 
 impl DiskServer {
     /// Whether the blocks that the request needs are in memory. One that is refused needs none.

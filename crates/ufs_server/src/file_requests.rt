@@ -8,24 +8,24 @@ ghost use Rattle.ufs_model.specs.FileCalls.{is_on_file};
 ghost use Rattle.ufs_model.specs.History.{is_excused};
 ghost use Rattle.ufs_model.specs.declared.data.Excuse.TheVariants as excuse;
 ghost use Rattle.ufs_model.specs.declared.data.Reply.TheVariants as reply;
-ghost use Rattle.ufs_on_disk.specs.Requests.{with_free};
-ghost use Rattle.ufs_prefix.specs.Changes.{asks_commit};
+ghost use Rattle.ufs_event_laws.specs.FileRequests.{with_free};
+ghost use Rattle.ufs_crash_laws.specs.Changes.{asks_commit};
 ghost use Rattle.ufs_store.specs.State.{geometry_of_store};
-ghost use Rattle.ufs_stored.specs.Laws.{MovesBlocks};
-ghost use Rattle.ufs_stored.specs.Parts.{FileOwns};
-ghost use Rattle.ufs_stored.specs.Sound.{IsSoundServer};
+ghost use Rattle.ufs_promise_laws.specs.Laws.{MovesBlocks};
+ghost use Rattle.ufs_promise_laws.specs.Parts.{FileOwns};
+ghost use Rattle.ufs_promise_laws.specs.Sound.{IsSoundServer};
 ghost use Rattle.ufs_server.specs.Fetched.{IsReady};
 ghost use Rattle.ufs_server.specs.Room.{IsFree};
 ghost use Rattle.ufs_server.specs.Served.{IsServedOn, KeepsPromise, StaysOnDisk};
 
 use crate::disk_server::DiskServer;
 use ufs_base::Lack;
-use ufs_durable::apply;
+use ufs_event_laws::{file_request_law, told_law};
 use ufs_file::{Applied, out_of_memory};
+use ufs_file_commits::apply;
 use ufs_model::{Actor, Ask};
-use ufs_on_disk::{file_request_law, told_law};
+use ufs_promise_laws::{always_law, on_disk_law};
 use ufs_store::{Door, StoreFault};
-use ufs_stored::{always_law, on_disk_law};
 
 impl DiskServer {
     /// Serves a request on a descriptor of this file that asks for no commit. Where blocks that it needs aren't in memory,

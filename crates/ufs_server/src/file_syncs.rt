@@ -8,29 +8,31 @@ ghost use Rattle.ufs_layout.specs.Areas.{is_inode_number};
 ghost use Rattle.ufs_model.specs.PosixTree.{PosixTree};
 ghost use Rattle.ufs_model.specs.declared.data.Entry.{Entry};
 ghost use Rattle.ufs_model.specs.declared.data.Excuse.TheVariants as excuse;
-ghost use Rattle.ufs_durable.specs.Committing.{FitsInode};
-ghost use Rattle.ufs_durable.specs.Stamping.{MayLeaveSynced};
-ghost use Rattle.ufs_durable.specs.State.{IsNoted, file_committed, state_of};
-ghost use Rattle.ufs_durable.specs.Writes.{AreDataBlocks};
-ghost use Rattle.ufs_on_disk.specs.Syncs.{HasFailed, HasSynced, HasWritten, LeavesStages};
+ghost use Rattle.ufs_file_commits.specs.Committing.{FitsInode};
+ghost use Rattle.ufs_file_commits.specs.Stamping.{MayLeaveSynced};
+ghost use Rattle.ufs_file_commits.specs.State.{IsNoted, file_committed, state_of};
+ghost use Rattle.ufs_file_commits.specs.Writes.{AreDataBlocks};
+ghost use Rattle.ufs_event_laws.specs.Syncs.{HasFailed, HasSynced, HasWritten, LeavesStages};
 ghost use Rattle.ufs_store.specs.Numbers.{HasRaised};
 ghost use Rattle.ufs_store.specs.Blocks.{MayReturn};
 ghost use Rattle.ufs_store.specs.Refusals.{IsTold, stop_after};
 ghost use Rattle.ufs_store.specs.State.{geometry_of_store};
-ghost use Rattle.ufs_stored.specs.OnDisk.{HasFiles, HasNames, IsExplainedBetween, IsOnDisk};
-ghost use Rattle.ufs_stored.specs.Sound.{IsSoundServer};
-ghost use Rattle.ufs_stored.specs.Stamping.{ExplainsNamed};
+ghost use Rattle.ufs_promise_laws.specs.OnDisk.{HasFiles, HasNames, IsExplainedBetween, IsOnDisk};
+ghost use Rattle.ufs_promise_laws.specs.Sound.{IsSoundServer};
+ghost use Rattle.ufs_promise_laws.specs.Stamping.{ExplainsNamed};
 ghost use Rattle.ufs_server.specs.Answered.{device_told, is_of_store};
 ghost use Rattle.ufs_server.specs.Served.{CommitEnds};
 
 use crate::disk_server::DiskServer;
 use crate::syncing::excuse_of;
-use ufs_durable::{FileCommits, fitting_law, fsync};
+use ufs_event_laws::{
+    file_failure_law, file_memory_law, file_moments_law, file_sync_law, told_law,
+};
 use ufs_file::FileHand;
+use ufs_file_commits::{FileCommits, fitting_law, fsync};
 use ufs_model::Excuse;
-use ufs_on_disk::{file_failure_law, file_memory_law, file_moments_law, file_sync_law, told_law};
+use ufs_promise_laws::always_law;
 use ufs_store::Door;
-use ufs_stored::always_law;
 
 impl DiskServer {
     /// Commits a live file whose inode is on the disk, beside the files that were committed before.

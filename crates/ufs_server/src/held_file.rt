@@ -3,14 +3,14 @@ ghost use Rattle.std.specs.Prelude.{ℕ, ◌≡◌, Some, IsSome, IfOk, OnOk, On
 ghost use Rattle.std.specs.FinMap as map;
 ghost use Rattle.ufs_bitmap.specs.Blocks.{BlockSet};
 ghost use Rattle.ufs_file.specs.Hand.{FileState};
-ghost use Rattle.ufs_durable.specs.State.{CommitState, DurableState, state_of};
+ghost use Rattle.ufs_file_commits.specs.State.{CommitState, DurableState, state_of};
 ghost use Rattle.ufs_server.specs.Server.{HasRoomFor, commits_in};
-ghost use Rattle.ufs_stored.specs.Parts.{durable_in, with_file};
+ghost use Rattle.ufs_promise_laws.specs.Parts.{durable_in, with_file};
 
 use crate::disk_server::DiskServer;
 use ufs_base::Memory;
-use ufs_durable::FileCommits;
 use ufs_file::FileHand;
+use ufs_file_commits::FileCommits;
 
 impl DiskServer {
     /// Takes out the hand of a file that is here, of whose commits something is known from now on. Until it is put back another

@@ -17,9 +17,9 @@ ghost use Rattle.ufs_model.specs.declared.data.Reply.TheVariants as reply;
 ghost use Rattle.ufs_names.specs.Calls.{IsOfNames, IsTouched};
 ghost use Rattle.ufs_names.specs.Space.{IsCause};
 ghost use Rattle.ufs_pouring.specs.Lent.{listed};
-ghost use Rattle.ufs_stored.specs.Sound.{IsSoundServer};
-ghost use Rattle.ufs_stored.specs.Stamping.{ExplainsAllowed};
-ghost use Rattle.ufs_stored.specs.Stored.{ArePartsOf};
+ghost use Rattle.ufs_promise_laws.specs.Sound.{IsSoundServer};
+ghost use Rattle.ufs_promise_laws.specs.Stamping.{ExplainsAllowed};
+ghost use Rattle.ufs_promise_laws.specs.Stored.{ArePartsOf};
 ghost use Rattle.ufs_server.specs.Answered.{IsUntold, lacks_blocks};
 ghost use Rattle.ufs_server.specs.Room.{HasRoomBut, IsPoolLent, IsShort, SpendsFree};
 ghost use Rattle.ufs_server.specs.Served.{IsServedOn, KeepsPromise, MayServe, StaysOnDisk};
@@ -29,13 +29,12 @@ ghost use Rattle.ufs_store.specs.Numbers.{HasRaised};
 use crate::disk_server::DiskServer;
 use crate::touched::Touched;
 use ufs_base::Lack;
+use ufs_event_laws::{file_request_law, names_request_law, served_names_law, told_law};
 use ufs_file::{Applied, answered, out_of_memory};
 use ufs_model::{Actor, Ask, Entry, Excuse, Reply};
-use ufs_names_stored::{names_request_law, served_names_law};
-use ufs_on_disk::{file_request_law, told_law};
 use ufs_pouring::{lend, pour};
+use ufs_promise_laws::on_disk_law;
 use ufs_store::Door;
-use ufs_stored::on_disk_law;
 
 impl DiskServer {
     /// Serves a request of the names that asks for no commit, after room was made for its notes.

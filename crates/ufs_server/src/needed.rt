@@ -19,8 +19,8 @@ impl DiskServer {
     ghost use Rattle.ufs_model.specs.PosixTree.{PosixTree};
     ghost use Rattle.ufs_model.specs.declared.data.Op.TheVariants as op;
     ghost use Rattle.ufs_names.specs.Calls.{IsOfNames, IsTouched};
-    ghost use Rattle.ufs_prefix.specs.Changes.{asks_commit};
-    ghost use Rattle.ufs_stored.specs.Stored.{ArePartsOf};
+    ghost use Rattle.ufs_crash_laws.specs.Changes.{asks_commit};
+    ghost use Rattle.ufs_promise_laws.specs.Stored.{ArePartsOf};
 
     /// The one file that a request touches, of those that are there. The file that an `open` makes isn't there yet. One
     /// that its client answers itself touches none, and a `sync` touches all: neither is asked for here. To tell it takes no

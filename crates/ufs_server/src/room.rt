@@ -6,16 +6,16 @@ ghost use Rattle.ufs_names.specs.Calls.{IsOfNames};
 ghost use Rattle.ufs_store.specs.Numbers.{HasRaised};
 ghost use Rattle.ufs_names.specs.Notes.{with_notes};
 ghost use Rattle.ufs_store.specs.State.{geometry_of_store};
-ghost use Rattle.ufs_stored.specs.Sound.{IsSoundServer};
-ghost use Rattle.ufs_stored.specs.Stamping.{ExplainsAllowed};
+ghost use Rattle.ufs_promise_laws.specs.Sound.{IsSoundServer};
+ghost use Rattle.ufs_promise_laws.specs.Stamping.{ExplainsAllowed};
 ghost use Rattle.ufs_server.specs.Room.{HasRoom, tells_lack};
 ghost use Rattle.ufs_server.specs.Served.{Stays, StaysOnDisk};
 ghost use Rattle.ufs_server.specs.Touching.{IsFileTouched};
 
 use crate::disk_server::DiskServer;
 use ufs_model::{Ask, Excuse};
+use ufs_promise_laws::always_law;
 use ufs_store::Door;
-use ufs_stored::always_law;
 
 impl DiskServer {
     /// Commits the names where their notes take half the journal or more: so there is room for them in it whenever a

@@ -5,7 +5,7 @@ use ufs_base::Memory;
 impl DiskServer {
     ghost use Rattle.std.specs.Prelude.{◌≡◌, IfOk, sum_by};
     ghost use Rattle.ufs_model.specs.PosixTree.{PosixTree};
-    ghost use Rattle.ufs_stored.specs.Stored.{ArePartsOf};
+    ghost use Rattle.ufs_promise_laws.specs.Stored.{ArePartsOf};
     ghost use Rattle.ufs_server.specs.Sizes.{size_in, total_size};
 
     /// How large all files are together.

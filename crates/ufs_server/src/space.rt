@@ -5,16 +5,16 @@ ghost use Rattle.ufs_model.specs.History.{is_excused};
 ghost use Rattle.ufs_model.specs.declared.data.Op.TheVariants as op;
 ghost use Rattle.ufs_names.specs.Calls.{IsOfNames};
 ghost use Rattle.ufs_store.specs.State.{geometry_of_store};
-ghost use Rattle.ufs_stored.specs.Sound.{IsSoundServer};
-ghost use Rattle.ufs_stored.specs.Stamping.{ExplainsAllowed};
-ghost use Rattle.ufs_synced.specs.Laws.{HasNothingNoted};
+ghost use Rattle.ufs_promise_laws.specs.Sound.{IsSoundServer};
+ghost use Rattle.ufs_promise_laws.specs.Stamping.{ExplainsAllowed};
+ghost use Rattle.ufs_names_commit.specs.Laws.{HasNothingNoted};
 ghost use Rattle.ufs_server.specs.Answered.{IsUntold};
 ghost use Rattle.ufs_server.specs.Served.{IsServedOn, KeepsPromise, MayServe, Stays, StaysOnDisk};
 ghost use Rattle.ufs_server.specs.Touching.{IsFileTouched};
 ghost use Rattle.ufs_store.specs.Numbers.{HasRaised};
 ghost use Rattle.ufs_server.specs.Numbers.{most_committed, most_raised};
 ghost use Rattle.ufs_model.specs.PosixTree.{PosixTree};
-ghost use Rattle.ufs_stored.specs.Stored.{ArePartsOf};
+ghost use Rattle.ufs_promise_laws.specs.Stored.{ArePartsOf};
 
 use crate::disk_server::DiskServer;
 use crate::name_requests::{again, lacks_block};
@@ -22,10 +22,10 @@ use crate::needed::file_asked;
 use ufs_base::{Lack, Memory};
 use ufs_file::{Applied, out_of_memory};
 use ufs_model::{Actor, Ask};
+use ufs_names_commit::reclaim_law;
 use ufs_pouring::pour;
+use ufs_promise_laws::{always_law, on_disk_law};
 use ufs_store::Door;
-use ufs_stored::{always_law, on_disk_law};
-use ufs_synced::reclaim_law;
 
 impl DiskServer {
     /// Serves a request that asks for no commit. Where blocks are wanting, and directories or removed files dropped

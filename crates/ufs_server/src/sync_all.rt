@@ -7,11 +7,11 @@ ghost use Rattle.ufs_model.specs.declared.data.Excuse.TheVariants as excuse;
 ghost use Rattle.ufs_store.specs.Numbers.{HasRaised};
 ghost use Rattle.ufs_store.specs.Refusals.{IsTold, stop_after};
 ghost use Rattle.ufs_store.specs.State.{geometry_of_store};
-ghost use Rattle.ufs_stored.specs.OnDisk.{HasAll, HasFiles, HasNames, IsExplainedBetween, IsOnDisk};
-ghost use Rattle.ufs_stored.specs.Sound.{IsSoundServer};
-ghost use Rattle.ufs_stored.specs.Stamping.{ExplainsAllowed, ExplainsNamed};
-ghost use Rattle.ufs_stored.specs.Stored.{ArePartsOf};
-ghost use Rattle.ufs_synced.specs.Laws.{HasNothingNoted};
+ghost use Rattle.ufs_promise_laws.specs.OnDisk.{HasAll, HasFiles, HasNames, IsExplainedBetween, IsOnDisk};
+ghost use Rattle.ufs_promise_laws.specs.Sound.{IsSoundServer};
+ghost use Rattle.ufs_promise_laws.specs.Stamping.{ExplainsAllowed, ExplainsNamed};
+ghost use Rattle.ufs_promise_laws.specs.Stored.{ArePartsOf};
+ghost use Rattle.ufs_names_commit.specs.Laws.{HasNothingNoted};
 ghost use Rattle.ufs_server.specs.Answered.{device_told, is_of_store};
 ghost use Rattle.ufs_server.specs.Away.{ForgetsNothing};
 ghost use Rattle.ufs_server.specs.Numbers.{most_committed};
@@ -19,9 +19,9 @@ ghost use Rattle.ufs_server.specs.Served.{CommitEnds};
 
 use crate::disk_server::DiskServer;
 use ufs_model::Excuse;
+use ufs_names_commit::all_law;
+use ufs_promise_laws::always_law;
 use ufs_store::Door;
-use ufs_stored::always_law;
-use ufs_synced::all_law;
 
 impl DiskServer {
     /// Commits the names, and each live file, by rising number: no call of the disk is made for one of which nothing

@@ -7,13 +7,13 @@ ghost use Rattle.ufs_model.specs.Refusals.{own_refusal};
 ghost use Rattle.ufs_model.specs.declared.data.Entry.{Entry};
 ghost use Rattle.ufs_model.specs.declared.data.Excuse.{Excuse};
 ghost use Rattle.ufs_model.specs.declared.data.Reply.TheVariants as reply;
-ghost use Rattle.ufs_prefix.specs.Changes.{asks_commit};
+ghost use Rattle.ufs_crash_laws.specs.Changes.{asks_commit};
 ghost use Rattle.ufs_store.specs.Numbers.{HasRaised};
 ghost use Rattle.ufs_store.specs.State.{geometry_of_store};
-ghost use Rattle.ufs_stored.specs.OnDisk.{IsExplainedBetween, IsOnDisk};
-ghost use Rattle.ufs_stored.specs.Sound.{IsSoundServer};
-ghost use Rattle.ufs_stored.specs.Stamping.{ExplainsAllowed};
-ghost use Rattle.ufs_stored.specs.Stored.{ArePartsOf};
+ghost use Rattle.ufs_promise_laws.specs.OnDisk.{IsExplainedBetween, IsOnDisk};
+ghost use Rattle.ufs_promise_laws.specs.Sound.{IsSoundServer};
+ghost use Rattle.ufs_promise_laws.specs.Stamping.{ExplainsAllowed};
+ghost use Rattle.ufs_promise_laws.specs.Stored.{ArePartsOf};
 ghost use Rattle.ufs_server.specs.Answered.{IsSyncReply, TellsItsOwn, device_in, is_refused, reply_to, stopped_in};
 ghost use Rattle.ufs_server.specs.Away.{ForgetsNothing};
 ghost use Rattle.ufs_server.specs.Served.{IsServedOn, KeepsPromise};
@@ -23,8 +23,8 @@ use crate::disk_server::DiskServer;
 use ufs_calls::own_refusal;
 use ufs_file::{Applied, answered};
 use ufs_model::{Actor, Ask, Excuse, Op, Reply};
+use ufs_promise_laws::{always_law, on_disk_law};
 use ufs_store::Door;
-use ufs_stored::{always_law, on_disk_law};
 
 impl DiskServer {
     /// Serves an `fsync` or a `sync`.

@@ -9,17 +9,17 @@ ghost use Rattle.ufs_store.specs.Numbers.{HasRaised};
 ghost use Rattle.ufs_store.specs.Refusals.{fault_of, is_no_space};
 ghost use Rattle.ufs_store.specs.State.{geometry_of_store};
 ghost use Rattle.ufs_store.specs.declared.fault.StoreFault.TheVariants as refusal;
-ghost use Rattle.ufs_stored.specs.OnDisk.{HasFile, HasFiles, HasNames, IsExplainedBetween, IsOnDisk};
-ghost use Rattle.ufs_stored.specs.Sound.{IsSoundServer};
-ghost use Rattle.ufs_stored.specs.Stamping.{ExplainsAllowed};
+ghost use Rattle.ufs_promise_laws.specs.OnDisk.{HasFile, HasFiles, HasNames, IsExplainedBetween, IsOnDisk};
+ghost use Rattle.ufs_promise_laws.specs.Sound.{IsSoundServer};
+ghost use Rattle.ufs_promise_laws.specs.Stamping.{ExplainsAllowed};
 ghost use Rattle.ufs_server.specs.Answered.{device_of, is_of_store};
 ghost use Rattle.ufs_server.specs.Served.{CommitEnds};
 
 use crate::disk_server::DiskServer;
 use ufs_model::Excuse;
+use ufs_names_commit::commit_notes;
+use ufs_promise_laws::always_law;
 use ufs_store::{Door, StoreFault};
-use ufs_stored::always_law;
-use ufs_synced::commit_notes;
 
 impl DiskServer {
     /// Commits the names, where they changed since their last commit. Directories' fresh blocks are zeros before.

@@ -1,8 +1,8 @@
 // The file that a request of names may empty or drop.
 ghost use Rattle.std.specs.Prelude.{◌≡◌, [], Some, IsSome};
 ghost use Rattle.std.specs.FinMap as map;
-ghost use Rattle.ufs_durable.specs.State.{CommitState};
-ghost use Rattle.ufs_names_stored.specs.Serving.{emptied_commits};
+ghost use Rattle.ufs_file_commits.specs.State.{CommitState};
+ghost use Rattle.ufs_event_laws.specs.Serving.{emptied_commits};
 
 use crate::commit_table::CommitTable;
 use crate::disk_server::DiskServer;
@@ -26,12 +26,12 @@ impl DiskServer {
     ghost use Rattle.std.specs.FinSet as set;
     ghost use Rattle.ufs_bitmap.specs.Blocks.{BlockSet};
     ghost use Rattle.ufs_bitmap.specs.Taking.{set_of};
-    ghost use Rattle.ufs_durable.specs.State.{CommitState};
+    ghost use Rattle.ufs_file_commits.specs.State.{CommitState};
     ghost use Rattle.ufs_file.specs.Hand.{FileState};
     ghost use Rattle.ufs_layout.specs.declared.geometry.Geometry.{Geometry};
-    ghost use Rattle.ufs_names_stored.specs.Serving.{emptied_commits};
-    ghost use Rattle.ufs_on_disk.specs.Syncs.{TellsTheSame};
-    ghost use Rattle.ufs_stored.specs.Sound.{IsSoundServer};
+    ghost use Rattle.ufs_event_laws.specs.Serving.{emptied_commits};
+    ghost use Rattle.ufs_event_laws.specs.Syncs.{TellsTheSame};
+    ghost use Rattle.ufs_promise_laws.specs.Sound.{IsSoundServer};
     ghost use Rattle.ufs_server.specs.Touching.{AreReadied, IsReadied, IsSettled, file_touched};
 
     /// The file that a request touches, if it does one: of its commits something is known from now on.

@@ -1,6 +1,6 @@
 -- A file that was taken apart and is put together again.
 use Rattle.std.proofs.Common.{◌≡◌, [], ◌∷◌, ap, ◌∙◌}
-use Rattle.ufs_durable.specs.State.{DurableState}
+use Rattle.ufs_file_commits.specs.State.{DurableState}
 use Rattle.ufs_joint.specs.Cells.{FileCell, View}
 use Rattle.ufs_held.specs.Held.{HasFileAlone, IsHeld, first_cell}
 

@@ -14,9 +14,9 @@ use Rattle.ufs_model.specs.declared.data.Op.TheVariants as op
 use Rattle.ufs_model.specs.declared.data.Reply.{Reply}
 use Rattle.ufs_msg.specs.Requests.{HasClientAlone, IsAsked}
 use Rattle.ufs_msg.specs.There.{IsByHint, is_by_hint}
-use Rattle.ufs_prefix.specs.Changes.{asks_commit}
-use Rattle.ufs_sound.specs.Owned.{Has}
-use Rattle.ufs_sound.specs.Parts.{ClientPart}
+use Rattle.ufs_crash_laws.specs.Changes.{asks_commit}
+use Rattle.ufs_hand_laws.specs.Owned.{Has}
+use Rattle.ufs_hand_laws.specs.Parts.{ClientPart}
 
 -- ---- the kinds of request that a worker gets
 

@@ -6,8 +6,8 @@ use Rattle.ufs_bitmap.specs.Blocks.{BlockSet}
 use Rattle.ufs_bitmap.specs.Taking.{set_of}
 use Rattle.ufs_bitmap.proofs.SetLemmas.{has-difference, has-empty, has-union, same_blocks}
 use Rattle.ufs_bitmap.proofs.TakingLemmas.{takes_undone}
-use Rattle.ufs_durable.specs.Serving.{TakesOrDrops}
-use Rattle.ufs_durable.specs.State.{DurableState}
+use Rattle.ufs_file_commits.specs.Serving.{TakesOrDrops}
+use Rattle.ufs_file_commits.specs.State.{DurableState}
 use Rattle.ufs_extent.specs.Runs.{blocks_of}
 use Rattle.ufs_joint.specs.Cells.{View}
 use Rattle.ufs_store.specs.declared.fault.StoreFault.{StoreFault}

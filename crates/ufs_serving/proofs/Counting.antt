@@ -7,7 +7,7 @@ use Rattle.std.specs.List.{list_any}
 use Rattle.std.specs.Ordering.{eq_by_cmp, nat_cmp}
 use Rattle.ufs_bitmap.specs.Blocks.{BlockSet}
 use Rattle.ufs_bitmap.proofs.SetLemmas.{empty_from_none, has-difference, has-empty, has-insert, has-remove, has-union, len-insert_new, len-remove_there, same_blocks}
-use Rattle.ufs_sound.proofs.Keys.{itself}
+use Rattle.ufs_hand_laws.proofs.Keys.{itself}
 use Rattle.ufs_store.specs.Blocks.{AreApart, MovesLowest}
 
 -- a set that has so many blocks has one of them

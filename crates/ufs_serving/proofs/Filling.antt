@@ -7,7 +7,7 @@ use Rattle.ufs_joint.specs.Cells.{View}
 use Rattle.ufs_store.specs.declared.fault.StoreFault.{StoreFault}
 use Rattle.ufs_store.specs.declared.fault.StoreFault.TheVariants as refusal
 use Rattle.ufs_turns.specs.Lent.{AreTold, GainsBlocks, IsBesidePools, LacksBlocks, LendsPool, free_in}
-use Rattle.ufs_first_hand.specs.FirstHand.{HasPoolAlone}
+use Rattle.ufs_joint.specs.FirstHand.{HasPoolAlone}
 use Rattle.ufs_serving.specs.Pools.{HasAllFree, IsWithin}
 use Rattle.ufs_serving.proofs.Counting.{all_came, len_gained, stays}
 

@@ -10,7 +10,7 @@ use Rattle.ufs_model.specs.FileCalls.{file_refusal}
 use Rattle.ufs_model.specs.declared.data.Desc.{Desc}
 use Rattle.ufs_model.specs.declared.data.Excuse.TheVariants as excuse
 use Rattle.ufs_model.specs.declared.data.Op.{Op}
-use Rattle.ufs_first_hand.specs.FirstHand.{pool_of}
+use Rattle.ufs_joint.specs.FirstHand.{pool_of}
 
 pub own_content : (c : Content) → IsContentOf c c.bytes
 own_content c = record { long = refl; same = λ _ _. refl }

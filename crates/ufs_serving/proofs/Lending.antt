@@ -6,10 +6,10 @@ use Rattle.ufs_held.proofs.After.{only_none, without_none}
 use Rattle.ufs_joint.specs.Cells.{View, both_of, given_of, kept_of}
 use Rattle.ufs_model.specs.declared.data.PartName.TheVariants.{File, Names}
 use Rattle.ufs_msg.specs.Requests.{HasClientAlone}
-use Rattle.ufs_sound.specs.Owned.{only, without}
-use Rattle.ufs_sound.specs.Parts.{ClientPart, is_file, is_names}
-use Rattle.ufs_sound.proofs.Keys.{itself}
-use Rattle.ufs_first_hand.specs.FirstHand.{HasPoolAlone}
+use Rattle.ufs_hand_laws.specs.Owned.{only, without}
+use Rattle.ufs_hand_laws.specs.Parts.{ClientPart, is_file, is_names}
+use Rattle.ufs_hand_laws.proofs.Keys.{itself}
+use Rattle.ufs_joint.specs.FirstHand.{HasPoolAlone}
 use Rattle.ufs_serving.specs.Pools.{HasNone}
 
 module _ (own client : View) (n : ℕ) (pool : BlockSet) (c : ℕ) (part : ClientPart) (mine : HasPoolAlone n pool own) (came : HasClientAlone c part client) where

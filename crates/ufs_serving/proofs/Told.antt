@@ -14,7 +14,7 @@ use Rattle.ufs_model.proofs.Facts.Lookups.{same_some}
 use Rattle.ufs_msg.specs.Answers.{IsTold}
 use Rattle.ufs_msg.specs.Requests.{HasClientAlone, IsAsked}
 use Rattle.ufs_msg.specs.There.{IsByHint, IsClientThere, IsServerThere}
-use Rattle.ufs_sound.specs.Parts.{ClientPart}
+use Rattle.ufs_hand_laws.specs.Parts.{ClientPart}
 use Rattle.ufs_serving.proofs.Asked.{IsOnFd, on_fd}
 
 module _ (k : Start) (ask : Ask) (before : View) (asked : IsAsked k ask before) (hinted : IsByHint ask) (by : Actor) (here : IsServerThere k by) (entry : Entry) (desc : Option Desc) (some : IsSome desc)

@@ -3,8 +3,8 @@ use Rattle.std.specs.Prelude.{ℕ, suc, ◌+◌, ◌≡◌, ◌≤◌, Bool, tru
 use Rattle.std.specs.FinSet as set
 use Rattle.ufs_bitmap.specs.Blocks.{BlockSet}
 use Rattle.ufs_bitmap.specs.Taking.{set_of}
-use Rattle.ufs_durable.specs.Serving.{IsServedKept}
-use Rattle.ufs_durable.specs.State.{file_committed, whole_of}
+use Rattle.ufs_file_commits.specs.Serving.{IsServedKept}
+use Rattle.ufs_file_commits.specs.State.{file_committed, whole_of}
 use Rattle.ufs_file.specs.Content.{IsContentOf}
 use Rattle.ufs_file.specs.Hand.{FileState, IsEntryOf, missing}
 use Rattle.ufs_model.specs.FileCalls.{file_refusal, file_step}
@@ -16,7 +16,7 @@ use Rattle.ufs_model.specs.declared.data.Entry.{Entry}
 use Rattle.ufs_model.specs.declared.data.Excuse.{Excuse}
 use Rattle.ufs_model.specs.declared.data.Excuse.TheVariants as excuse
 use Rattle.ufs_model.specs.declared.data.Reply.TheVariants as reply
-use Rattle.ufs_prefix.specs.Changes.{asks_commit}
+use Rattle.ufs_crash_laws.specs.Changes.{asks_commit}
 use Rattle.ufs_joint.specs.Cells.{FileCell, View}
 use Rattle.ufs_turns.specs.Lent.{AreTold}
 use Rattle.ufs_held.specs.Asking.{IsSyncReply}

@@ -4,7 +4,7 @@ ghost use Rattle.ufs_held.specs.Asking.{Asks};
 ghost use Rattle.ufs_model.specs.Asks.{file_in};
 ghost use Rattle.ufs_msg.specs.Requests.{HasClientAlone, IsAsked};
 ghost use Rattle.ufs_msg.specs.There.{IsByHint};
-ghost use Rattle.ufs_sound.specs.Parts.{ClientPart};
+ghost use Rattle.ufs_hand_laws.specs.Parts.{ClientPart};
 
 use ufs_joint::{Hand, HandTable, Naming};
 use ufs_model::Ask;

@@ -5,9 +5,9 @@ ghost use Rattle.ufs_file.specs.Hand.{IsEntryOf, IsOf};
 ghost use Rattle.ufs_held.specs.Asking.{Asks, IsAnswered};
 ghost use Rattle.ufs_model.specs.Bounds.{IsBounded};
 ghost use Rattle.ufs_msg.specs.Requests.{HasClientAlone};
-ghost use Rattle.ufs_prefix.specs.Changes.{asks_commit};
-ghost use Rattle.ufs_sound.specs.Parts.{ClientPart};
-ghost use Rattle.ufs_first_hand.specs.FirstHand.{HasPoolAlone};
+ghost use Rattle.ufs_crash_laws.specs.Changes.{asks_commit};
+ghost use Rattle.ufs_hand_laws.specs.Parts.{ClientPart};
+ghost use Rattle.ufs_joint.specs.FirstHand.{HasPoolAlone};
 ghost use Rattle.ufs_serving.specs.Pools.{most_at_rest};
 ghost use Rattle.ufs_serving.specs.Serving.{IsServedAt};
 

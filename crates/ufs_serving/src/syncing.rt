@@ -4,9 +4,9 @@ ghost use Rattle.ufs_file.specs.Hand.{IsEntryOf, IsOf};
 ghost use Rattle.ufs_held.specs.Asking.{Asks, IsAnswered};
 ghost use Rattle.ufs_model.specs.declared.data.Op.TheVariants as op;
 ghost use Rattle.ufs_msg.specs.Requests.{HasClientAlone};
-ghost use Rattle.ufs_sound.specs.Parts.{ClientPart};
+ghost use Rattle.ufs_hand_laws.specs.Parts.{ClientPart};
 ghost use Rattle.ufs_serving.specs.Serving.{IsSyncedAt};
-ghost use Rattle.ufs_first_hand.specs.FirstHand.{HasPoolAlone};
+ghost use Rattle.ufs_joint.specs.FirstHand.{HasPoolAlone};
 
 use crate::pool::{lend_pool, take_pool};
 use ufs_bitmap::Pool;

@@ -23,8 +23,8 @@ use Rattle.ufs_client.proofs.RangeLemmas.{ranged_after}
 use Rattle.ufs_client.proofs.OwnLemmas.{served-push}
 use Rattle.ufs_client.proofs.Replies.{by_reply, excused_named, the_excuse}
 use Rattle.ufs_server.specs.Answered.{IsAnswered}
-use Rattle.ufs_stored.specs.Parts.{Parts}
-use Rattle.ufs_stored.specs.Stored.{ArePartsOf}
+use Rattle.ufs_promise_laws.specs.Parts.{Parts}
+use Rattle.ufs_promise_laws.specs.Stored.{ArePartsOf}
 use Rattle.ufs_server.specs.Away.{AwayStays}
 use Rattle.ufs_session.specs.Asking.{HasAnswered, HasTable, IsAsking}
 use Rattle.ufs_session.specs.Drawing.{IsServedIn}

@@ -6,7 +6,7 @@ use Rattle.ufs_model.specs.declared.data.Op.{Op}
 use Rattle.ufs_model.specs.declared.data.Op.TheVariants as op
 use Rattle.ufs_model.specs.declared.data.Reply.{Reply}
 use Rattle.ufs_model.specs.declared.data.Reply.TheVariants as reply
-use Rattle.ufs_prefix.specs.Changes.{asks_commit}
+use Rattle.ufs_crash_laws.specs.Changes.{asks_commit}
 use Rattle.ufs_server.specs.Answered.{TellsFaults, device_in, device_of, is_refused, may_turn, stopped_in, stopped_of}
 use Rattle.ufs_server.specs.Fetched.{is_of_read, needs_bytes}
 use Rattle.ufs_session.specs.Told.{IsCaused}

@@ -12,11 +12,11 @@ use Rattle.ufs_model.specs.declared.data.Op.{Op}
 use Rattle.ufs_client.specs.declared.played.EndFault.{EndFault}
 use Rattle.ufs_client.specs.Played.{transcript, IsMerged}
 use Rattle.ufs_client.proofs.Lists.{get_before, get_here, get_past, joined-push, not_ok, rising_from}
-use Rattle.ufs_sound.specs.Parts.{Start}
+use Rattle.ufs_hand_laws.specs.Parts.{Start}
 use Rattle.ufs_store.specs.State.{StoreState, geometry_of_store}
-use Rattle.ufs_stored.specs.OnDisk.{IsExplainedBetween, IsOnDisk}
-use Rattle.ufs_stored.specs.Parts.{Parts}
-use Rattle.ufs_stored.specs.Sound.{IsSoundServer}
+use Rattle.ufs_promise_laws.specs.OnDisk.{IsExplainedBetween, IsOnDisk}
+use Rattle.ufs_promise_laws.specs.Parts.{Parts}
+use Rattle.ufs_promise_laws.specs.Sound.{IsSoundServer}
 use Rattle.ufs_session.specs.Drawing.{SeesDisk}
 use Rattle.ufs_session.specs.Picked.{MayHaveBegun}
 use Rattle.ufs_session.specs.Played.{BeginsAs, IsPlayedFrom, MayBegin}

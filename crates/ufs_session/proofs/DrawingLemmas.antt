@@ -12,13 +12,13 @@ use Rattle.ufs_model.specs.declared.data.Reply.{Reply}
 use Rattle.ufs_model.specs.declared.data.Reply.TheVariants as reply
 use Rattle.ufs_one_hand.specs.Drawn.{HasCauses, IsAcknowledged, IsAnswer, faults_met}
 use Rattle.ufs_one_hand.specs.OneHand.{HasSession, IsCoveredIn, KnowsSynced, state_in}
-use Rattle.ufs_prefix.specs.Changes.{asks_commit}
-use Rattle.ufs_prefix.specs.Steps.{is_ok}
-use Rattle.ufs_sound.specs.Covers.{step_in}
-use Rattle.ufs_sound.specs.Parts.{Cells, OwnFds, Start, View}
-use Rattle.ufs_sound.specs.Shown.{ExplainsImages}
-use Rattle.ufs_sound.specs.Visible.{IsDiskVisible}
-use Rattle.ufs_sound.specs.declared.fresh.Fresh.{Fresh}
+use Rattle.ufs_crash_laws.specs.Changes.{asks_commit}
+use Rattle.ufs_crash_laws.specs.Steps.{is_ok}
+use Rattle.ufs_hand_laws.specs.Covers.{step_in}
+use Rattle.ufs_hand_laws.specs.Parts.{Cells, OwnFds, Start, View}
+use Rattle.ufs_hand_laws.specs.Shown.{ExplainsImages}
+use Rattle.ufs_hand_laws.specs.Visible.{IsDiskVisible}
+use Rattle.ufs_hand_laws.specs.declared.fresh.Fresh.{Fresh}
 use Rattle.ufs_session.specs.Drawing.{HasFilesOf, IsServedIn, acknowledges}
 
 both : (a b : Bool) → (a && b) ≡ true → (a ≡ true) × (b ≡ true)

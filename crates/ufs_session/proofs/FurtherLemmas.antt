@@ -4,9 +4,9 @@ use Rattle.std.specs.Prelude.{slice_get, unwrap_or}
 use Rattle.std.specs.FinMap as map
 use Rattle.std.specs.Option.{option_map}
 use Rattle.std.proofs.lemmas.Option.{slice_get-get_or, slice_get_within}
-use Rattle.ufs_alike.specs.Alike.{AreAlike}
-use Rattle.ufs_alike.proofs.SizeLemmas.{both_some}
-use Rattle.ufs_alike.proofs.TreeLemmas.{by_files, either_way, itself, trees, with_sizes}
+use Rattle.ufs_bytes_laws.specs.Alike.{AreAlike}
+use Rattle.ufs_bytes_laws.proofs.SizeLemmas.{both_some}
+use Rattle.ufs_bytes_laws.proofs.TreeLemmas.{by_files, either_way, itself, trees, with_sizes}
 use Rattle.ufs_file.specs.Hand.{FileState, IsFileOf, IsOf}
 use Rattle.ufs_file.proofs.UnreadLemmas.{content_itself}
 use Rattle.ufs_model.specs.FileBytes.{bytes_of}
@@ -15,15 +15,15 @@ use Rattle.ufs_model.specs.declared.data.Ask.{Ask}
 use Rattle.ufs_model.specs.declared.data.Desc.{Desc}
 use Rattle.ufs_model.proofs.Facts.Lookups.{same_some}
 use Rattle.ufs_names.specs.NamesPart.{IsNamesPart, NamesPart}
-use Rattle.ufs_stored.specs.Parts.{Parts}
-use Rattle.ufs_stored.specs.Stored.{ArePartsOf}
-use Rattle.ufs_stored.proofs.Whole.{tree_has, tree_may}
+use Rattle.ufs_promise_laws.specs.Parts.{Parts}
+use Rattle.ufs_promise_laws.specs.Stored.{ArePartsOf}
+use Rattle.ufs_promise_laws.proofs.Whole.{tree_has, tree_may}
 use Rattle.ufs_file.specs.Content.{own_bytes}
 use Rattle.ufs_server.specs.Away.{IsAway}
 use Rattle.ufs_server.specs.Fetched.{HasReadFurther, IsReadFurther}
-use Rattle.ufs_alike.proofs.BlockTreeLemmas.{blocks_alike, blocks_else, blocks_marked, same_number, with_blocks}
-use Rattle.ufs_alike.proofs.BlockLemmas.{content_of_own, own_of_content}
-use Rattle.ufs_alike.proofs.MergedLemmas.{AreAsMany, many_as_long, newly, newly_from, newly_to}
+use Rattle.ufs_bytes_laws.proofs.BlockTreeLemmas.{blocks_alike, blocks_else, blocks_marked, same_number, with_blocks}
+use Rattle.ufs_bytes_laws.proofs.BlockLemmas.{content_of_own, own_of_content}
+use Rattle.ufs_bytes_laws.proofs.MergedLemmas.{AreAsMany, many_as_long, newly, newly_from, newly_to}
 
 -- no block is in memory and isn't
 pub not_both : (o : Option Bool) → o ≡ Some true → o ≡ Some false → ⊥

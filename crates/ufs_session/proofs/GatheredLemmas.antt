@@ -1,9 +1,9 @@
 -- The hands of a session come together, and go apart.
 use Rattle.std.proofs.Common.{◌≡◌, ◌⊎◌, inl, inr, ℕ, List, [], None, Option, is_some, ap, sym, ◌∙◌, subst}
 use Rattle.std.specs.FinMap as fin
-use Rattle.ufs_alike.specs.Alike.{AreAlike}
-use Rattle.ufs_alike.proofs.PartLemmas.{touched}
-use Rattle.ufs_alike.proofs.SizeLemmas.{both_some}
+use Rattle.ufs_bytes_laws.specs.Alike.{AreAlike}
+use Rattle.ufs_bytes_laws.proofs.PartLemmas.{touched}
+use Rattle.ufs_bytes_laws.proofs.SizeLemmas.{both_some}
 use Rattle.ufs_apart.specs.Apart.{ApartState, AreApart, IsBeside, IsSplit, given_all, joined, kept_all, part_names}
 use Rattle.ufs_apart.proofs.Whole.{are_apart, has_each, has_session}
 use Rattle.ufs_model.specs.PosixTree.{PosixTree}
@@ -13,7 +13,7 @@ use Rattle.ufs_model.specs.declared.data.Op.{Op}
 use Rattle.ufs_model.specs.declared.data.PartName.{PartName}
 use Rattle.ufs_model.specs.declared.data.PartName.TheVariants as part
 use Rattle.ufs_one_hand.specs.Apart.{FileViews, HasEachFile}
-use Rattle.ufs_sound.specs.Parts.{Start, View}
+use Rattle.ufs_hand_laws.specs.Parts.{Start, View}
 use Rattle.ufs_session.specs.Drawing.{HasFilesOf}
 use Rattle.ufs_session.specs.Gathered.{AreParted, HasGathered, IsGathered, IsTogether}
 use Rattle.ufs_session.specs.declared.parting.Gathered.{Gathered}

@@ -1,13 +1,13 @@
 -- What was told, as the session's hand has it.
 use Rattle.std.proofs.Common.{◌≡◌, ◌⊎◌, inl, inr, ◌++◌, ◌∷◌, [], ℕ, List, length, ap, sym, refl, ◌∙◌, subst}
 use Rattle.std.specs.FinMap as map
-use Rattle.ufs_alike.specs.Alike.{AreAlike}
-use Rattle.ufs_alike.specs.Laws.{GiveAsMany}
-use Rattle.ufs_alike.proofs.EntryLemmas.{blanked_same, goes_on_alike, replied}
-use Rattle.ufs_alike.proofs.HistoryLemmas.{ends_alike}
-use Rattle.ufs_alike.proofs.ReplyLemmas.{replies}
-use Rattle.ufs_alike.proofs.TreeLemmas.{itself}
-use Rattle.ufs_alike.proofs.RetellingLemmas.{count, in_turn, long, own_entry, own_history}
+use Rattle.ufs_bytes_laws.specs.Alike.{AreAlike}
+use Rattle.ufs_bytes_laws.specs.Laws.{GiveAsMany}
+use Rattle.ufs_bytes_laws.proofs.EntryLemmas.{blanked_same, goes_on_alike, replied}
+use Rattle.ufs_bytes_laws.proofs.HistoryLemmas.{ends_alike}
+use Rattle.ufs_bytes_laws.proofs.ReplyLemmas.{replies}
+use Rattle.ufs_bytes_laws.proofs.TreeLemmas.{itself}
+use Rattle.ufs_bytes_laws.proofs.RetellingLemmas.{count, in_turn, long, own_entry, own_history}
 use Rattle.ufs_fds.specs.Descriptors.{AreOf, Descs}
 use Rattle.ufs_model.specs.Asks.{fd_told}
 use Rattle.ufs_model.specs.History.{IsLegalFrom, IsReplyTo, entries_of, tree_after}
@@ -18,9 +18,9 @@ use Rattle.ufs_model.specs.declared.data.Op.TheVariants as op
 use Rattle.ufs_model.specs.declared.data.Reply.{Reply}
 use Rattle.ufs_model.specs.declared.data.Reply.TheVariants as reply
 use Rattle.ufs_one_hand.specs.Drawn.{AreBothRead, HasCauses, IsReplyAlike}
-use Rattle.ufs_sound.specs.Parts.{Start, View}
-use Rattle.ufs_sound.specs.Visible.{IsDiskVisible}
-use Rattle.ufs_stored.specs.Parts.{Parts}
+use Rattle.ufs_hand_laws.specs.Parts.{Start, View}
+use Rattle.ufs_hand_laws.specs.Visible.{IsDiskVisible}
+use Rattle.ufs_promise_laws.specs.Parts.{Parts}
 use Rattle.ufs_session.specs.Drawing.{IsServedIn, entry_had, had_as, tree_had}
 use Rattle.ufs_session.specs.Played.{BeginsAs, IsLikeStart, MayBegin}
 

@@ -23,14 +23,14 @@ use Rattle.ufs_model.proofs.Facts.Allowed.{passed, some_there}
 use Rattle.ufs_model.proofs.Facts.Histories.{tree_after-push}
 use Rattle.ufs_names.proofs.FileRequestLemmas.{keeps_names}
 use Rattle.ufs_names.specs.NamesPart.{IsNamesPart}
-use Rattle.ufs_prefix.specs.Changes.{asks_commit}
-use Rattle.ufs_prefix.specs.Steps.{is_ok}
+use Rattle.ufs_crash_laws.specs.Changes.{asks_commit}
+use Rattle.ufs_crash_laws.specs.Steps.{is_ok}
 use Rattle.ufs_server.specs.Answered.{IsAnswered, is_refused, stopped_in}
 use Rattle.ufs_store.specs.State.{StoreState}
-use Rattle.ufs_stored.specs.OnDisk.{IsOnDisk}
-use Rattle.ufs_stored.specs.Parts.{Parts}
-use Rattle.ufs_stored.specs.Stored.{ArePartsOf}
-use Rattle.ufs_stored.proofs.Whole.{file_stays}
+use Rattle.ufs_promise_laws.specs.OnDisk.{IsOnDisk}
+use Rattle.ufs_promise_laws.specs.Parts.{Parts}
+use Rattle.ufs_promise_laws.specs.Stored.{ArePartsOf}
+use Rattle.ufs_promise_laws.proofs.Whole.{file_stays}
 
 pub no_stop : (r : Reply) → is_excused r ≡ false → stopped_in r ≡ None
 no_stop (reply.Excused x) e = cc

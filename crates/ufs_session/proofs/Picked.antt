@@ -2,29 +2,29 @@
 use Rattle.std.proofs.Common.{◌≡◌, ◌⊎◌, inl, inr, ⊎_elim, ℕ, zero, suc, ◌+◌, Bool, true, false, Some, List, [], ◌∷◌, ◌++◌, length, ap, sym, refl, ◌∙◌, subst, arith}
 use Rattle.std.specs.Prelude.{slice_get}
 use Rattle.std.specs.FinMap as map
-use Rattle.ufs_alike.specs.Alike.{AreAlike}
-use Rattle.ufs_alike.proofs.TreeLemmas.{either_way, through}
+use Rattle.ufs_bytes_laws.specs.Alike.{AreAlike}
+use Rattle.ufs_bytes_laws.proofs.TreeLemmas.{either_way, through}
 use Rattle.ufs_file.specs.Hand.{FileState}
 use Rattle.ufs_model.specs.FileBytes.{bytes_of}
 use Rattle.ufs_model.specs.History.{tree_after}
 use Rattle.ufs_model.specs.PosixTree.{PosixTree}
 use Rattle.ufs_model.specs.declared.data.Ask.{Ask}
 use Rattle.ufs_model.specs.declared.data.Entry.{Entry}
-use Rattle.ufs_sound.specs.Owned.{Has}
-use Rattle.ufs_sound.specs.Parts.{Start}
-use Rattle.ufs_sound.specs.Visible.{IsDiskVisible}
-use Rattle.ufs_sound.proofs.Owning.{append_has, has_append}
-use Rattle.ufs_stored.specs.Parts.{Parts}
-use Rattle.ufs_stored.specs.Stored.{ArePartsOf}
+use Rattle.ufs_hand_laws.specs.Owned.{Has}
+use Rattle.ufs_hand_laws.specs.Parts.{Start}
+use Rattle.ufs_hand_laws.specs.Visible.{IsDiskVisible}
+use Rattle.ufs_hand_laws.proofs.Owning.{append_has, has_append}
+use Rattle.ufs_promise_laws.specs.Parts.{Parts}
+use Rattle.ufs_promise_laws.specs.Stored.{ArePartsOf}
 use Rattle.ufs_file.specs.Content.{own_bytes}
 use Rattle.ufs_server.specs.Away.{AwayStays, ForgetsNothing, IsAway}
 use Rattle.ufs_server.specs.Fetched.{HasReadFurther}
 use Rattle.ufs_session.specs.Picked.{HasPicked, HasReadOf, IsUnpicked, MayHaveBegun, Pick}
 use Rattle.ufs_session.specs.Played.{BeginsAs, IsLikeStart, MayBegin}
 use Rattle.ufs_session.specs.Serving.{IsReached}
-use Rattle.ufs_alike.proofs.BlockTreeLemmas.{blocks_alike, blocks_else, blocks_marked, blocks_same, with_blocks}
+use Rattle.ufs_bytes_laws.proofs.BlockTreeLemmas.{blocks_alike, blocks_else, blocks_marked, blocks_same, with_blocks}
 use Rattle.ufs_session.proofs.FurtherLemmas.{IsNoneRead, IsOneRead, IsReadOf, as_long, away_before, away_in, came_away, came_own, came_there, none_away, none_parts, not_both, one_or_none, parts_away, parts_read}
-use Rattle.ufs_alike.proofs.MergedLemmas.{AreAsMany, many_as_long, newly}
+use Rattle.ufs_bytes_laws.proofs.MergedLemmas.{AreAsMany, many_as_long, newly}
 
 -- ---- the picks of marked blocks
 

@@ -7,12 +7,12 @@ use Rattle.ufs_model.specs.PosixTree.{PosixTree}
 use Rattle.ufs_model.specs.declared.data.Ask.{Ask}
 use Rattle.ufs_model.specs.declared.data.Desc.{Desc}
 use Rattle.ufs_model.specs.declared.data.Entry.{Entry}
-use Rattle.ufs_sound.specs.Parts.{Start}
-use Rattle.ufs_sound.specs.Visible.{IsDiskVisible}
+use Rattle.ufs_hand_laws.specs.Parts.{Start}
+use Rattle.ufs_hand_laws.specs.Visible.{IsDiskVisible}
 use Rattle.ufs_store.specs.State.{StoreState}
-use Rattle.ufs_stored.specs.OnDisk.{IsExplainedBetween, IsOnDisk}
-use Rattle.ufs_stored.specs.Parts.{Parts}
-use Rattle.ufs_stored.specs.Stored.{ArePartsOf}
+use Rattle.ufs_promise_laws.specs.OnDisk.{IsExplainedBetween, IsOnDisk}
+use Rattle.ufs_promise_laws.specs.Parts.{Parts}
+use Rattle.ufs_promise_laws.specs.Stored.{ArePartsOf}
 use Rattle.ufs_server.specs.Away.{AwayStays}
 use Rattle.ufs_session.specs.Drawing.{SeesDisk}
 use Rattle.ufs_session.specs.Picked.{HasPicked, HasReadOf, MayHaveBegun, Pick}

@@ -8,10 +8,10 @@ use Rattle.ufs_model.specs.declared.data.Op.{Op}
 use Rattle.ufs_model.specs.declared.data.Reply.{Reply}
 use Rattle.ufs_one_hand.specs.Apart.{FileViews, HasEachFile}
 use Rattle.ufs_one_hand.specs.OneHand.{HasSession, IsCoveredIn, IsStampedIn, faults_in, passed_in, stamp_in, state_in}
-use Rattle.ufs_sound.specs.Owned.{times}
-use Rattle.ufs_sound.specs.Parts.{Cells, Start, View}
-use Rattle.ufs_sound.specs.Shown.{ExplainsImages}
-use Rattle.ufs_sound.specs.Visible.{IsDiskVisible}
+use Rattle.ufs_hand_laws.specs.Owned.{times}
+use Rattle.ufs_hand_laws.specs.Parts.{Cells, Start, View}
+use Rattle.ufs_hand_laws.specs.Shown.{ExplainsImages}
+use Rattle.ufs_hand_laws.specs.Visible.{IsDiskVisible}
 use Rattle.ufs_stamped.specs.Stamped.{HasCounted, HasStamped, IsStamping, before_of, disk_state}
 use Rattle.ufs_store.specs.State.{StoreState}
 use Rattle.ufs_session.specs.Drawing.{KnowsFaults}

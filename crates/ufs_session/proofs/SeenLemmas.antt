@@ -10,13 +10,13 @@ use Rattle.ufs_model.specs.PosixTree.{PosixTree}
 use Rattle.ufs_model.specs.Start.{PathNodes}
 use Rattle.ufs_model.specs.declared.data.Entry.{Entry}
 use Rattle.ufs_model.specs.declared.data.PathNode.{PathNode}
-use Rattle.ufs_prefix.specs.Explained.{IsExplained}
-use Rattle.ufs_prefix.specs.Mapped.{mapped}
-use Rattle.ufs_sound.specs.Shown.{ExplainsImages, node_of, nodes_of}
+use Rattle.ufs_crash_laws.specs.Explained.{IsExplained}
+use Rattle.ufs_crash_laws.specs.Mapped.{mapped}
+use Rattle.ufs_hand_laws.specs.Shown.{ExplainsImages, node_of, nodes_of}
 use Rattle.ufs_store_steps.specs.Cells.{cells_of}
 use Rattle.ufs_store_steps.proofs.Cells.{cells_are_there, whole, whole_left, whole_same}
 use Rattle.ufs_store_steps.proofs.Within.{opens_within}
-use Rattle.ufs_stored.specs.OnDisk.{IsExplainedImage}
+use Rattle.ufs_promise_laws.specs.OnDisk.{IsExplainedImage}
 
 same_node : (node : NodeBytes) → path_node_of node ≡ node_of node
 same_node None = refl

@@ -16,12 +16,12 @@ use Rattle.ufs_fds.specs.Descriptors.{Descs, AreOf}
 use Rattle.ufs_file.specs.Hand.{IsEntryOf}
 use Rattle.ufs_client.specs.Clients.{AreRanged}
 use Rattle.ufs_client.proofs.Lists.{get_here}
-use Rattle.ufs_stored.specs.Parts.{Parts}
+use Rattle.ufs_promise_laws.specs.Parts.{Parts}
 use Rattle.ufs_session.specs.Asking.{HasAnswered, IsAsking}
 use Rattle.ufs_session.specs.Picked.{MayHaveBegun, Pick}
 use Rattle.ufs_session.specs.Reading.{HasReadOn}
 use Rattle.ufs_session.specs.Serving.{IsReached, IsReady, GoesOn, IsDone}
-use Rattle.ufs_sound.specs.Parts.{Start}
+use Rattle.ufs_hand_laws.specs.Parts.{Start}
 use Rattle.ufs_store.specs.State.{StoreState}
 
 -- ---- one entry more

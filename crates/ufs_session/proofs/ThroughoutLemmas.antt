@@ -5,7 +5,7 @@ use Rattle.ufs_disk.proofs.Runs.{joined}
 use Rattle.ufs_disk.specs.Moments.{Moments}
 use Rattle.ufs_model.specs.PosixTree.{PosixTree}
 use Rattle.ufs_model.specs.declared.data.Entry.{Entry}
-use Rattle.ufs_stored.specs.OnDisk.{IsExplainedBetween, IsExplainedImage}
+use Rattle.ufs_promise_laws.specs.OnDisk.{IsExplainedBetween, IsExplainedImage}
 use Rattle.ufs_session.specs.Throughout.{IsExplainedThroughout}
 
 module _ (keeps : Bool) (sectors : ℕ) (start : PosixTree) where

@@ -13,11 +13,11 @@ use Rattle.ufs_model.specs.declared.data.Entry.{Entry}
 use Rattle.ufs_model.specs.declared.data.Excuse.TheVariants as excuse
 use Rattle.ufs_model.specs.declared.data.Reply.{Reply}
 use Rattle.ufs_model.specs.declared.data.Reply.TheVariants as reply
-use Rattle.ufs_prefix.specs.Changes.{asks_commit}
+use Rattle.ufs_crash_laws.specs.Changes.{asks_commit}
 use Rattle.ufs_server.specs.Answered.{TellsFaults, device_in, is_refused, may_turn, stopped_in}
 use Rattle.ufs_server.proofs.Beside.{stop_stays}
-use Rattle.ufs_sound.proofs.Owning.{has_append}
-use Rattle.ufs_sound.specs.Owned.{Has}
+use Rattle.ufs_hand_laws.proofs.Owning.{has_append}
+use Rattle.ufs_hand_laws.specs.Owned.{Has}
 use Rattle.ufs_store.specs.Refusals.{IsTold, stop_after}
 use Rattle.ufs_store.specs.Numbers.{HasRaised}
 use Rattle.ufs_store.specs.State.{StoreState, geometry_of_store}

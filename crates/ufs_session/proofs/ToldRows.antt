@@ -9,7 +9,7 @@ use Rattle.ufs_model.specs.declared.data.Op.TheVariants as op
 use Rattle.ufs_model.specs.declared.data.Reply.{Reply}
 use Rattle.ufs_model.specs.declared.data.Reply.TheVariants as reply
 use Rattle.ufs_session.specs.Told.{AreFaultsCaused, AreToldStop, TellsStop, reads_in}
-use Rattle.ufs_sound.specs.Owned.{Has}
+use Rattle.ufs_hand_laws.specs.Owned.{Has}
 
 abbrev pub row : Op → Reply → Entry
 row request answer = record { ticket = 0; client = 0; seq = 0; by = actor.Primary; op = request; reply = answer }

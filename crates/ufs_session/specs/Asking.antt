@@ -13,9 +13,9 @@ use Rattle.ufs_model.specs.declared.data.Entry.{Entry}
 use Rattle.ufs_session.specs.Picked.{HasReadOf, MayHaveBegun, Pick}
 use Rattle.ufs_session.specs.Reading.{HasReadOn}
 use Rattle.ufs_session.specs.Serving.{IsReached}
-use Rattle.ufs_sound.specs.Parts.{Start}
+use Rattle.ufs_hand_laws.specs.Parts.{Start}
 use Rattle.ufs_store.specs.State.{StoreState}
-use Rattle.ufs_stored.specs.Parts.{Parts}
+use Rattle.ufs_promise_laws.specs.Parts.{Parts}
 
 -- The client has these descriptors in the tree.
 pub record HasTable (t : PosixTree) (client : ℕ) (table : Descs) : Type 0 where

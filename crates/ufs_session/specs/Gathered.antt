@@ -1,7 +1,7 @@
 -- The hands of a session come together, and go apart.
 use Rattle.std.specs.Prelude.{ℕ, ◌≡◌, ◌≢◌, ⊤, List, [], Option, None, Some, Result, Ok, Err, IfOk, true, is_some}
 use Rattle.std.specs.FinMap as fin
-use Rattle.ufs_alike.specs.Alike.{AreAlike}
+use Rattle.ufs_bytes_laws.specs.Alike.{AreAlike}
 use Rattle.ufs_apart.specs.Apart.{ApartState, AreApart, given_all, kept_all, part_names}
 use Rattle.ufs_base.specs.declared.memory.Memory.{Memory}
 use Rattle.ufs_model.specs.History.{tree_after}
@@ -17,9 +17,9 @@ use Rattle.ufs_one_hand.specs.OneHand.{HasSession}
 use Rattle.ufs_server.specs.Touching.{IsFileTouched}
 use Rattle.ufs_session.specs.declared.parting.Gathered.{Gathered}
 use Rattle.ufs_session.specs.declared.parting.Gathered.TheVariants as files
-use Rattle.ufs_sound.specs.Parts.{Start, View}
-use Rattle.ufs_stored.specs.Parts.{Parts}
-use Rattle.ufs_stored.specs.Stored.{ArePartsOf}
+use Rattle.ufs_hand_laws.specs.Parts.{Start, View}
+use Rattle.ufs_promise_laws.specs.Parts.{Parts}
+use Rattle.ufs_promise_laws.specs.Stored.{ArePartsOf}
 
 -- The hand of this file comes together with the session's.
 abbrev pub IsGathered : Gathered → ℕ → Type 0

@@ -9,9 +9,9 @@ use Rattle.ufs_file.specs.Content.{own_bytes}
 use Rattle.ufs_server.specs.Away.{AwayStays, IsAway}
 use Rattle.ufs_session.specs.Played.{IsLikeStart, MayBegin}
 use Rattle.ufs_session.specs.Serving.{IsReached}
-use Rattle.ufs_sound.specs.Owned.{Has}
-use Rattle.ufs_sound.specs.Parts.{Start}
-use Rattle.ufs_stored.specs.Parts.{Parts}
+use Rattle.ufs_hand_laws.specs.Owned.{Has}
+use Rattle.ufs_hand_laws.specs.Parts.{Start}
+use Rattle.ufs_promise_laws.specs.Parts.{Parts}
 
 -- A block of a file that was read, by its place, and the file's own bytes in it.
 pub record Pick : Type 0 where

@@ -1,7 +1,7 @@
 -- What a session from a tree has told its clients.
 use Rattle.std.specs.Prelude.{ℕ, ◌≡◌, ◌+◌, ◌*◌, ◌^◌, ◌≤◌, List, Result, Ok, None, length}
 use Rattle.std.specs.FinMap as map
-use Rattle.ufs_alike.specs.Alike.{AreAlike}
+use Rattle.ufs_bytes_laws.specs.Alike.{AreAlike}
 use Rattle.ufs_base.specs.declared.limits.TheConstants.{MAX_CLIENTS, MAX_REQUESTS}
 use Rattle.ufs_model.specs.PosixTree.{PosixTree}
 use Rattle.ufs_model.specs.History.{IsLegal, IsInOrder, IsComplete, joined, tree_after}
@@ -10,10 +10,10 @@ use Rattle.ufs_model.specs.declared.data.Entry.{Entry}
 use Rattle.ufs_client.specs.Own.{AreServedFrom}
 use Rattle.ufs_client.specs.Played.{IsMerged}
 use Rattle.ufs_client.specs.declared.played.EndFault.{EndFault}
-use Rattle.ufs_sound.specs.Parts.{Start}
-use Rattle.ufs_sound.specs.Visible.{IsDiskVisible}
-use Rattle.ufs_stored.specs.Parts.{Parts}
-use Rattle.ufs_stored.specs.Stored.{ArePartsOf}
+use Rattle.ufs_hand_laws.specs.Parts.{Start}
+use Rattle.ufs_hand_laws.specs.Visible.{IsDiskVisible}
+use Rattle.ufs_promise_laws.specs.Parts.{Parts}
+use Rattle.ufs_promise_laws.specs.Stored.{ArePartsOf}
 
 -- A session may begin with this tree, of which these are the parts: nothing is open in it, and file numbers stay small.
 pub record MayBegin (p : Parts) (start : PosixTree) : Type 0 where

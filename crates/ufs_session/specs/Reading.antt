@@ -7,10 +7,10 @@ use Rattle.ufs_model.specs.declared.data.Op.{Op}
 use Rattle.ufs_session.specs.Picked.{HasPicked, HasReadOf, MayHaveBegun, Pick}
 use Rattle.ufs_session.specs.Serving.{IsDone, IsReady}
 use Rattle.ufs_session.specs.Throughout.{IsExplainedThroughout}
-use Rattle.ufs_sound.specs.Parts.{Start}
+use Rattle.ufs_hand_laws.specs.Parts.{Start}
 use Rattle.ufs_store.specs.State.{StoreState}
-use Rattle.ufs_stored.specs.OnDisk.{IsOnDisk}
-use Rattle.ufs_stored.specs.Parts.{Parts}
+use Rattle.ufs_promise_laws.specs.OnDisk.{IsOnDisk}
+use Rattle.ufs_promise_laws.specs.Parts.{Parts}
 
 -- The session has read this far, and a client comes new to it, whichever tree it began with.
 pub record IsNewTo (k : Start) (begun : Parts) (picks : List Pick) (now : Parts) (before : List Entry) (client : ℕ) : Type 0 where

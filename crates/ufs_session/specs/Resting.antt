@@ -4,7 +4,7 @@ use Rattle.ufs_apart.specs.Apart.{ApartState, joined}
 use Rattle.ufs_model.specs.declared.data.Entry.{Entry}
 use Rattle.ufs_one_hand.specs.OneHand.{IsCoveredIn, state_in}
 use Rattle.ufs_session.specs.Gathered.{AreParted}
-use Rattle.ufs_sound.specs.Parts.{Start, View}
+use Rattle.ufs_hand_laws.specs.Parts.{Start, View}
 use Rattle.ufs_stamped.specs.Stamped.{HasCounted, Stamps, disk_state}
 use Rattle.ufs_store.specs.State.{StoreState}
 

@@ -4,10 +4,10 @@ use Rattle.ufs_disk.specs.Moments.{Moments, all}
 use Rattle.ufs_model.specs.PosixTree.{PosixTree}
 use Rattle.ufs_model.specs.declared.data.Entry.{Entry}
 use Rattle.ufs_one_hand.specs.Drawn.{IsExplainedAtStamps}
-use Rattle.ufs_sound.specs.Owned.{Has}
-use Rattle.ufs_sound.specs.Parts.{Cells}
+use Rattle.ufs_hand_laws.specs.Owned.{Has}
+use Rattle.ufs_hand_laws.specs.Parts.{Cells}
 use Rattle.ufs_store_steps.specs.Cells.{cells_of}
-use Rattle.ufs_stored.specs.OnDisk.{IsExplainedBetween}
+use Rattle.ufs_promise_laws.specs.OnDisk.{IsExplainedBetween}
 
 -- The disk passes from the one moment to the other while these entries are answered behind those: at each moment whatever a crash
 -- leaves is explained by the entries that were answered by then, and is proper.

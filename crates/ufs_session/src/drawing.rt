@@ -6,23 +6,23 @@ ghost use Rattle.ufs_model.specs.declared.data.Reply.TheVariants as reply;
 ghost use Rattle.ufs_one_hand.specs.Apart.{FileViews, HasEachFile};
 ghost use Rattle.ufs_one_hand.specs.Drawn.{HasCauses, IsAcknowledged, IsReplyAlike, MayPass};
 ghost use Rattle.ufs_one_hand.specs.OneHand.{HasSession, IsCoveredIn, IsStampedIn, KnowsSynced, faults_in, passed_in, stamp_in, state_in};
-ghost use Rattle.ufs_prefix.specs.Changes.{asks_commit};
+ghost use Rattle.ufs_crash_laws.specs.Changes.{asks_commit};
 ghost use Rattle.ufs_session.specs.Drawing.{HasFilesOf, IsServedIn, KnowsFaults, acknowledges, entry_had, had_as, short_in, tree_had};
 ghost use Rattle.ufs_stamped.specs.Stamped.{disk_state};
-ghost use Rattle.ufs_sound.specs.Covers.{step_in};
-ghost use Rattle.ufs_sound.specs.Owned.{Has, times};
-ghost use Rattle.ufs_sound.specs.Parts.{Cells};
-ghost use Rattle.ufs_sound.specs.Shown.{ExplainsImages};
-ghost use Rattle.ufs_sound.specs.Visible.{IsDiskVisible};
+ghost use Rattle.ufs_hand_laws.specs.Covers.{step_in};
+ghost use Rattle.ufs_hand_laws.specs.Owned.{Has, times};
+ghost use Rattle.ufs_hand_laws.specs.Parts.{Cells};
+ghost use Rattle.ufs_hand_laws.specs.Shown.{ExplainsImages};
+ghost use Rattle.ufs_hand_laws.specs.Visible.{IsDiskVisible};
 
 use crate::picks::Telling;
 use std::marker::Brand;
 use ufs_fds::FdTable;
 use ufs_hand::Naming;
+use ufs_hand_laws::Fresh;
 use ufs_model::{Entry, Reply};
 use ufs_one_hand::{Answering, OneHand, Passing};
 use ufs_server::is_sync;
-use ufs_sound::Fresh;
 use ufs_store::Door;
 
 // The disk as the session finds it.

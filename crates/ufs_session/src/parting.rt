@@ -6,9 +6,9 @@ ghost use Rattle.ufs_client.specs.Own.{is_own};
 ghost use Rattle.ufs_model.specs.Asks.{IsAsk};
 ghost use Rattle.ufs_model.specs.PosixTree.{PosixTree};
 ghost use Rattle.ufs_model.specs.declared.data.Entry.{Entry};
-ghost use Rattle.ufs_prefix.specs.Changes.{asks_commit};
+ghost use Rattle.ufs_crash_laws.specs.Changes.{asks_commit};
 ghost use Rattle.ufs_session.specs.Gathered.{AreParted, HasFilesAt, HasGathered, IsFileTold, IsGathered, IsTogether, file_told};
-ghost use Rattle.ufs_stored.specs.Stored.{ArePartsOf};
+ghost use Rattle.ufs_promise_laws.specs.Stored.{ArePartsOf};
 
 use ufs_apart::Apart;
 use ufs_base::{MAX_CLIENTS, Memory};

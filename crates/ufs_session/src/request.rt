@@ -9,7 +9,7 @@ ghost use Rattle.ufs_model.specs.PosixTree.{PosixTree};
 ghost use Rattle.ufs_model.specs.declared.data.Actor.TheVariants as actor;
 ghost use Rattle.ufs_model.specs.declared.data.Entry.{Entry};
 ghost use Rattle.ufs_model.specs.declared.data.Reply.TheVariants as reply;
-ghost use Rattle.ufs_prefix.specs.Changes.{asks_commit};
+ghost use Rattle.ufs_crash_laws.specs.Changes.{asks_commit};
 ghost use Rattle.ufs_session.specs.Asking.{AsksOf, HasAnsweredOn, IsOwnTold};
 ghost use Rattle.ufs_session.specs.Drawing.{SeesDisk, had_as};
 ghost use Rattle.ufs_session.specs.Gathered.{IsFileTold};
@@ -22,11 +22,11 @@ ghost use Rattle.ufs_stamped.specs.Stamped.{IsStamping, before_of};
 ghost use Rattle.ufs_server.specs.Numbers.{most_raised};
 ghost use Rattle.ufs_store.specs.Numbers.{HasRaised};
 ghost use Rattle.ufs_store.specs.State.{StoreState, geometry_of_store};
-ghost use Rattle.ufs_stored.specs.OnDisk.{IsExplainedBetween, IsOnDisk};
-ghost use Rattle.ufs_stored.specs.Parts.{Parts};
-ghost use Rattle.ufs_stored.specs.Sound.{IsSoundServer};
-ghost use Rattle.ufs_stored.specs.Stamping.{ExplainsAllowed};
-ghost use Rattle.ufs_stored.specs.Stored.{ArePartsOf};
+ghost use Rattle.ufs_promise_laws.specs.OnDisk.{IsExplainedBetween, IsOnDisk};
+ghost use Rattle.ufs_promise_laws.specs.Parts.{Parts};
+ghost use Rattle.ufs_promise_laws.specs.Sound.{IsSoundServer};
+ghost use Rattle.ufs_promise_laws.specs.Stamping.{ExplainsAllowed};
+ghost use Rattle.ufs_promise_laws.specs.Stored.{ArePartsOf};
 
 use crate::drawing::draw;
 use crate::parting::{files_of, gather, scatter};
@@ -40,10 +40,10 @@ use ufs_file::{Applied, answered};
 use ufs_hand::Naming;
 use ufs_model::{Actor, Ask, Entry, EntryList, Excuse, Reply, a_request_makes_one_file_at_most};
 use ufs_one_hand::OneHand;
+use ufs_promise_laws::{always_law, on_disk_law};
 use ufs_server::DiskServer;
 use ufs_stamped::{StampedDoor, Stamping};
 use ufs_store::Door;
-use ufs_stored::{always_law, on_disk_law};
 
 // What a session has while its clients are served: the hand, the hands that are apart from it, and the store that has its disk.
 pub(crate) struct Running<N: Naming, D: Door> {

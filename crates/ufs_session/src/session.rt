@@ -1,13 +1,13 @@
 ghost use Rattle.std.specs.Prelude.{◌-◌, ◌≡◌, ◌≤◌, ◌<◌, ◌*◌, ◌++◌, [], ℕ, List, None, Err, IsTrue, length};
 ghost use Rattle.ufs_disk.specs.Moments.{all};
-ghost use Rattle.ufs_sound.specs.Visible.{IsDiskVisible};
+ghost use Rattle.ufs_hand_laws.specs.Visible.{IsDiskVisible};
 ghost use Rattle.ufs_model.specs.PosixTree.{PosixTree};
 ghost use Rattle.ufs_model.specs.History.{AreTicketsOnce, joined, tree_after};
 ghost use Rattle.ufs_store.specs.State.{StoreState, geometry_of_store};
-ghost use Rattle.ufs_stored.specs.OnDisk.{IsOnDisk};
-ghost use Rattle.ufs_stored.specs.Parts.{Parts};
-ghost use Rattle.ufs_stored.specs.Sound.{IsSoundServer};
-ghost use Rattle.ufs_stored.specs.Stored.{ArePartsOf};
+ghost use Rattle.ufs_promise_laws.specs.OnDisk.{IsOnDisk};
+ghost use Rattle.ufs_promise_laws.specs.Parts.{Parts};
+ghost use Rattle.ufs_promise_laws.specs.Sound.{IsSoundServer};
+ghost use Rattle.ufs_promise_laws.specs.Stored.{ArePartsOf};
 ghost use Rattle.ufs_client.specs.declared.played.EndFault.TheVariants as fault;
 ghost use Rattle.ufs_one_hand.specs.OneHand.{IsStart};
 ghost use Rattle.ufs_session.specs.Drawing.{SeesDisk, had_as};
@@ -34,10 +34,10 @@ use ufs_fds::FdTable;
 use ufs_hand::{Naming, Opened};
 use ufs_model::{Ask, Entry, EntryList};
 use ufs_one_hand::{OneHand, abandon};
+use ufs_promise_laws::always_law;
 use ufs_script::{OpList, OpLists};
 use ufs_server::DiskServer;
 use ufs_store::Door;
-use ufs_stored::always_law;
 
 /// A session that was served, and the store that has its disk.
 pub struct Served<D: Door> {

@@ -5,10 +5,10 @@ use Rattle.ufs_base.specs.Faults.{RoseTo}
 use Rattle.ufs_one_hand.proofs.Passage.{AreNewFaults}
 use Rattle.ufs_one_hand.specs.Drawn.{fault_met, faults_met}
 use Rattle.ufs_one_hand.specs.OneHand.{faults_in}
-use Rattle.ufs_sound.proofs.Happening.Staying.{has_times, times_append, times_has}
-use Rattle.ufs_sound.proofs.Owning.{has_append}
-use Rattle.ufs_sound.specs.Owned.{Has, times}
-use Rattle.ufs_sound.specs.Parts.{View}
+use Rattle.ufs_hand_laws.proofs.Happening.Staying.{has_times, times_append, times_has}
+use Rattle.ufs_hand_laws.proofs.Owning.{has_append}
+use Rattle.ufs_hand_laws.specs.Owned.{Has, times}
+use Rattle.ufs_hand_laws.specs.Parts.{View}
 use Rattle.ufs_store.specs.Refusals.{IsTold}
 use Rattle.ufs_store.specs.State.{StoreState}
 use Rattle.ufs_stamped.specs.Calls.{HasRead, HasWritten, noted_read}

@@ -14,13 +14,13 @@ use Rattle.ufs_model.specs.PosixTree.{PosixTree}
 use Rattle.ufs_model.specs.Start.{PathNodes}
 use Rattle.ufs_model.specs.declared.data.Entry.{Entry}
 use Rattle.ufs_model.specs.declared.data.PathNode.{PathNode}
-use Rattle.ufs_prefix.specs.Explained.{IsExplained}
-use Rattle.ufs_prefix.specs.Mapped.{mapped}
+use Rattle.ufs_crash_laws.specs.Explained.{IsExplained}
+use Rattle.ufs_crash_laws.specs.Mapped.{mapped}
 use Rattle.ufs_one_hand.specs.OneHand.{IsStampedIn, passed_in}
-use Rattle.ufs_sound.specs.Owned.{Has}
-use Rattle.ufs_sound.specs.Parts.{Cells, View}
-use Rattle.ufs_sound.proofs.Owning.{has_append}
-use Rattle.ufs_sound.specs.Shown.{ExplainsImages, node_of, nodes_of}
+use Rattle.ufs_hand_laws.specs.Owned.{Has}
+use Rattle.ufs_hand_laws.specs.Parts.{Cells, View}
+use Rattle.ufs_hand_laws.proofs.Owning.{has_append}
+use Rattle.ufs_hand_laws.specs.Shown.{ExplainsImages, node_of, nodes_of}
 use Rattle.ufs_store_steps.specs.Cells.{AreCellsOf, cells_of}
 use Rattle.ufs_store_steps.proofs.Cells.{cells_are_there, cut, cut_left, cut_same, whole, whole_left, whole_same}
 use Rattle.ufs_store_steps.proofs.Within.{opens_within}

@@ -14,10 +14,10 @@ use Rattle.ufs_one_hand.proofs.Passage.{AreNewFaults}
 use Rattle.ufs_one_hand.specs.Apart.{FileViews, HasEachFile}
 use Rattle.ufs_one_hand.specs.Drawn.{MayPass, faults_met}
 use Rattle.ufs_one_hand.specs.OneHand.{HasSession, IsCoveredIn, IsStampedIn, faults_in, passed_in, stamp_in, state_in}
-use Rattle.ufs_sound.specs.Owned.{Has, times}
-use Rattle.ufs_sound.specs.Parts.{Cells, Start, View}
-use Rattle.ufs_sound.specs.Shown.{ExplainsImages}
-use Rattle.ufs_sound.specs.Visible.{IsDiskVisible}
+use Rattle.ufs_hand_laws.specs.Owned.{Has, times}
+use Rattle.ufs_hand_laws.specs.Parts.{Cells, Start, View}
+use Rattle.ufs_hand_laws.specs.Shown.{ExplainsImages}
+use Rattle.ufs_hand_laws.specs.Visible.{IsDiskVisible}
 use Rattle.ufs_store.specs.Refusals.{IsTold, stop_after}
 use Rattle.ufs_store.specs.State.{StoreState}
 use Rattle.ufs_stamped.specs.Calls.{HasRead, HasWritten, IsCalled, noted_read}

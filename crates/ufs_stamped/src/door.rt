@@ -102,7 +102,7 @@ fn read_fault(read: &Result<(), StoreFault>) -> Option<u64>
 
 impl<N: Naming, D: Door, H: Stamping> Door for StampedDoor<N, D, H> {
     ghost use Rattle.ufs_ledger.specs.Kept.{OpensExplained};
-    ghost use Rattle.ufs_sound.specs.Visible.{IsDiskVisible};
+    ghost use Rattle.ufs_hand_laws.specs.Visible.{IsDiskVisible};
     ghost use Rattle.std.specs.Prelude.{IsTrue};
 
     ghost visible = { D.visible };

@@ -4,8 +4,8 @@ use Rattle.ufs_model.specs.PosixTree.{PosixTree}
 use Rattle.ufs_model.specs.Start.{path_root}
 use Rattle.ufs_model.proofs.Facts.Starts.{root_is_tree, start_of-root}
 use Rattle.ufs_one_hand.specs.OneHand.{IsStart}
-use Rattle.ufs_sound.specs.Parts.{Start}
-use Rattle.ufs_sound.specs.Visible.{IsDiskVisible}
+use Rattle.ufs_hand_laws.specs.Parts.{Start}
+use Rattle.ufs_hand_laws.specs.Visible.{IsDiskVisible}
 use Rattle.ufs_stamped_tests.specs.Small.{bare}
 
 pub starts : IsStart bare

@@ -2,7 +2,7 @@
 use Rattle.ufs_layout.specs.declared.geometry.Geometry.{Geometry}
 use Rattle.ufs_model.specs.Start.{path_root}
 use Rattle.ufs_one_hand.specs.OneHand.{start_with}
-use Rattle.ufs_sound.specs.Parts.{Start}
+use Rattle.ufs_hand_laws.specs.Parts.{Start}
 
 abbrev pub bare : Start
 bare = start_with path_root

@@ -3,9 +3,9 @@ use Rattle.std.proofs.Common.{◌≡◌, ℕ, ◌<◌, ◌≤◌, length, arith,
 use Rattle.std.specs.Prelude.{◌^◌, IfErr, Result, Ok, Err}
 use Rattle.std.proofs.lemmas.Bool.{and_parts, ltb-true}
 use Rattle.ufs_base.specs.Images as images
-use Rattle.ufs_catalog.specs.Faults.{HasFaultCause, IsOutside}
-use Rattle.ufs_catalog.specs.declared.fault.RecoverFault.{RecoverFault}
-use Rattle.ufs_catalog.specs.declared.fault.RecoverFault.TheVariants.{NoSuperblock, BadVersion, BadGeometry, BadRecord, BadTree, Device, Lack}
+use Rattle.ufs_metadata.specs.Faults.{HasFaultCause, IsOutside}
+use Rattle.ufs_metadata.specs.declared.fault.RecoverFault.{RecoverFault}
+use Rattle.ufs_metadata.specs.declared.fault.RecoverFault.TheVariants.{NoSuperblock, BadVersion, BadGeometry, BadRecord, BadTree, Device, Lack}
 use Rattle.ufs_damage.specs.Findings.{AreFindingsOf, CatalogRead}
 use Rattle.ufs_image.specs.Catalog.{IsCatalogOf, IsInode, catalog_at}
 use Rattle.ufs_image.specs.Images.{form_at}

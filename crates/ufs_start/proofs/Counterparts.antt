@@ -5,7 +5,7 @@ use Rattle.std.specs.FinMap as fin
 use Rattle.std.specs.List.{slice_get}
 use Rattle.ufs_base.specs.Images.{Image}
 use Rattle.ufs_bitmap.specs.Space.{is_between}
-use Rattle.ufs_dir_image.specs.Tables.{IsTableOf, is_free_inode}
+use Rattle.ufs_dir_laws.specs.Tables.{IsTableOf, is_free_inode}
 use Rattle.ufs_dir_tree.specs.DirTable.{DirTable}
 use Rattle.ufs_file.specs.Content.{block_count, unread}
 use Rattle.ufs_file.specs.Hand.{FileState}
@@ -27,9 +27,9 @@ use Rattle.ufs_load_image.specs.Loaded.{is_free_block}
 use Rattle.ufs_model.specs.PosixTree.{Paths, PosixTree}
 use Rattle.ufs_name_tree.specs.NameTable.{NameTable, file_at}
 use Rattle.ufs_names.specs.NamesPart.{NamesPart}
-use Rattle.ufs_names_image.specs.Loaded.{AreRead}
-use Rattle.ufs_names_image.specs.Numbered.{IsNumberedAs}
-use Rattle.ufs_names_image.specs.Parts.{IsNamesOf}
+use Rattle.ufs_tree_laws.specs.Loaded.{AreRead}
+use Rattle.ufs_tree_laws.specs.Numbered.{IsNumberedAs}
+use Rattle.ufs_tree_laws.specs.Parts.{IsNamesOf}
 use Rattle.ufs_start.specs.Extents.{run_of}
 use Rattle.ufs_start.specs.Files.{AreLaid, AreUnread}
 use Rattle.ufs_start.specs.Refused.{HasNoneCutOff, IsCutOff, IsUnnamedFile}

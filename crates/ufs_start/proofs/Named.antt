@@ -10,29 +10,29 @@ use Rattle.ufs_image.specs.Volume.{Volume}
 use Rattle.ufs_image.proofs.Opening.{opens_to}
 use Rattle.ufs_damage.specs.Findings.{CatalogRead}
 use Rattle.ufs_dir_tree.specs.DirTable.{IsReached}
-use Rattle.ufs_dir_image.specs.Tables.{IsTableOf}
+use Rattle.ufs_dir_laws.specs.Tables.{IsTableOf}
 use Rattle.ufs_model.specs.PosixTree.{PosixTree}
 use Rattle.ufs_model.specs.Start.{IsPathTree}
 use Rattle.ufs_model.proofs.ContentLemmas.{start_has_contents, start_is_numbered}
 use Rattle.ufs_model.proofs.Facts.Orders.{path_total}
 use Rattle.ufs_model.proofs.Facts.Starts.{start_is_tree}
-use Rattle.ufs_prefix.proofs.Facts.Mapped.{get-mapped}
+use Rattle.ufs_crash_laws.proofs.Facts.Mapped.{get-mapped}
 use Rattle.ufs_ledger.specs.Kept.{path_node_of, paths_of}
 use Rattle.ufs_name_tree.specs.NameTable.{NameTable, IsNameTable}
 use Rattle.ufs_names.specs.Closed.{AreClosed}
 use Rattle.ufs_names.specs.NamesPart.{NamesPart}
-use Rattle.ufs_names_image.specs.Numbered.{HasImage, IsNumberedAs}
-use Rattle.ufs_names_image.specs.Parts.{IsNamesOf}
-use Rattle.ufs_names_image.specs.Starts.{image_start}
+use Rattle.ufs_tree_laws.specs.Numbered.{HasImage, IsNumberedAs}
+use Rattle.ufs_tree_laws.specs.Parts.{IsNamesOf}
+use Rattle.ufs_tree_laws.specs.Starts.{image_start}
 use Rattle.ufs_bitmap.specs.Blocks.{BlockSet}
 use Rattle.ufs_files.specs.Files.{Files, AreFilesOf}
 use Rattle.ufs_names.specs.Calls.{HaveInodes}
 use Rattle.ufs_names.specs.Space.{AreApart}
-use Rattle.ufs_names_image.specs.Loaded.{AreRead, IsUntaken}
-use Rattle.ufs_names_image.proofs.BlocksApart.{are_apart}
-use Rattle.ufs_names_image.proofs.Filed.{are_files, have_inodes}
-use Rattle.ufs_names_image.proofs.Named.{is_name_table, named_once}
-use Rattle.ufs_names_image.proofs.Started.{image_is_tree, image_part}
+use Rattle.ufs_tree_laws.specs.Loaded.{AreRead, IsUntaken}
+use Rattle.ufs_tree_laws.proofs.BlocksApart.{are_apart}
+use Rattle.ufs_tree_laws.proofs.Filed.{are_files, have_inodes}
+use Rattle.ufs_tree_laws.proofs.Named.{is_name_table, named_once}
+use Rattle.ufs_tree_laws.proofs.Started.{image_is_tree, image_part}
 use Rattle.ufs_start.specs.Starts.{AreNumbersOf, AreStartNames, IsLoaded, tree_in}
 
 -- three facts of a success together

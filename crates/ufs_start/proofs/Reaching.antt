@@ -21,10 +21,10 @@ use Rattle.ufs_dir_tree.specs.DirTable.{DirTable, IsReached, dir_at, no_dir, slo
 use Rattle.ufs_dir_tree.specs.DirEdits.{dir_in}
 use Rattle.ufs_dir_tree.specs.declared.found.Found.TheVariants.{Dir, File}
 use Rattle.ufs_dir_tree.proofs.NamedPlaces.{stands_at}
-use Rattle.ufs_dir_image.specs.Meets.{found_in}
-use Rattle.ufs_dir_image.specs.Tables.{IsTableOf}
-use Rattle.ufs_dir_image.proofs.Tables.{inside_or_none, root_inside}
-use Rattle.ufs_dir_image.proofs.Walked.{meets}
+use Rattle.ufs_dir_laws.specs.Meets.{found_in}
+use Rattle.ufs_dir_laws.specs.Tables.{IsTableOf}
+use Rattle.ufs_dir_laws.proofs.Tables.{inside_or_none, root_inside}
+use Rattle.ufs_dir_laws.proofs.Walked.{meets}
 use Rattle.ufs_walk.specs.Reached.{AreReachedMarks}
 use Rattle.ufs_start.specs.Refused.{HasNoneCutOff, IsCutOff}
 

@@ -6,10 +6,10 @@ use Rattle.std.specs.FinSet as set
 use Rattle.std.proofs.lemmas.Bool.Decides.{nat_tests}
 use Rattle.ufs_base.specs.Images.{Image}
 use Rattle.ufs_damage.specs.Findings.{CatalogRead}
-use Rattle.ufs_dir_image.specs.Meets.{found_in}
-use Rattle.ufs_dir_image.specs.Tables.{IsTableOf}
-use Rattle.ufs_dir_image.proofs.Tables as tables
-use Rattle.ufs_dir_image.proofs.Walked.{meets}
+use Rattle.ufs_dir_laws.specs.Meets.{found_in}
+use Rattle.ufs_dir_laws.specs.Tables.{IsTableOf}
+use Rattle.ufs_dir_laws.proofs.Tables as tables
+use Rattle.ufs_dir_laws.proofs.Walked.{meets}
 use Rattle.ufs_dir_tree.specs.DirTable.{DirTable, found_at}
 use Rattle.ufs_image.specs.Catalog.{Catalog, IsInode, IsCatalogOf, catalog_at}
 use Rattle.ufs_image.specs.Sound.{IsSoundCatalog}
@@ -21,9 +21,9 @@ use Rattle.ufs_layout.specs.InodeForm.{is_used}
 use Rattle.ufs_layout.specs.declared.geometry.Geometry.{Geometry}
 use Rattle.ufs_ledger.specs.Kept.{paths_of}
 use Rattle.ufs_model.proofs.ContentLemmas.{start_is_numbered}
-use Rattle.ufs_names_image.specs.Numbered.{IsFileAt}
-use Rattle.ufs_names_image.specs.Starts.{image_start}
-use Rattle.ufs_names_image.proofs.Named.{named_once}
+use Rattle.ufs_tree_laws.specs.Numbered.{IsFileAt}
+use Rattle.ufs_tree_laws.specs.Starts.{image_start}
+use Rattle.ufs_tree_laws.proofs.Named.{named_once}
 use Rattle.ufs_walk.proofs.Reached.{IsMetAtPlace}
 use Rattle.ufs_start.specs.Files.{AreSoundFiles, IsSoundFile}
 use Rattle.ufs_start.specs.Starts.{AreNumbersOf, IsUndamaged, tree_in}

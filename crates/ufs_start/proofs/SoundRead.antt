@@ -9,8 +9,8 @@ use Rattle.std.proofs.lemmas.Map.Keys.{IsDistinct-from_apart}
 use Rattle.std.proofs.lemmas.Option.{slice_get-get_or}
 use Rattle.ufs_base.specs.Images.{Image}
 use Rattle.ufs_damage.specs.Findings.{CatalogRead}
-use Rattle.ufs_dir_image.specs.Tables.{IsTableOf}
-use Rattle.ufs_dir_image.proofs.WholeDirs.{whole_dirs}
+use Rattle.ufs_dir_laws.specs.Tables.{IsTableOf}
+use Rattle.ufs_dir_laws.proofs.WholeDirs.{whole_dirs}
 use Rattle.ufs_dir_tree.specs.DirTable.{DirTable, dir_at}
 use Rattle.ufs_dirs.specs.Directory.{Directory, IsDirectory}
 use Rattle.ufs_dirs.proofs.BlockLemmas.{length-distinct}

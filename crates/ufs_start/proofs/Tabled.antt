@@ -25,7 +25,7 @@ use Rattle.ufs_image.proofs.Whole.{whole_read}
 use Rattle.ufs_walk.proofs.Told.{from_dirs, in_dirs}
 use Rattle.ufs_dirs.specs.Directory.{Directory}
 use Rattle.ufs_dir_tree.specs.DirTable.{DirTable, blocks_at, dir_at, no_dir, slots_at}
-use Rattle.ufs_dir_image.specs.Tables.{IsTableOf, dir_blocks, is_free_inode}
+use Rattle.ufs_dir_laws.specs.Tables.{IsTableOf, dir_blocks, is_free_inode}
 use Rattle.ufs_start.specs.Starts.{IsUndamaged}
 use Rattle.ufs_start.specs.Tables.{AreReadIn, IsAsRead, form_in, is_used_form, is_used_in}
 

@@ -7,9 +7,9 @@ use Rattle.std.specs.FinMap as fin
 use Rattle.std.specs.FinMap.{from_entries, is_sorted, same_map}
 use Rattle.std.specs.FinMap.Entries.{below_all}
 use Rattle.ufs_base.specs.Images.{Image}
-use Rattle.ufs_catalog.specs.Faults.{IsWhyNot}
-use Rattle.ufs_catalog.specs.declared.fault.RecoverFault.{RecoverFault}
-use Rattle.ufs_catalog.specs.declared.fault.RecoverFault.TheVariants.{NoSuperblock, BadVersion, BadGeometry, BadRecord, BadTree, Device, Lack}
+use Rattle.ufs_metadata.specs.Faults.{IsWhyNot}
+use Rattle.ufs_metadata.specs.declared.fault.RecoverFault.{RecoverFault}
+use Rattle.ufs_metadata.specs.declared.fault.RecoverFault.TheVariants.{NoSuperblock, BadVersion, BadGeometry, BadRecord, BadTree, Device, Lack}
 use Rattle.ufs_image.specs.Catalog.{Catalog}
 use Rattle.ufs_image.specs.Opens.{ImageTree, NodeBytes, path_cmp, walked}
 use Rattle.ufs_image.specs.Standing.{IsVolumeOf}
@@ -25,8 +25,8 @@ use Rattle.ufs_model.specs.declared.data.PathNode.{PathNode}
 use Rattle.ufs_model.specs.declared.data.PathNode.TheVariants as path_node
 use Rattle.ufs_model.proofs.Facts.Orders.{path_total, path_same}
 use Rattle.ufs_model.proofs.Facts.Rising.{entries-rise, entries-rising}
-use Rattle.ufs_prefix.specs.Mapped.{mapped}
-use Rattle.ufs_prefix.proofs.Facts.Mapped.{get-mapped}
+use Rattle.ufs_crash_laws.specs.Mapped.{mapped}
+use Rattle.ufs_crash_laws.proofs.Facts.Mapped.{get-mapped}
 use Rattle.ufs_start.specs.Copies.{AreAlike, AreOpenedAlike, is_file}
 
 -- ---- the same walks

@@ -3,7 +3,7 @@ use Rattle.std.specs.Prelude.{ℕ, ◌≡◌, ◌≤◌, ◌^◌, length, true, 
 use Rattle.std.specs.FinMap as map
 use Rattle.std.specs.FinSet as set
 use Rattle.ufs_base.specs.Images.{Image}
-use Rattle.ufs_catalog.specs.declared.superblock.ImageSuperblock.{ImageSuperblock}
+use Rattle.ufs_metadata.specs.declared.superblock.ImageSuperblock.{ImageSuperblock}
 use Rattle.ufs_dir_tree.specs.DirTable.{IsReached}
 use Rattle.ufs_files.specs.Files.{AreFilesOf}
 use Rattle.ufs_image.specs.Catalog.{Catalog, IsInode, catalog_at}
@@ -19,11 +19,11 @@ use Rattle.ufs_name_tree.specs.NameTable.{file_at}
 use Rattle.ufs_names.specs.Calls.{HaveInodes}
 use Rattle.ufs_names.specs.NamesPart.{IsNamesPart}
 use Rattle.ufs_names.specs.Space.{AreApart}
-use Rattle.ufs_names_image.specs.Loaded.{AreRead}
-use Rattle.ufs_names_image.specs.Parts.{IsNamesOf}
-use Rattle.ufs_names_image.specs.Starts.{image_start}
+use Rattle.ufs_tree_laws.specs.Loaded.{AreRead}
+use Rattle.ufs_tree_laws.specs.Parts.{IsNamesOf}
+use Rattle.ufs_tree_laws.specs.Starts.{image_start}
 use Rattle.ufs_one_hand.specs.OneHand.{IsStart, start_with}
-use Rattle.ufs_sound.specs.Parts as sound
+use Rattle.ufs_hand_laws.specs.Parts as sound
 use Rattle.ufs_start.specs.Files.{AreLaid, AreUnread}
 use Rattle.ufs_start.specs.Starts.{tree_in}
 use Rattle.ufs_start.specs.declared.parts.Start.{Start}

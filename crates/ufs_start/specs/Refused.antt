@@ -1,9 +1,9 @@
 -- Why a server can't begin with an image.
 use Rattle.std.specs.Prelude.{ℕ, ◌≡◌, ◌<◌, length}
 use Rattle.ufs_base.specs.Images as images
-use Rattle.ufs_catalog.specs.Faults.{HasFaultCause}
-use Rattle.ufs_catalog.specs.declared.fault.RecoverFault.{RecoverFault}
-use Rattle.ufs_catalog.specs.declared.fault.RecoverFault.TheVariants.{Lack}
+use Rattle.ufs_metadata.specs.Faults.{HasFaultCause}
+use Rattle.ufs_metadata.specs.declared.fault.RecoverFault.{RecoverFault}
+use Rattle.ufs_metadata.specs.declared.fault.RecoverFault.TheVariants.{Lack}
 use Rattle.ufs_damage.specs.Findings.{CatalogRead}
 use Rattle.ufs_file.specs.Content.{block_count}
 use Rattle.ufs_image.specs.Catalog.{Catalog, IsInode, catalog_at}
@@ -17,7 +17,7 @@ use Rattle.ufs_layout.specs.DentryForm.{DentryForm}
 use Rattle.ufs_layout.specs.declared.geometry.Geometry.{Geometry}
 use Rattle.ufs_layout.specs.InodeForm.{InodeForm}
 use Rattle.ufs_opening.specs.Told.{TellsWhy}
-use Rattle.ufs_catalog.specs.Lacks.{IsOfNumbers}
+use Rattle.ufs_metadata.specs.Lacks.{IsOfNumbers}
 use Rattle.ufs_start.specs.Starts.{IsUndamaged}
 use Rattle.ufs_start.specs.declared.fault.StartFault.{StartFault}
 use Rattle.ufs_start.specs.declared.fault.StartFault.TheVariants.{Image, Unreached, Unnamed, ExtraBlocks}

@@ -5,8 +5,8 @@ ghost use Rattle.ufs_base.specs.Faults.{RoseTo};
 ghost use Rattle.ufs_disk.specs.Bytes.{image_of};
 ghost use Rattle.ufs_disk.specs.Disk.{IsRange, bytes_from};
 ghost use Rattle.ufs_disk.specs.Moments.{reads};
-ghost use Rattle.ufs_catalog.specs.Faults.{HasFaultCause, IsOutside};
-ghost use Rattle.ufs_catalog.specs.Reading.{IsReadOnly};
+ghost use Rattle.ufs_metadata.specs.Faults.{HasFaultCause, IsOutside};
+ghost use Rattle.ufs_metadata.specs.Reading.{IsReadOnly};
 ghost use Rattle.ufs_image.specs.Agree.{AgreeOn, IsMetadata};
 ghost use Rattle.ufs_image.specs.Volume.{Refusal, superblock_of, superblock_refusal};
 ghost use Rattle.ufs_layout.specs.Areas.{IsGeometry, sector_count};
@@ -17,10 +17,10 @@ ghost use Rattle.ufs_front.specs.Fronts.{bytes_of};
 use crate::used::end_of_used;
 use std::alloc::{AllocError, Global};
 use ufs_base::{BLOCK, SECTOR};
-use ufs_catalog::RecoverFault;
 use ufs_disk::{Disk, Fault};
 use ufs_front::FrontDisk;
 use ufs_layout::{Geometry, get_super};
+use ufs_metadata::RecoverFault;
 
 // The sectors of a call.
 const SECTORS: u32 = 8;

@@ -1,5 +1,5 @@
 use ufs_base::{Lack, Memory};
-use ufs_catalog::RecoverFault;
+use ufs_metadata::RecoverFault;
 
 /// Why a server can't begin with an image.
 #[derive(Clone, Copy, Debug, PartialEq, Eq)]
@@ -28,7 +28,7 @@ impl From<RecoverFault> for StartFault {
 impl From<Memory> for StartFault {
     ghost use Rattle.std.specs.Prelude.{◌≡◌};
     ghost use Rattle.ufs_base.specs.declared.lack.Lack.TheVariants as lack;
-    ghost use Rattle.ufs_catalog.specs.declared.fault.RecoverFault.TheVariants as image;
+    ghost use Rattle.ufs_metadata.specs.declared.fault.RecoverFault.TheVariants as image;
     ghost use Rattle.ufs_start.specs.declared.fault.StartFault.TheVariants as fault;
 
     ghost from_gives = { λ m e. e ≡ fault.Image (image.Lack (lack.Memory m)) };
@@ -40,7 +40,7 @@ impl From<Memory> for StartFault {
 
 impl From<Lack> for StartFault {
     ghost use Rattle.std.specs.Prelude.{◌≡◌};
-    ghost use Rattle.ufs_catalog.specs.declared.fault.RecoverFault.TheVariants as image;
+    ghost use Rattle.ufs_metadata.specs.declared.fault.RecoverFault.TheVariants as image;
     ghost use Rattle.ufs_start.specs.declared.fault.StartFault.TheVariants as fault;
 
     ghost from_gives = { λ l e. e ≡ fault.Image (image.Lack l) };

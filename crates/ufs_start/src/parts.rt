@@ -1,7 +1,7 @@
 use ufs_bitmap::Bitmap;
-use ufs_catalog::ImageSuperblock;
 use ufs_files::FileHands;
 use ufs_hand::Parts;
+use ufs_metadata::ImageSuperblock;
 use ufs_names::Names;
 
 /// What a server begins with: the superblock, the namespace, the files, of which nothing is read, and the free blocks of

@@ -15,7 +15,7 @@ use crate::reached::unreached;
 use std::alloc::Global;
 use ufs_base::Memory;
 use ufs_damage::{Findings, ReadDir};
-use ufs_dir_image::dir_table_law;
+use ufs_dir_laws::dir_table_law;
 use ufs_dir_tree::DirTree;
 use ufs_dirs::DirBlocks;
 use ufs_image::damage_law;

@@ -2,9 +2,9 @@
 ghost use Rattle.std.specs.Prelude.{ℕ, ◌≡◌, ◌≤◌, ◌<◌, ◌*◌, Ok, IfOk, IfErr, OnOk};
 ghost use Rattle.ufs_disk.specs.Bytes.{image_of};
 ghost use Rattle.ufs_base.specs.declared.lack.Lack.{Lack};
-ghost use Rattle.ufs_catalog.specs.Faults.{HasFaultCause, IsOutside};
-ghost use Rattle.ufs_catalog.specs.Lacks.{IsOfNumbers};
-ghost use Rattle.ufs_catalog.specs.declared.fault.RecoverFault.TheVariants as cause;
+ghost use Rattle.ufs_metadata.specs.Faults.{HasFaultCause, IsOutside};
+ghost use Rattle.ufs_metadata.specs.Lacks.{IsOfNumbers};
+ghost use Rattle.ufs_metadata.specs.declared.fault.RecoverFault.TheVariants as cause;
 ghost use Rattle.ufs_image.specs.Agree.{IsOfDir};
 ghost use Rattle.ufs_image.specs.Catalog.{catalog_at};
 ghost use Rattle.ufs_image.specs.Volume.{Volume, superblock_of, volume};
@@ -15,9 +15,9 @@ ghost use Rattle.ufs_front.specs.Fronts.{bytes_of};
 
 use std::alloc::Global;
 use ufs_base::Lack;
-use ufs_catalog::{RecoverFault, read_findings};
 use ufs_front::FrontDisk;
 use ufs_layout::{Extent, Geometry, Inode};
+use ufs_metadata::{RecoverFault, read_findings};
 use ufs_volume::read_volume;
 
 const DIRECTORY: u8 = 2;

@@ -10,10 +10,10 @@ use Rattle.ufs_disk.specs.Disk.{Cell, State, IsAmong, IsImage, IsWhole, possible
 use Rattle.ufs_disk.proofs.Images.{seen_is_image}
 use Rattle.ufs_image.specs.Opens.{ImageTree, opens}
 use Rattle.ufs_model.specs.Start.{PathNodes}
-use Rattle.ufs_sound.specs.Parts.{Cells}
-use Rattle.ufs_sound.specs.DiskBytes.{empty_cell, state_of}
-use Rattle.ufs_sound.specs.Shown.{nodes_of, OpensTo, OpensAs}
-use Rattle.ufs_sound.specs.Commits.{TreesGo, TreesMayGo}
+use Rattle.ufs_hand_laws.specs.Parts.{Cells}
+use Rattle.ufs_hand_laws.specs.DiskBytes.{empty_cell, state_of}
+use Rattle.ufs_hand_laws.specs.Shown.{nodes_of, OpensTo, OpensAs}
+use Rattle.ufs_hand_laws.specs.Commits.{TreesGo, TreesMayGo}
 use Rattle.ufs_store_steps.specs.Cells.{cells_of, AreCellsOf}
 
 get_range : {X : Type 0} (f : ℕ → X) (n from k : ℕ) → k < n → slice_get (map f (range_with_len from n)) k ≡ Some (f (from + k))

@@ -13,8 +13,8 @@ use Rattle.ufs_ledger.specs.Changes.{committing, committed_one, settled}
 use Rattle.ufs_ledger.specs.Data.{KeepsData}
 use Rattle.ufs_ledger.specs.Kept.{Numbers}
 use Rattle.ufs_ledger.proofs.States.{on_one}
-use Rattle.ufs_sound.specs.Parts.{Cells}
-use Rattle.ufs_sound.specs.Commits.{TreesGo, TreesMayGo}
+use Rattle.ufs_hand_laws.specs.Parts.{Cells}
+use Rattle.ufs_hand_laws.specs.Commits.{TreesGo, TreesMayGo}
 use Rattle.ufs_store_steps.specs.Cells.{AreCellsOf}
 use Rattle.ufs_store_steps.specs.Steps.{IsBefore}
 use Rattle.ufs_store_steps.proofs.Within.{left_within}

@@ -13,14 +13,14 @@ use Rattle.ufs_image.specs.Sound.{IsSoundCatalog}
 use Rattle.ufs_model.specs.PosixTree.{Paths}
 use Rattle.ufs_model.specs.declared.data.Node.{Node}
 use Rattle.ufs_model.specs.declared.data.Node.TheVariants.{Dir, File}
-use Rattle.ufs_prefix.proofs.Facts.Shows.{shown_exactly}
+use Rattle.ufs_crash_laws.proofs.Facts.Shows.{shown_exactly}
 use Rattle.ufs_ledger.specs.Ledger.{IsDataBlock, IsMixOf, is_held, Stand, with_one, Ledger, IsLeft}
 use Rattle.ufs_ledger.specs.Changes.{settled}
 use Rattle.ufs_ledger.specs.Kept.{Numbers, Shape, shape_of, MayHave, AlwaysShows}
 use Rattle.ufs_ledger.proofs.FileCommits.{catalog_is, shape_else, shape_here, stands_on}
 use Rattle.ufs_ledger.proofs.Shapes.{content_of, inode_shown}
-use Rattle.ufs_sound.specs.Shown.{node_of, nodes_of}
-use Rattle.ufs_sound.specs.Commits.{IsFileCommitted}
+use Rattle.ufs_hand_laws.specs.Shown.{node_of, nodes_of}
+use Rattle.ufs_hand_laws.specs.Commits.{IsFileCommitted}
 use Rattle.ufs_store_steps.specs.Files.{CommitsBytes}
 use Rattle.ufs_store_steps.specs.Steps.{FilesCommitBytes, FileCommitsMayGo, FileCommitsGo}
 use Rattle.ufs_store_steps.proofs.Cells.{ImageGoes}

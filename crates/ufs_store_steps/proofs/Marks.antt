@@ -10,21 +10,21 @@ use Rattle.ufs_layout.specs.declared.records.Committed.{Committed}
 use Rattle.ufs_model.specs.FileBytes.{bytes_of}
 use Rattle.ufs_model.specs.PosixTree.{Paths}
 use Rattle.ufs_model.specs.declared.data.Entry.{Entry}
-use Rattle.ufs_prefix.specs.FileChanges.{all_changed}
+use Rattle.ufs_crash_laws.specs.FileChanges.{all_changed}
 use Rattle.ufs_ledger.specs.Ledger.{IsDataBlock, is_held, with_one, Ledger, IsLedgerOf}
 use Rattle.ufs_ledger.specs.Changes.{committing, committed_one, settled, settled_cell, home_cells, beginning, emptied}
 use Rattle.ufs_ledger.specs.Kept.{Numbers}
 use Rattle.ufs_ledger.proofs.Held.{held_before}
-use Rattle.ufs_sound.specs.ByImages.{by_images}
-use Rattle.ufs_sound.specs.Commits.{TreesMayGo, IsFileCommitted, AreNamesCommitted}
-use Rattle.ufs_sound.specs.DiskBytes.{block_on}
-use Rattle.ufs_sound.specs.Events.{MayFail}
-use Rattle.ufs_sound.specs.Meets.{MayHaveDone}
-use Rattle.ufs_sound.specs.Owned.{Has, times}
-use Rattle.ufs_sound.specs.Parts.{Cells, FilePart, NamesPart, StorePart, View, Start, committed}
-use Rattle.ufs_sound.specs.Shown.{OpensAs, ShowsImages, SameTreesShow}
-use Rattle.ufs_sound.proofs.Commits.{fewer_show}
-use Rattle.ufs_sound.proofs.Meets.{file_commits_may, name_commits_may, failures_may, checkpoints_may, file_commits_are_done, name_commits_are_done}
+use Rattle.ufs_hand_laws.specs.ByImages.{by_images}
+use Rattle.ufs_hand_laws.specs.Commits.{TreesMayGo, IsFileCommitted, AreNamesCommitted}
+use Rattle.ufs_hand_laws.specs.DiskBytes.{block_on}
+use Rattle.ufs_hand_laws.specs.Events.{MayFail}
+use Rattle.ufs_hand_laws.specs.Meets.{MayHaveDone}
+use Rattle.ufs_hand_laws.specs.Owned.{Has, times}
+use Rattle.ufs_hand_laws.specs.Parts.{Cells, FilePart, NamesPart, StorePart, View, Start, committed}
+use Rattle.ufs_hand_laws.specs.Shown.{OpensAs, ShowsImages, SameTreesShow}
+use Rattle.ufs_hand_laws.proofs.Commits.{fewer_show}
+use Rattle.ufs_hand_laws.proofs.Meets.{file_commits_may, name_commits_may, failures_may, checkpoints_may, file_commits_are_done, name_commits_are_done}
 use Rattle.ufs_store_steps.specs.Cells.{cells_of}
 use Rattle.ufs_store_steps.specs.Files.{CommitsBytes, CommitsPaths}
 use Rattle.ufs_store_steps.specs.Steps.{IsBefore}

@@ -11,13 +11,13 @@ use Rattle.ufs_image.specs.Images.{block_at}
 use Rattle.ufs_model.specs.PosixTree.{Paths}
 use Rattle.ufs_model.specs.declared.data.Node.{Node}
 use Rattle.ufs_model.specs.declared.data.Node.TheVariants.{Dir, File}
-use Rattle.ufs_prefix.specs.Explained.{IsNodeWith}
+use Rattle.ufs_crash_laws.specs.Explained.{IsNodeWith}
 use Rattle.ufs_ledger.specs.Ledger.{with_one, Ledger, IsLeft}
 use Rattle.ufs_ledger.specs.Changes.{settled}
 use Rattle.ufs_ledger.specs.Kept.{Numbers, Shape, shape_of}
 use Rattle.ufs_ledger.proofs.Shapes.{content_of}
-use Rattle.ufs_sound.specs.Shown.{node_of, nodes_of}
-use Rattle.ufs_sound.specs.Commits.{IsKeptFile, IsCommittedFile, AreNamesCommitted}
+use Rattle.ufs_hand_laws.specs.Shown.{node_of, nodes_of}
+use Rattle.ufs_hand_laws.specs.Commits.{IsKeptFile, IsCommittedFile, AreNamesCommitted}
 use Rattle.ufs_store_steps.specs.Files.{IsKeptShape, CommitsPaths}
 use Rattle.ufs_store_steps.specs.Steps.{NameCommitsMayGo, NameCommitsGo}
 use Rattle.ufs_store_steps.proofs.Cells.{ImageGoes}

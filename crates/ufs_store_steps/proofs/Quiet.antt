@@ -14,8 +14,8 @@ use Rattle.ufs_ledger.specs.Data.{KeepsData}
 use Rattle.ufs_ledger.specs.Kept.{Numbers}
 use Rattle.ufs_ledger.proofs.Mixing.{read_bytes}
 use Rattle.ufs_ledger.proofs.States.{on_one}
-use Rattle.ufs_sound.specs.Parts.{Cells}
-use Rattle.ufs_sound.specs.DiskBytes.{state_of}
+use Rattle.ufs_hand_laws.specs.Parts.{Cells}
+use Rattle.ufs_hand_laws.specs.DiskBytes.{state_of}
 use Rattle.ufs_store_steps.specs.Cells.{AreCellsOf}
 use Rattle.ufs_store_steps.specs.Steps.{BlocksRead, StoredHasFiles, IsBefore, QuietCallsOpenAlike, CheckpointsOpenAlike, EmptiedOpensAlike}
 use Rattle.ufs_store_steps.proofs.Within.{left_within}

@@ -11,11 +11,11 @@ use Rattle.ufs_ledger.specs.Ledger.{IsLeftBy}
 use Rattle.ufs_ledger.specs.Data.{KeepsData}
 use Rattle.ufs_ledger.specs.Changes.{committing, settled, beginning}
 use Rattle.ufs_model.specs.Start.{PathNodes}
-use Rattle.ufs_sound.specs.Owned.{Has}
-use Rattle.ufs_sound.specs.Parts.{Cells}
-use Rattle.ufs_sound.specs.Shown.{OpensAs}
-use Rattle.ufs_sound.specs.Commits.{TreesGo, TreesMayGo, IsFileCommitted, AreNamesCommitted}
-use Rattle.ufs_sound.specs.Meets.{AreFilesWrittenBy}
+use Rattle.ufs_hand_laws.specs.Owned.{Has}
+use Rattle.ufs_hand_laws.specs.Parts.{Cells}
+use Rattle.ufs_hand_laws.specs.Shown.{OpensAs}
+use Rattle.ufs_hand_laws.specs.Commits.{TreesGo, TreesMayGo, IsFileCommitted, AreNamesCommitted}
+use Rattle.ufs_hand_laws.specs.Meets.{AreFilesWrittenBy}
 use Rattle.ufs_store_steps.specs.Cells.{cells_of}
 use Rattle.ufs_store_steps.specs.Runs.{WentThrough, passed_cells, LastIsPassed, QuietRuns, CheckpointRuns, WriteRuns, FileCommitRuns, NameCommitRuns}
 use Rattle.ufs_store_steps.proofs.Cells.{cells_are_there}

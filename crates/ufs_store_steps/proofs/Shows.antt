@@ -28,15 +28,15 @@ use Rattle.ufs_model.specs.PosixTree.{Paths}
 use Rattle.ufs_model.proofs.Facts.Orders.{path_total}
 use Rattle.ufs_model.specs.declared.data.Node.{Node}
 use Rattle.ufs_model.specs.declared.data.Node.TheVariants.{Dir, File}
-use Rattle.ufs_prefix.specs.Explained.{IsNodeWith, IsTreeWith}
-use Rattle.ufs_prefix.proofs.Facts.Mapped.{get-mapped}
+use Rattle.ufs_crash_laws.specs.Explained.{IsNodeWith, IsTreeWith}
+use Rattle.ufs_crash_laws.proofs.Facts.Mapped.{get-mapped}
 use Rattle.ufs_ledger.specs.Ledger.{IsDataBlock, is_held, Stand, IsLeft}
 use Rattle.ufs_ledger.specs.Data.{KeepsData}
 use Rattle.ufs_ledger.specs.Kept.{Numbers, Shape, shape_of, path_node_of, paths_of}
 use Rattle.ufs_ledger.proofs.Held.{unheld_block}
 use Rattle.ufs_ledger.proofs.Opened.{has_paths, same_image, is_volume}
 use Rattle.ufs_ledger.proofs.Shapes.{Pick, content_of}
-use Rattle.ufs_sound.specs.Shown.{node_of, nodes_of}
+use Rattle.ufs_hand_laws.specs.Shown.{node_of, nodes_of}
 use Rattle.ufs_store_steps.specs.Files.{HasFiles}
 
 -- what stands there, where a file's bytes are these

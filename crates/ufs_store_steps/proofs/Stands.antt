@@ -18,8 +18,8 @@ use Rattle.ufs_ledger.specs.Changes.{committing, committed_one, settled, beginni
 use Rattle.ufs_ledger.specs.Data.{KeepsData}
 use Rattle.ufs_ledger.specs.Kept.{Numbers, shape_of}
 use Rattle.ufs_ledger.proofs.States.{on_one}
-use Rattle.ufs_sound.specs.Parts.{Cells}
-use Rattle.ufs_sound.specs.Shown.{nodes_of}
+use Rattle.ufs_hand_laws.specs.Parts.{Cells}
+use Rattle.ufs_hand_laws.specs.Shown.{nodes_of}
 use Rattle.ufs_store_steps.specs.Files.{HasFiles}
 use Rattle.ufs_store_steps.specs.Steps.{IsBefore}
 use Rattle.ufs_store_steps.proofs.Within.{left_within}

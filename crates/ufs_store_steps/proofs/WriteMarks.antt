@@ -11,13 +11,13 @@ use Rattle.ufs_model.specs.PosixTree.{Paths}
 use Rattle.ufs_ledger.specs.Ledger.{IsDataBlock, is_held, Ledger, IsLedgerOf}
 use Rattle.ufs_ledger.specs.Changes.{settled, rewritten, written, tried}
 use Rattle.ufs_ledger.specs.Kept.{Numbers}
-use Rattle.ufs_sound.specs.Commits.{TreesGo, TreesMayGo}
-use Rattle.ufs_sound.specs.DiskBytes.{block_on, block_in, is_loaded}
-use Rattle.ufs_sound.specs.Meets.{AreFilesWrittenBy}
-use Rattle.ufs_sound.specs.Owned.{Has}
-use Rattle.ufs_sound.specs.Parts.{Cells, FilePart, StorePart, View, Start, uses, committed}
-use Rattle.ufs_sound.specs.Shown.{OpensAs, SameTreesShow}
-use Rattle.ufs_sound.proofs.Meets.{passages_may, failures_may, writes_are_done}
+use Rattle.ufs_hand_laws.specs.Commits.{TreesGo, TreesMayGo}
+use Rattle.ufs_hand_laws.specs.DiskBytes.{block_on, block_in, is_loaded}
+use Rattle.ufs_hand_laws.specs.Meets.{AreFilesWrittenBy}
+use Rattle.ufs_hand_laws.specs.Owned.{Has}
+use Rattle.ufs_hand_laws.specs.Parts.{Cells, FilePart, StorePart, View, Start, uses, committed}
+use Rattle.ufs_hand_laws.specs.Shown.{OpensAs, SameTreesShow}
+use Rattle.ufs_hand_laws.proofs.Meets.{passages_may, failures_may, writes_are_done}
 use Rattle.ufs_store_steps.specs.Cells.{cells_of}
 use Rattle.ufs_store_steps.specs.Steps.{IsBefore}
 use Rattle.ufs_store_steps.specs.Runs.{passed_cells}

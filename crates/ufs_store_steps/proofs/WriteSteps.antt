@@ -15,7 +15,7 @@ use Rattle.ufs_image.proofs.Lists.{IsIn}
 use Rattle.ufs_model.specs.PosixTree.{Paths}
 use Rattle.ufs_model.specs.declared.data.Node.{Node}
 use Rattle.ufs_model.specs.declared.data.Node.TheVariants.{Dir, File}
-use Rattle.ufs_prefix.specs.FileChanges.{byte_at}
+use Rattle.ufs_crash_laws.specs.FileChanges.{byte_at}
 use Rattle.ufs_ledger.specs.Ledger.{IsDataBlock, Ledger, IsLeft}
 use Rattle.ufs_ledger.specs.Changes.{rewritten, written}
 use Rattle.ufs_ledger.specs.Kept.{Numbers, Shape, shape_of}
@@ -24,10 +24,10 @@ use Rattle.ufs_ledger.proofs.Mixing.{IsEither, block_either, byte_taken, elsewhe
 use Rattle.ufs_ledger.proofs.Shapes.{Pick, content_of, IsAt, at_place, blocks_length}
 use Rattle.ufs_ledger.proofs.States.{on_one, writing}
 use Rattle.ufs_ledger.proofs.Writing.{apart_of}
-use Rattle.ufs_sound.specs.Parts.{Cells, StorePart, View}
-use Rattle.ufs_sound.specs.Shown.{node_of, nodes_of}
-use Rattle.ufs_sound.specs.Commits.{IsWrittenBack}
-use Rattle.ufs_sound.specs.Meets.{IsFileWrittenBy, AreFilesWrittenBy}
+use Rattle.ufs_hand_laws.specs.Parts.{Cells, StorePart, View}
+use Rattle.ufs_hand_laws.specs.Shown.{node_of, nodes_of}
+use Rattle.ufs_hand_laws.specs.Commits.{IsWrittenBack}
+use Rattle.ufs_hand_laws.specs.Meets.{IsFileWrittenBy, AreFilesWrittenBy}
 use Rattle.ufs_store_steps.specs.Steps.{IsBefore, WritesItsFiles, WritesGo}
 use Rattle.ufs_store_steps.proofs.Within.{left_within}
 use Rattle.ufs_store_steps.proofs.Cells.{ImageGoes, cells_go}

@@ -2,7 +2,7 @@
 use Rattle.std.specs.Prelude.{ℕ, ◌≡◌, ◌<◌, length, map, Some, slice_get}
 use Rattle.std.specs.List.{range_with_len}
 use Rattle.ufs_disk.specs.Disk.{State}
-use Rattle.ufs_sound.specs.Parts.{Cells}
+use Rattle.ufs_hand_laws.specs.Parts.{Cells}
 
 -- of a disk of so many sectors
 abbrev pub cells_of : ℕ → State → Cells

@@ -6,7 +6,7 @@ use Rattle.ufs_image.specs.Catalog.{IsInode, HasBlock}
 use Rattle.ufs_layout.specs.declared.geometry.Geometry.{Geometry}
 use Rattle.ufs_model.specs.PosixTree.{Paths}
 use Rattle.ufs_model.specs.declared.data.Node.TheVariants.{File}
-use Rattle.ufs_prefix.specs.FileChanges.{byte_at}
+use Rattle.ufs_crash_laws.specs.FileChanges.{byte_at}
 use Rattle.ufs_ledger.specs.Ledger.{is_held, Stand}
 use Rattle.ufs_ledger.specs.Kept.{Numbers, IsNumberedBy, shape_of, MayHave}
 

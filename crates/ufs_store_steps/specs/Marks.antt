@@ -11,20 +11,20 @@ use Rattle.ufs_layout.specs.declared.records.Committed.{Committed}
 use Rattle.ufs_layout.specs.declared.superblock.Super.{Super}
 use Rattle.ufs_model.specs.FileBytes.{bytes_of}
 use Rattle.ufs_model.specs.PosixTree.{Paths}
-use Rattle.ufs_prefix.specs.Changes.{names_of}
-use Rattle.ufs_prefix.specs.FileChanges.{all_changed}
+use Rattle.ufs_crash_laws.specs.Changes.{names_of}
+use Rattle.ufs_crash_laws.specs.FileChanges.{all_changed}
 use Rattle.ufs_ledger.specs.Ledger.{IsDataBlock, is_held, with_one, Ledger, IsLeftBy, IsLedgerOf}
 use Rattle.ufs_ledger.specs.Data.{KeepsData}
 use Rattle.ufs_ledger.specs.Changes.{committing, committed_one, settled, beginning, emptied}
 use Rattle.ufs_ledger.specs.Kept.{Numbers}
-use Rattle.ufs_sound.specs.Owned.{Has, times}
-use Rattle.ufs_sound.specs.Parts.{FilePart, NamesPart, StorePart, View, Start, uses, committed}
-use Rattle.ufs_sound.specs.DiskBytes.{is_loaded}
-use Rattle.ufs_sound.specs.Marks.{IsMadeBy}
-use Rattle.ufs_sound.specs.Commits.{AreFresh}
-use Rattle.ufs_sound.specs.Meets.{HaveTheirBytes}
-use Rattle.ufs_sound.specs.Events.{MayCommitFile, MayCommitNames, Failure, MayFail, MayCheckpoint}
-use Rattle.ufs_sound.specs.ByImages.{by_images}
+use Rattle.ufs_hand_laws.specs.Owned.{Has, times}
+use Rattle.ufs_hand_laws.specs.Parts.{FilePart, NamesPart, StorePart, View, Start, uses, committed}
+use Rattle.ufs_hand_laws.specs.DiskBytes.{is_loaded}
+use Rattle.ufs_hand_laws.specs.Marks.{IsMadeBy}
+use Rattle.ufs_hand_laws.specs.Commits.{AreFresh}
+use Rattle.ufs_hand_laws.specs.Meets.{HaveTheirBytes}
+use Rattle.ufs_hand_laws.specs.Events.{MayCommitFile, MayCommitNames, Failure, MayFail, MayCheckpoint}
+use Rattle.ufs_hand_laws.specs.ByImages.{by_images}
 use Rattle.ufs_store_steps.specs.Cells.{cells_of}
 use Rattle.ufs_store_steps.specs.Files.{CommitsBytes, CommitsPaths}
 use Rattle.ufs_store_steps.specs.Steps.{IsBefore}

@@ -14,11 +14,11 @@ use Rattle.ufs_ledger.specs.Data.{KeepsData}
 use Rattle.ufs_ledger.specs.Changes.{committing, settled, beginning}
 use Rattle.ufs_ledger.specs.Kept.{Numbers}
 use Rattle.ufs_ledger.specs.Laws.{MayWrite}
-use Rattle.ufs_sound.specs.Owned.{Has}
-use Rattle.ufs_sound.specs.Parts.{Cells, StorePart, View}
-use Rattle.ufs_sound.specs.Shown.{OpensAs}
-use Rattle.ufs_sound.specs.Commits.{TreesMayGo, IsFileCommitted, AreNamesCommitted}
-use Rattle.ufs_sound.specs.Meets.{AreFilesWrittenBy}
+use Rattle.ufs_hand_laws.specs.Owned.{Has}
+use Rattle.ufs_hand_laws.specs.Parts.{Cells, StorePart, View}
+use Rattle.ufs_hand_laws.specs.Shown.{OpensAs}
+use Rattle.ufs_hand_laws.specs.Commits.{TreesMayGo, IsFileCommitted, AreNamesCommitted}
+use Rattle.ufs_hand_laws.specs.Meets.{AreFilesWrittenBy}
 use Rattle.ufs_store_steps.specs.Cells.{cells_of}
 use Rattle.ufs_store_steps.specs.Files.{CommitsBytes, CommitsPaths}
 use Rattle.ufs_store_steps.specs.Steps.{IsBefore, WritesItsFiles}

@@ -14,19 +14,19 @@ use Rattle.ufs_image.specs.Sound.{IsSoundCatalog}
 use Rattle.ufs_model.specs.FileBytes.{bytes_of}
 use Rattle.ufs_model.specs.PosixTree.{PosixTree, Paths}
 use Rattle.ufs_model.specs.declared.data.Entry.{Entry}
-use Rattle.ufs_prefix.specs.Changes.{changes_of, names_after}
-use Rattle.ufs_prefix.specs.FileChanges.{all_changed, byte_at}
+use Rattle.ufs_crash_laws.specs.Changes.{changes_of, names_after}
+use Rattle.ufs_crash_laws.specs.FileChanges.{all_changed, byte_at}
 use Rattle.ufs_ledger.specs.Ledger.{IsDataBlock, is_held, Stand, CoversDirs, with_one, Ledger, IsLeftBy, IsLedgerOf}
 use Rattle.ufs_ledger.specs.Data.{KeepsData}
 use Rattle.ufs_ledger.specs.Changes.{committing, committed_one, settled, beginning, emptied}
 use Rattle.ufs_ledger.specs.Kept.{Numbers, shape_of, IsStandStored, IsStandKept}
 use Rattle.ufs_ledger.specs.Laws.{MayWrite, MayCommitFile}
-use Rattle.ufs_sound.specs.Owned.{Has}
-use Rattle.ufs_sound.specs.Parts.{Cells, FilePart, StorePart, View}
-use Rattle.ufs_sound.specs.DiskBytes.{block_on}
-use Rattle.ufs_sound.specs.Shown.{OpensAs}
-use Rattle.ufs_sound.specs.Commits.{TreesGo, TreesMayGo, IsFileCommitted, AreNamesCommitted}
-use Rattle.ufs_sound.specs.Meets.{AreFilesWrittenBy}
+use Rattle.ufs_hand_laws.specs.Owned.{Has}
+use Rattle.ufs_hand_laws.specs.Parts.{Cells, FilePart, StorePart, View}
+use Rattle.ufs_hand_laws.specs.DiskBytes.{block_on}
+use Rattle.ufs_hand_laws.specs.Shown.{OpensAs}
+use Rattle.ufs_hand_laws.specs.Commits.{TreesGo, TreesMayGo, IsFileCommitted, AreNamesCommitted}
+use Rattle.ufs_hand_laws.specs.Meets.{AreFilesWrittenBy}
 use Rattle.ufs_store_steps.specs.Cells.{cells_of, AreCellsOf}
 use Rattle.ufs_store_steps.specs.Files.{HasFiles, CommitsBytes, CommitsPaths}
 

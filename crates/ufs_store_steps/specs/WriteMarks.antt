@@ -11,12 +11,12 @@ use Rattle.ufs_ledger.specs.Ledger.{Stand, Ledger, IsLedgerOf}
 use Rattle.ufs_ledger.specs.Changes.{settled, tried, written}
 use Rattle.ufs_ledger.specs.Kept.{Numbers}
 use Rattle.ufs_ledger.specs.Laws.{MayWrite}
-use Rattle.ufs_sound.specs.Owned.{Has, times}
-use Rattle.ufs_sound.specs.Parts.{FilePart, StorePart, View, Start, uses}
-use Rattle.ufs_sound.specs.DiskBytes.{block_in, is_loaded}
-use Rattle.ufs_sound.specs.Meets.{HaveTheirBytes}
-use Rattle.ufs_sound.specs.Events.{IsLent, MayPass, MayFail}
-use Rattle.ufs_sound.specs.ByImages.{by_images}
+use Rattle.ufs_hand_laws.specs.Owned.{Has, times}
+use Rattle.ufs_hand_laws.specs.Parts.{FilePart, StorePart, View, Start, uses}
+use Rattle.ufs_hand_laws.specs.DiskBytes.{block_in, is_loaded}
+use Rattle.ufs_hand_laws.specs.Meets.{HaveTheirBytes}
+use Rattle.ufs_hand_laws.specs.Events.{IsLent, MayPass, MayFail}
+use Rattle.ufs_hand_laws.specs.ByImages.{by_images}
 use Rattle.ufs_store_steps.specs.Cells.{cells_of}
 use Rattle.ufs_store_steps.specs.Steps.{IsBefore, WritesItsFiles}
 use Rattle.ufs_store_steps.specs.Runs.{WentThrough, passed_cells}

@@ -5,8 +5,8 @@ ghost use Rattle.ufs_store_steps.specs.Runs.{CheckpointRuns, FileCommitRuns, Las
 ghost use Rattle.ufs_store_steps.specs.Steps.{BlocksRead, CellsAreThere, CheckpointsOpenAlike, EmptiedOpensAlike, FileCommitsGo, FileCommitsMayGo, FilesCommitBytes, NameCommitsGo, NameCommitsMayGo, QuietCallsOpenAlike, StoredHasFiles, WritesGo};
 ghost use Rattle.ufs_store_steps.specs.WriteMarks.{FailedBarriersMark, FailedWritesMark, QuietCallsMark, WritesMark};
 
+use ufs_hand_laws::images_show_trees;
 use ufs_layout::Geometry;
-use ufs_sound::images_show_trees;
 
 /// A disk's state as the sound state has it, and which files it has.
 pub fn cell_law(geometry: &Geometry)

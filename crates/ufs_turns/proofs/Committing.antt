@@ -6,11 +6,11 @@ use Rattle.ufs_bitmap.specs.Taking.{has}
 use Rattle.ufs_disk.specs.Disk.{IsWhole}
 use Rattle.ufs_ledger.specs.Ledger.{IsDataBlock}
 use Rattle.ufs_name_tree.specs.NameTable.{IsNameTable}
-use Rattle.ufs_sound.specs.Owned.{Has, each}
-use Rattle.ufs_sound.specs.Parts.{Cells}
+use Rattle.ufs_hand_laws.specs.Owned.{Has, each}
+use Rattle.ufs_hand_laws.specs.Parts.{Cells}
 use Rattle.ufs_store.specs.Refusals.{stop_after}
 use Rattle.ufs_store.specs.State.{StoreState, geometry_of_store}
-use Rattle.ufs_stored.specs.Parts.{TheNames}
+use Rattle.ufs_promise_laws.specs.Parts.{TheNames}
 use Rattle.ufs_joint.specs.Cells.{NamesCell, Start, StoreCell, View, store_since}
 use Rattle.ufs_joint.specs.Disks.{cell_of, states_behind}
 use Rattle.ufs_joint.specs.FileHands.{LeavesStore, WentOn}

@@ -2,8 +2,8 @@
 use Rattle.std.proofs.Common.{◌≡◌, ℕ, ◌≤◌, Bool, true, false, cond, leb, List, [], ◌∷◌, ◌++◌, sym, refl, ap, ◌∙◌, arith, leb-true}
 use Rattle.std.proofs.lemmas.List.{append-nil}
 use Rattle.ufs_model.specs.declared.data.PartName.TheVariants.{Store}
-use Rattle.ufs_sound.specs.Owned.{only, without}
-use Rattle.ufs_sound.specs.Parts.{is_store, later}
+use Rattle.ufs_hand_laws.specs.Owned.{only, without}
+use Rattle.ufs_hand_laws.specs.Parts.{is_store, later}
 use Rattle.ufs_joint.specs.Cells.{StoreCell, View, both_of, given_of, kept_of}
 use Rattle.ufs_turns.specs.HeldStore.{HasNothing, HasStoreAlone}
 use Rattle.ufs_turns.specs.Lent.{IsBeside}

@@ -6,10 +6,10 @@ use Rattle.ufs_bitmap.specs.Space.{Space}
 use Rattle.ufs_bitmap.proofs.SetLemmas.{has-difference, has-empty, has-union}
 use Rattle.ufs_layout.specs.Areas.{first_of_data}
 use Rattle.ufs_layout.specs.declared.geometry.Geometry.{Geometry}
-use Rattle.ufs_sound.specs.Owned.{Has, count, each}
+use Rattle.ufs_hand_laws.specs.Owned.{Has, count, each}
 use Rattle.ufs_store.specs.Blocks.{AreApart, AreInside, MovesLowest}
 use Rattle.ufs_store.specs.State.{StoreState}
-use Rattle.ufs_stored.specs.Parts.{Parts, ThePool, Unassigned}
+use Rattle.ufs_promise_laws.specs.Parts.{Parts, ThePool, Unassigned}
 use Rattle.ufs_joint.specs.Cells.{Start, StoreCell, View}
 use Rattle.ufs_joint.specs.Disks.{cell_of}
 use Rattle.ufs_joint.specs.Known.{Knows}

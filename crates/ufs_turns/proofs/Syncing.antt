@@ -6,13 +6,13 @@ use Rattle.std.specs.FinSet as set
 use Rattle.ufs_bitmap.specs.Blocks.{BlockSet}
 use Rattle.ufs_extent.specs.Runs.{IsRun}
 use Rattle.ufs_layout.specs.declared.geometry.Geometry.{Geometry}
-use Rattle.ufs_durable.specs.State.{DurableState, file_committed}
-use Rattle.ufs_on_disk.specs.Syncs.{IsSpaceOf, MaySync, SyncsMayBegin}
-use Rattle.ufs_sound.specs.DiskBytes as disk_bytes
-use Rattle.ufs_sound.specs.Owned.{Has}
+use Rattle.ufs_file_commits.specs.State.{DurableState, file_committed}
+use Rattle.ufs_event_laws.specs.Syncs.{IsSpaceOf, MaySync, SyncsMayBegin}
+use Rattle.ufs_hand_laws.specs.DiskBytes as disk_bytes
+use Rattle.ufs_hand_laws.specs.Owned.{Has}
 use Rattle.ufs_store.specs.State.{StoreState, geometry_of_store}
-use Rattle.ufs_stored.specs.Parts.{OneFile, Owner, Owns, Parts, ThePool, TheNames, Unassigned, durable_in}
-use Rattle.ufs_stored.specs.Sound.{IsFileSound, IsSoundServer}
+use Rattle.ufs_promise_laws.specs.Parts.{OneFile, Owner, Owns, Parts, ThePool, TheNames, Unassigned, durable_in}
+use Rattle.ufs_promise_laws.specs.Sound.{IsFileSound, IsSoundServer}
 use Rattle.ufs_joint.specs.Cells.{FileCell, Start, StoreCell, View}
 use Rattle.ufs_joint.specs.Disks.{cell_of, states_behind}
 use Rattle.ufs_joint.specs.FileHands.{CommitsFile, FailsFile, FileCommitsGoOn, FileCommitsMayEnd, FileFailuresGoOn, FileFailuresMayEnd, FileFetchesGoOn, FileFetchesMayEnd, FetchesFile, IsAsBegun, IsFetchHand, IsFurther, IsSyncHand, LeavesStore, WentOn, committed_turn, failed_turn, fetched_turn}
@@ -23,15 +23,15 @@ use Rattle.ufs_joint.proofs.Disks.{drop_behind, store_as_cell}
 use Rattle.ufs_joint.proofs.OneFile.{durable_is}
 use Rattle.ufs_disk.specs.Disk.{IsWhole}
 use Rattle.ufs_disk.specs.Moments.{all}
-use Rattle.ufs_on_disk.specs.Fetches.{IsFetched, IsNotedOn}
-use Rattle.ufs_on_disk.specs.Syncs.{HasFailed, HasSynced, HasWritten, LeavesStages}
-use Rattle.ufs_sound.specs.Owned.{each}
-use Rattle.ufs_sound.proofs.Owning.{has_append}
+use Rattle.ufs_event_laws.specs.Fetches.{IsFetched, IsNotedOn}
+use Rattle.ufs_event_laws.specs.Syncs.{HasFailed, HasSynced, HasWritten, LeavesStages}
+use Rattle.ufs_hand_laws.specs.Owned.{each}
+use Rattle.ufs_hand_laws.proofs.Owning.{has_append}
 use Rattle.ufs_store_steps.specs.Cells.{cells_of}
-use Rattle.ufs_stored.specs.Known.{Known}
+use Rattle.ufs_promise_laws.specs.Known.{Known}
 use Rattle.ufs_model.specs.declared.data.Entry.{Entry}
 use Rattle.std.proofs.lemmas.List.{length-append, map-append}
-use Rattle.ufs_sound.specs.Parts.{Cells, Stretch}
+use Rattle.ufs_hand_laws.specs.Parts.{Cells, Stretch}
 use Rattle.ufs_joint.specs.Cells.{store_since}
 use Rattle.std.specs.List.{slice_get}
 use Rattle.ufs_file.specs.Content.{IsContentOf}
@@ -44,7 +44,7 @@ use Rattle.ufs_turns.specs.Syncs.{HasNotPassed, HasPassed}
 use Rattle.ufs_turns.specs.Told.{fault_told, told_list}
 use Rattle.ufs_base.specs.Faults.{RoseTo, raised}
 use Rattle.ufs_store.specs.Refusals.{IsTold, stop_after}
-use Rattle.ufs_sound.specs.Owned.{one, times}
+use Rattle.ufs_hand_laws.specs.Owned.{one, times}
 use Rattle.std.proofs.lemmas.Bool.{leb-false, lt-leb}
 
 -- with fewer unassigned blocks

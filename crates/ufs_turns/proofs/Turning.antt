@@ -6,17 +6,17 @@ use Rattle.std.proofs.lemmas.List.{length-append, map-append}
 use Rattle.ufs_disk.specs.Disk.{IsWhole}
 use Rattle.ufs_disk.specs.Moments.{all}
 use Rattle.ufs_model.specs.declared.data.Entry.{Entry}
-use Rattle.ufs_sound.specs.Owned.{Has, one, times}
-use Rattle.ufs_sound.specs.Parts.{Cells, Stretch}
-use Rattle.ufs_sound.proofs.Owning.{has_append}
+use Rattle.ufs_hand_laws.specs.Owned.{Has, one, times}
+use Rattle.ufs_hand_laws.specs.Parts.{Cells, Stretch}
+use Rattle.ufs_hand_laws.proofs.Owning.{has_append}
 use Rattle.ufs_store.specs.Refusals.{IsTold}
 use Rattle.ufs_store.specs.State.{StoreState, geometry_of_store}
 use Rattle.ufs_store_steps.specs.Cells.{cells_of}
-use Rattle.ufs_stored.specs.Parts.{Parts}
+use Rattle.ufs_promise_laws.specs.Parts.{Parts}
 use Rattle.ufs_joint.specs.Cells.{Start, StoreCell, View, store_since}
 use Rattle.ufs_joint.specs.Disks.{cell_of, states_behind}
 use Rattle.ufs_joint.specs.FileHands.{IsAsBegun, LeavesStore, WentOn}
-use Rattle.ufs_stored.specs.Known.{Known}
+use Rattle.ufs_promise_laws.specs.Known.{Known}
 use Rattle.ufs_joint.specs.Known.{Knows}
 use Rattle.ufs_joint.specs.Turns.{AreFaultsTold, begun_at, rested, turn_begun}
 use Rattle.ufs_joint.proofs.Disks.{drop_behind, store_as_cell}

@@ -2,15 +2,15 @@
 use Rattle.std.specs.Prelude.{ℕ, ◌≡◌, ◌≤◌, ◌⊎◌, Bool, IsTrue, true, cond, List, [], ◌∷◌, length, Option}
 use Rattle.ufs_bitmap.specs.Blocks.{BlockSet}
 use Rattle.ufs_disk.specs.Moments.{all}
-use Rattle.ufs_durable.specs.State.{DurableState}
+use Rattle.ufs_file_commits.specs.State.{DurableState}
 use Rattle.ufs_joint.specs.Cells.{FileCell, Start, StoreCell, View}
 use Rattle.ufs_joint.specs.Checkpoints.{checkpoint_turn}
 use Rattle.ufs_joint.specs.Disks.{cell_of, states_behind}
 use Rattle.ufs_joint.specs.Moves.{blocks_moved}
 use Rattle.ufs_joint.specs.Picks.{Pick, picks_from}
 use Rattle.ufs_joint.specs.Turns.{Turn, turn_begun, turn_ended}
-use Rattle.ufs_sound.specs.Owned.{Has, each}
-use Rattle.ufs_sound.specs.Parts.{Cells, Stretch}
+use Rattle.ufs_hand_laws.specs.Owned.{Has, each}
+use Rattle.ufs_hand_laws.specs.Parts.{Cells, Stretch}
 use Rattle.ufs_store.specs.State.{StoreState, geometry_of_store}
 use Rattle.ufs_store_steps.specs.Cells.{cells_of}
 use Rattle.ufs_turns.specs.Told.{told_list}

@@ -2,7 +2,7 @@
 use Rattle.std.specs.Prelude.{ℕ, ◌≡◌, ◌≤◌, ◌⊎◌, Bool, IsTrue, true, cond, List, [], ◌∷◌, Option, None, Some}
 use Rattle.ufs_layout.specs.declared.records.LogRecord.{LogRecord}
 use Rattle.ufs_names.specs.Notes.{with_notes}
-use Rattle.ufs_sound.specs.Owned.{each}
+use Rattle.ufs_hand_laws.specs.Owned.{each}
 use Rattle.ufs_store.specs.Refusals.{IsTold, stop_after}
 use Rattle.ufs_store.specs.State.{StoreState, geometry_of_store}
 use Rattle.ufs_joint.specs.Cells.{NamesCell, StoreCell, View}

@@ -3,11 +3,11 @@ use Rattle.std.specs.Prelude.{ℕ, ◌≡◌, ◌⊎◌, Bool, IsTrue, None, Opt
 use Rattle.std.specs.FinSet as set
 use Rattle.ufs_bitmap.specs.Taking.{set_of}
 use Rattle.ufs_disk.specs.Moments.{LeavesOnly}
-use Rattle.ufs_durable.specs.Committing.{FitsInode}
-use Rattle.ufs_durable.specs.State.{DurableState, file_committed}
+use Rattle.ufs_file_commits.specs.Committing.{FitsInode}
+use Rattle.ufs_file_commits.specs.State.{DurableState, file_committed}
 use Rattle.ufs_joint.specs.Checkpoints.{HasBegunAnew}
 use Rattle.ufs_ledger.specs.Ledger.{Ledger}
-use Rattle.ufs_on_disk.specs.Syncs.{HasFailed, HasSynced, HasWritten, LeavesStages}
+use Rattle.ufs_event_laws.specs.Syncs.{HasFailed, HasSynced, HasWritten, LeavesStages}
 use Rattle.ufs_store.specs.Ledgers.{HasLedger, IsLeftByAny, beginning_next}
 use Rattle.ufs_store.specs.Refusals.{IsTold, stop_after}
 use Rattle.ufs_store.specs.State.{StoreState, geometry_of_store}

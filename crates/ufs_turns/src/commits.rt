@@ -22,8 +22,8 @@ use std::marker::Brand;
 use ufs_joint::{Event, Hand, HandTable, Naming, a_commit_of_names_ends};
 use ufs_layout::Geometry;
 use ufs_names::Names;
+use ufs_names_commit::commit_notes;
 use ufs_store::{Door, StoreFault};
-use ufs_synced::commit_notes;
 
 // What `commit_notes` tells, all together, where the store goes.
 fn commit_going<D: Door>(

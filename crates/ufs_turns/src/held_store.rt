@@ -4,8 +4,8 @@ ghost use Rattle.std.specs.FinSet as set;
 ghost use Rattle.ufs_bitmap.specs.Taking.{set_of};
 ghost use Rattle.ufs_layout.specs.Areas.{IsGeometry};
 ghost use Rattle.ufs_file.specs.Hand.{HasNeeded};
-ghost use Rattle.ufs_durable.specs.Fetching.{IsReadOn};
-ghost use Rattle.ufs_durable.specs.State.{file_committed, state_of};
+ghost use Rattle.ufs_file_commits.specs.Fetching.{IsReadOn};
+ghost use Rattle.ufs_file_commits.specs.State.{file_committed, state_of};
 ghost use Rattle.ufs_joint.specs.Cells.{FileCell, NamesCell, StoreCell};
 ghost use Rattle.ufs_joint.specs.Known.{Knows};
 ghost use Rattle.ufs_joint.specs.Turns.{MayEndTurn};
@@ -23,15 +23,15 @@ use crate::syncs::{sync_store, told_by, told_of};
 use std::marker::{Brand, Model};
 use std::sync::ledger::{Book, Ledger, Share};
 use ufs_bitmap::Pool;
-use ufs_durable::{FileCommits, fetch};
+use ufs_event_laws::file_sync_law;
 use ufs_file::FileHand;
+use ufs_file_commits::{FileCommits, fetch};
 use ufs_joint::{
     Event, Hand, HandTable, Naming, a_failed_commit_ends, a_file_is_committed, a_file_is_fetched,
 };
 use ufs_layout::Geometry;
 use ufs_model::{Desc, Op, PartName};
 use ufs_names::Names;
-use ufs_on_disk::file_sync_law;
 use ufs_store::{Door, StoreFault};
 
 /// A store, and the hand of the store's cell of session `N`, which goes with it. Contracts see the hand. The book counts the checkpoints

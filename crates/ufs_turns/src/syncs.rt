@@ -3,8 +3,8 @@ ghost use Rattle.std.specs.Prelude.{ℕ, ◌≡◌, ◌<◌, ◌-◌, ◌^◌, �
 ghost use Rattle.std.specs.FinSet as set;
 ghost use Rattle.ufs_extent.specs.Runs.{blocks_of};
 ghost use Rattle.ufs_layout.specs.Areas.{is_inode_number};
-ghost use Rattle.ufs_durable.specs.State.{IsNoted, state_of};
-ghost use Rattle.ufs_durable.specs.Writes.{AreDataBlocks};
+ghost use Rattle.ufs_file_commits.specs.State.{IsNoted, state_of};
+ghost use Rattle.ufs_file_commits.specs.Writes.{AreDataBlocks};
 ghost use Rattle.ufs_store.specs.Blocks.{MayReturn};
 ghost use Rattle.ufs_store.specs.Refusals.{fault_in, fault_of, is_no_space, stop_after};
 ghost use Rattle.ufs_store.specs.State.{geometry_of_store};
@@ -12,8 +12,8 @@ ghost use Rattle.ufs_store.specs.declared.fault.StoreFault.{StoreFault};
 ghost use Rattle.ufs_store.specs.declared.fault.StoreFault.TheVariants as refusal;
 ghost use Rattle.ufs_turns.specs.Syncs.{HasMade, HasPassed, HasNotPassed};
 
-use ufs_durable::{FileCommits, fitting_law, fsync};
 use ufs_file::FileHand;
+use ufs_file_commits::{FileCommits, fitting_law, fsync};
 use ufs_store::{Door, StoreFault};
 
 // What `fsync` tells, all together.

@@ -7,9 +7,9 @@ use Rattle.ufs_model.specs.PosixTree.{root_alone}
 use Rattle.ufs_model.specs.declared.data.PartName.TheVariants.{Store}
 use Rattle.ufs_names.specs.NamesPart.{IsNamesPart, NamesPart}
 use Rattle.ufs_names.specs.Notes.{with_notes}
-use Rattle.ufs_sound.specs.Owned.{count}
-use Rattle.ufs_sound.specs.Parts.{ClientPart}
-use Rattle.ufs_sound.specs.Whole.{idle_client}
+use Rattle.ufs_hand_laws.specs.Owned.{count}
+use Rattle.ufs_hand_laws.specs.Parts.{ClientPart}
+use Rattle.ufs_hand_laws.specs.Whole.{idle_client}
 use Rattle.ufs_store.specs.State.{StoreState}
 use Rattle.ufs_store.specs.declared.fault.StoreFault.{StoreFault}
 use Rattle.ufs_joint.specs.Cells.{NamesCell, View, both_of, kept_of}

@@ -7,7 +7,7 @@ use Rattle.ufs_image.specs.Journal.{committed}
 use Rattle.ufs_image.specs.Volume.{Volume, volume, volume_of, superblock_of}
 use Rattle.ufs_image.proofs.Journals.{taken}
 use Rattle.ufs_overlay.specs.Seen.{HasAdded}
-use Rattle.ufs_catalog.specs.Folded.{IsFolded}
+use Rattle.ufs_metadata.specs.Folded.{IsFolded}
 use Rattle.ufs_volume.specs.Journals.{AreFoldable}
 use Rattle.ufs_volume.specs.Volumes.{committed_in, folded_image, volume_in}
 use Rattle.ufs_volume.specs.declared.volume.FoldedVolume.{FoldedVolume}

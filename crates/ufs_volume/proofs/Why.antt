@@ -11,10 +11,10 @@ use Rattle.ufs_layout.proofs.Spelled.{some_if-some}
 use Rattle.ufs_image.specs.BadSectors.{bad_sector}
 use Rattle.ufs_image.specs.Volume.{Refusal, Volume, NoSuperblock, BadVersion, volume, volume_of, superblock_of, superblock_refusal, by_superblock, by_journal, lacks_magic, has_other_version, is_off_form}
 use Rattle.ufs_image.specs.Volume as image
-use Rattle.ufs_catalog.specs.Faults.{IsRefusal, IsWhyNot}
-use Rattle.ufs_catalog.specs.declared.fault.RecoverFault.{RecoverFault}
-use Rattle.ufs_catalog.specs.declared.fault.RecoverFault.TheVariants.{NoSuperblock as no_superblock, BadVersion as bad_version, BadGeometry as bad_geometry, BadRecord as bad_record, BadTree as bad_tree, Device, Lack}
-use Rattle.ufs_catalog.specs.declared.superblock.ImageSuperblock.{ImageSuperblock}
+use Rattle.ufs_metadata.specs.Faults.{IsRefusal, IsWhyNot}
+use Rattle.ufs_metadata.specs.declared.fault.RecoverFault.{RecoverFault}
+use Rattle.ufs_metadata.specs.declared.fault.RecoverFault.TheVariants.{NoSuperblock as no_superblock, BadVersion as bad_version, BadGeometry as bad_geometry, BadRecord as bad_record, BadTree as bad_tree, Device, Lack}
+use Rattle.ufs_metadata.specs.declared.superblock.ImageSuperblock.{ImageSuperblock}
 use Rattle.ufs_layout.specs.declared.geometry.Geometry.{Geometry}
 use Rattle.ufs_layout.specs.declared.records.Committed.{Committed}
 use Rattle.ufs_image.specs.Journal.{committed}

@@ -8,9 +8,9 @@ use Rattle.ufs_layout.specs.declared.records.Committed.{Committed}
 use Rattle.ufs_image.specs.Fold.{is_in_range}
 use Rattle.ufs_scan.specs.declared.fault.ScanFault.{ScanFault}
 use Rattle.ufs_scan.specs.declared.fault.ScanFault.TheVariants as scan
-use Rattle.ufs_catalog.specs.Lacks.{IsOfNumbers}
-use Rattle.ufs_catalog.specs.declared.fault.RecoverFault.{RecoverFault}
-use Rattle.ufs_catalog.specs.declared.fault.RecoverFault.TheVariants.{NoSuperblock, BadVersion, BadGeometry, BadRecord, BadTree, Device, Lack}
+use Rattle.ufs_metadata.specs.Lacks.{IsOfNumbers}
+use Rattle.ufs_metadata.specs.declared.fault.RecoverFault.{RecoverFault}
+use Rattle.ufs_metadata.specs.declared.fault.RecoverFault.TheVariants.{NoSuperblock, BadVersion, BadGeometry, BadRecord, BadTree, Device, Lack}
 
 -- Each record of the transaction is on its form and in range.
 pub record IsFoldable (g : Geometry) (c : Committed) : Type 0 where

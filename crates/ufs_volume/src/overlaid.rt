@@ -7,15 +7,15 @@ ghost use Rattle.ufs_image.specs.Journal.{committed};
 ghost use Rattle.ufs_image.specs.BadSectors.{bad_sector};
 ghost use Rattle.ufs_overlay.specs.Over.{rise_above};
 ghost use Rattle.ufs_overlay.specs.Seen.{HasAdded, geometry_of};
-ghost use Rattle.ufs_catalog.specs.Faults.{BlamesNone, HasFaultCause, IsOutside};
-ghost use Rattle.ufs_catalog.specs.Reading.{IsReadOnly};
+ghost use Rattle.ufs_metadata.specs.Faults.{BlamesNone, HasFaultCause, IsOutside};
+ghost use Rattle.ufs_metadata.specs.Reading.{IsReadOnly};
 ghost use Rattle.ufs_volume.specs.Journals.{AreFoldable, IsFoldable, IsJournalRefusal, of_scan};
 
 use crate::form::can_fold;
 use std::alloc::Global;
-use ufs_catalog::{ImageSuperblock, RecoverFault};
 use ufs_disk::Disk;
 use ufs_layout::{Committed, CommittedList, Geometry};
+use ufs_metadata::{ImageSuperblock, RecoverFault};
 use ufs_overlay::Overlay;
 use ufs_scan::{ScanFault, scan};
 

@@ -5,8 +5,8 @@ ghost use Rattle.ufs_layout.specs.Areas.{sector_count};
 ghost use Rattle.ufs_image.specs.Volume.{volume};
 ghost use Rattle.ufs_overlay.specs.Over.{rise_above};
 ghost use Rattle.ufs_overlay.specs.Seen.{HasAdded};
-ghost use Rattle.ufs_catalog.specs.Faults.{BlamesNone, HasFaultCause, IsOutside, IsWhyNot};
-ghost use Rattle.ufs_catalog.specs.Reading.{IsReadOnly};
+ghost use Rattle.ufs_metadata.specs.Faults.{BlamesNone, HasFaultCause, IsOutside, IsWhyNot};
+ghost use Rattle.ufs_metadata.specs.Reading.{IsReadOnly};
 ghost use Rattle.ufs_volume.specs.Journals.{AreFoldable};
 ghost use Rattle.ufs_volume.specs.Volumes.{committed_in, highest_number, volume_in};
 
@@ -14,9 +14,9 @@ use crate::overlaid::{overlay_of, read_journal};
 use crate::volume::FoldedVolume;
 use std::alloc::Global;
 use ufs_base::Lack;
-use ufs_catalog::{ImageSuperblock, RecoverFault, read_superblock};
 use ufs_disk::Disk;
 use ufs_layout::{Committed, CommittedList};
+use ufs_metadata::{ImageSuperblock, RecoverFault, read_superblock};
 
 fn highest_number(list: &[Committed]) -> u64
     ensures { result ≡ highest_number list.now }

@@ -1,7 +1,7 @@
 ghost use Rattle.std.specs.Prelude.{◌≡◌};
 ghost use Rattle.ufs_overlay.specs.Seen.{geometry_of};
 
-use ufs_catalog::ImageSuperblock;
+use ufs_metadata::ImageSuperblock;
 use ufs_overlay::Overlay;
 
 /// A volume: its superblock, and the transactions that are committed in its journal and may not be home yet.

@@ -9,7 +9,7 @@ use Rattle.ufs_model.specs.declared.data.Actor.TheVariants as actor
 use Rattle.ufs_joint.specs.Cells.{FileCell, Start, View}
 use Rattle.ufs_joint.specs.Codes.{file_code}
 use Rattle.ufs_msg.specs.There.{IsServerThere}
-use Rattle.ufs_first_hand.specs.FirstHand.{HasPoolAlone, pool_of}
+use Rattle.ufs_joint.specs.FirstHand.{HasPoolAlone, pool_of}
 use Rattle.ufs_serving.specs.Pools.{most_at_rest}
 use Rattle.ufs_serving.specs.Posts.{Said, said_code}
 

@@ -10,18 +10,17 @@ ghost use Rattle.ufs_msg.specs.Answers.{Told};
 ghost use Rattle.ufs_msg.specs.Requests.{HasClientAlone};
 ghost use Rattle.ufs_msg.specs.There.{IsByHint, IsServerThere, is_by_hint};
 ghost use Rattle.ufs_msg.specs.declared.answer.Answer.TheVariants as answer;
-ghost use Rattle.ufs_prefix.specs.Changes.{asks_commit};
-ghost use Rattle.ufs_sound.specs.Parts.{ClientPart};
-ghost use Rattle.ufs_first_hand.specs.FirstHand.{HasPoolAlone, pool_of};
+ghost use Rattle.ufs_crash_laws.specs.Changes.{asks_commit};
+ghost use Rattle.ufs_hand_laws.specs.Parts.{ClientPart};
+ghost use Rattle.ufs_joint.specs.FirstHand.{HasPoolAlone, pool_of};
 ghost use Rattle.ufs_serving.specs.Pools.{most_at_rest};
 ghost use Rattle.ufs_serving.specs.Serving.{IsDoneAt, IsServedBy};
 
 use ufs_bitmap::Pool;
-use ufs_held::{HeldFile, Served};
+use ufs_held::{HeldFile, Parcel, Served};
 use ufs_joint::{Hand, HandTable, Naming};
 use ufs_model::{Actor, Ask, Op};
 use ufs_msg::{Answer, Request};
-use ufs_parcel::Parcel;
 use ufs_serving::{know, pool_number, serve_change, serve_sync, served_answer};
 use ufs_turns::Turns;
 

@@ -6,8 +6,8 @@ ghost use Rattle.ufs_worker.specs.Worker.{filled};
 
 use std::collections::BTreeMap;
 use ufs_base::Memory;
+use ufs_held::Parcel;
 use ufs_joint::Naming;
-use ufs_parcel::Parcel;
 
 /// A file gets a place. At want of memory it comes back.
 pub(crate) fn make_place<N: Naming>(

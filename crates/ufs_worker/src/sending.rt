@@ -7,10 +7,10 @@ ghost use Rattle.ufs_msg.specs.declared.letter.Letter.TheVariants as letter;
 ghost use Rattle.ufs_serving.specs.Sending.{GoInOrder};
 
 use std::collections::VecDeque;
+use ufs_held::Parcel;
 use ufs_joint::Naming;
 use ufs_model::Actor;
 use ufs_msg::{Letter, ServerPost};
-use ufs_parcel::Parcel;
 
 /// Sends the files in order, until all went or one comes back, which stays in front.
 pub(crate) fn send_kept<N: Naming, Q: ServerPost<N, Letter<Parcel<N>>>>(

@@ -10,9 +10,9 @@ use std::collections::{BTreeMap, VecDeque};
 use std::marker::Model;
 use ufs_base::Memory;
 use ufs_bitmap::Pool;
+use ufs_held::Parcel;
 use ufs_joint::{Hand, HandTable, Naming};
 use ufs_msg::{Answer, Letter, Request, ServerPost};
-use ufs_parcel::Parcel;
 use ufs_turns::Turns;
 
 /// Files by their numbers, and letters to the primary in their order. A file that comes brings the room that it needs to go.
@@ -48,7 +48,7 @@ impl<N: Naming> Shelf<N> {
     ghost use Rattle.ufs_msg.specs.There.{IsByHint, IsServerThere};
     ghost use Rattle.ufs_msg.specs.declared.answer.Answer.TheVariants as answer;
     ghost use Rattle.ufs_msg.specs.declared.letter.Letter.TheVariants as letter;
-    ghost use Rattle.ufs_first_hand.specs.FirstHand.{HasPoolAlone, pool_of};
+    ghost use Rattle.ufs_joint.specs.FirstHand.{HasPoolAlone, pool_of};
     ghost use Rattle.ufs_serving.specs.Pools.{most_at_rest};
     ghost use Rattle.ufs_serving.specs.Sending.{GoInOrder};
     ghost use Rattle.ufs_serving.specs.Serving.{IsServedBy};

@@ -8,9 +8,9 @@ use std::collections::VecDeque;
 use std::marker::Model;
 use ufs_base::Memory;
 use ufs_bitmap::Pool;
+use ufs_held::Parcel;
 use ufs_joint::{Hand, HandTable, Naming};
 use ufs_msg::{Answer, Letter, ServerPost};
-use ufs_parcel::Parcel;
 use ufs_serving::{file_asked, send_answers};
 use ufs_turns::Turns;
 
@@ -48,7 +48,7 @@ impl<N: Naming> Worker<N> {
     ghost use Rattle.ufs_model.specs.declared.data.Actor.TheVariants.{Primary, Worker as worker};
     ghost use Rattle.ufs_msg.specs.There.{IsServerThere};
     ghost use Rattle.ufs_msg.specs.declared.letter.Letter.TheVariants as letter;
-    ghost use Rattle.ufs_first_hand.specs.FirstHand.{HasPoolAlone, pool_of};
+    ghost use Rattle.ufs_joint.specs.FirstHand.{HasPoolAlone, pool_of};
     ghost use Rattle.ufs_serving.specs.Pools.{most_at_rest};
     ghost use Rattle.ufs_worker.specs.Turns.{IsAskDone, IsFrontDone, IsLetterDone, IsNextDone, IsObeyed, IsTaken, IsTurn, KeptGoes};
     ghost use Rattle.ufs_worker.specs.declared.turn.WorkerTurn.TheVariants as turn;

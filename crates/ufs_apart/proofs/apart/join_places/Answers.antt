@@ -1,5 +1,5 @@
 use Rattle.std.proofs.Common.{ap, sym, ◌∙◌}
-use Rattle.ufs_sound.specs.Parts.{View}
+use Rattle.ufs_hand_laws.specs.Parts.{View}
 use Rattle.ufs_apart.specs.Apart.{joined_places}
 use Rattle.ufs_apart.proofs.Places.{no_entry, one_less}
 use Rattle.ufs_apart.proofs.apart.join_places.Goals as goal

@@ -1,12 +1,12 @@
 use Rattle.std.proofs.Common.{◌≡◌, ◌+◌, ◌++◌, ◌∷◌, [], ℕ, List, drop, is_some, map, ap, sym, ◌∙◌, append_assoc}
 use Rattle.std.proofs.lemmas.List.{map-append}
 use Rattle.std.specs.FinMap as fin
-use Rattle.ufs_durable.specs.State.{DurableState, state_of}
+use Rattle.ufs_file_commits.specs.State.{DurableState, state_of}
 use Rattle.ufs_file.specs.Hand.{FileState}
-use Rattle.ufs_first_hand.specs.FirstHand.{file_first}
+use Rattle.ufs_joint.specs.FirstHand.{file_first}
 use Rattle.ufs_model.proofs.Facts.Lookups.{same_some}
 use Rattle.ufs_noted.specs.declared.known.KnownFile.{KnownFile}
-use Rattle.ufs_stored.specs.Parts.{committed_as}
+use Rattle.ufs_promise_laws.specs.Parts.{committed_as}
 use Rattle.ufs_begin_hands.specs.Values.{value_of, values_first}
 use Rattle.ufs_begin_hands.proofs.Knowing.{at, drop_is, first_has, number_is, rest_has, rest_other, stands}
 use Rattle.ufs_begin_hands.proofs.files.known_files.Goals as goal

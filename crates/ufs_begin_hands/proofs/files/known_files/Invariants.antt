@@ -1,8 +1,8 @@
 use Rattle.std.proofs.Common.{◌≡◌, ◌++◌, ℕ, drop, map, Some}
 use Rattle.std.specs.FinMap as fin
 use Rattle.ufs_file.specs.Hand.{FileState}
-use Rattle.ufs_first_hand.specs.FirstHand.{file_first}
-use Rattle.ufs_sound.specs.Owned.{Has}
+use Rattle.ufs_joint.specs.FirstHand.{file_first}
+use Rattle.ufs_hand_laws.specs.Owned.{Has}
 use Rattle.ufs_begin_hands.specs.Values.{value_of, values_first}
 use Rattle.ufs_begin_hands.proofs.files.known_files.Given as goal
 

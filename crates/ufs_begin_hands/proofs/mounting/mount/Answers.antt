@@ -1,7 +1,7 @@
 use Rattle.std.proofs.Common.{◌≡◌, ◌≤◌, [], refl, ap, sym, ◌∙◌, subst}
 use Rattle.ufs_base.specs.Images.{Image}
-use Rattle.ufs_catalog.specs.Lacks.{IsOfNumbers}
-use Rattle.ufs_catalog.specs.declared.fault.RecoverFault.TheVariants.{Lack}
+use Rattle.ufs_metadata.specs.Lacks.{IsOfNumbers}
+use Rattle.ufs_metadata.specs.declared.fault.RecoverFault.TheVariants.{Lack}
 use Rattle.ufs_disk.specs.Moments.{Moments, reads}
 use Rattle.ufs_disk.proofs.Runs.{started, weaker}
 use Rattle.ufs_image.specs.Volume.{Volume, superblock_of}
@@ -18,10 +18,10 @@ use Rattle.ufs_start.specs.Begun.{IsBegun, volume_under}
 use Rattle.ufs_store.specs.Mounting.{marking}
 use Rattle.ufs_store.specs.State.{StoreState}
 use Rattle.ufs_store.specs.Tables.{state_of}
-use Rattle.ufs_stored.specs.OnDisk.{IsExplainedBetween, IsExplainedImage}
+use Rattle.ufs_promise_laws.specs.OnDisk.{IsExplainedBetween, IsExplainedImage}
 use Rattle.ufs_engine.specs.Laws.{IsReadClean, parts_of}
-use Rattle.ufs_first_hand.specs.FirstHand.{Beginning, with_store}
-use Rattle.ufs_first_hand.specs.Ready.{IsReady}
+use Rattle.ufs_joint.specs.FirstHand.{Beginning, with_store}
+use Rattle.ufs_joint.specs.Ready.{IsReady}
 use Rattle.ufs_begin_hands.specs.Mounted.{beginning_of}
 use Rattle.ufs_begin_hands.specs.Seen.{sees}
 use Rattle.ufs_begin_hands.proofs.Domains.{live_here}

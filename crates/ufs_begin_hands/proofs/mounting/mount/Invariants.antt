@@ -1,4 +1,4 @@
-use Rattle.ufs_first_hand.specs.FirstHand.{start_before}
+use Rattle.ufs_joint.specs.FirstHand.{start_before}
 use Rattle.ufs_begin_hands.specs.Mounted.{beginning_of}
 use Rattle.ufs_begin_hands.specs.Seen.{sees}
 use Rattle.ufs_begin_hands.proofs.mounting.mount.Given as goal

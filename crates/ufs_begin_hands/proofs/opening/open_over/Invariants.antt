@@ -1,4 +1,4 @@
-use Rattle.ufs_first_hand.specs.FirstHand.{with_store}
+use Rattle.ufs_joint.specs.FirstHand.{with_store}
 use Rattle.ufs_begin_hands.proofs.opening.open_over.Given as goal
 
 abbrev pub ghosts-parts_over : goal.ghosts-parts_over

@@ -2,13 +2,13 @@ use Rattle.std.proofs.Common.{◌≡◌, ◌++◌, eqb, List, [], ap, sym, refl,
 use Rattle.ufs_caller.specs.Hands.{IsIdleIn}
 use Rattle.ufs_dealt.specs.Dealt.{AreApart, rest_of, values_in, values_of}
 use Rattle.ufs_dealt.specs.First.{rest_first}
-use Rattle.ufs_first_hand.specs.FirstHand.{Beginning, names_first}
+use Rattle.ufs_joint.specs.FirstHand.{Beginning, names_first}
 use Rattle.ufs_held.specs.Together.{under_numbers}
 use Rattle.ufs_joint.specs.Cells.{Start, View, kept_of}
 use Rattle.ufs_joint.specs.Whole.{no_blocks}
 use Rattle.ufs_model.specs.PosixTree.{desc_at}
 use Rattle.ufs_model.specs.declared.data.PartName.TheVariants.{Asked, Client}
-use Rattle.ufs_sound.specs.Owned.{Has, without}
+use Rattle.ufs_hand_laws.specs.Owned.{Has, without}
 use Rattle.ufs_begin_hands_tests.specs.Mounted.{IsDealt}
 use Rattle.ufs_begin_hands_tests.proofs.Gathering.{dealt_files, dealt_pool, dealt_rest, is_apart, is_dealt, is_idle, primary}
 use Rattle.ufs_begin_hands_tests.proofs.session.deal_all.Goals as goal

@@ -2,7 +2,7 @@ use Rattle.std.proofs.Common.{◌<◌, [], ◌∷◌, ◌++◌, None, length, sy
 use Rattle.ufs_joint.specs.Cells.{View}
 use Rattle.ufs_joint.specs.Draws.{Leaves, MayDraw}
 use Rattle.ufs_model.specs.Asks.{fd_told}
-use Rattle.ufs_sound.specs.Draws.{entry_of}
+use Rattle.ufs_hand_laws.specs.Draws.{entry_of}
 use Rattle.ufs_caller.specs.Hands.{HasBoth}
 use Rattle.ufs_caller.specs.Own.{with_desc}
 use Rattle.ufs_caller.proofs.OwnDraw.{drew, fresh_of, left_is, may_draw_own}

@@ -1,7 +1,7 @@
 use Rattle.std.proofs.Common.{None, refl, sym, subst}
 use Rattle.ufs_joint.specs.Cells.{View}
 use Rattle.ufs_msg.specs.Answers.{IsTold}
-use Rattle.ufs_sound.specs.Draws.{entry_of}
+use Rattle.ufs_hand_laws.specs.Draws.{entry_of}
 use Rattle.ufs_caller_tests.proofs.Excusing.{excuse_of, may_excuse, told_so}
 use Rattle.ufs_caller_tests.proofs.stub.excused.Goals as goal
 

@@ -1,9 +1,9 @@
 use Rattle.std.proofs.Common.{◌≡◌, ◌+◌, ◌-◌, ◌*◌, ◌++◌, sym, subst, ◌∙◌, arith}
 use Rattle.std.specs.List.{range_with_len}
 use Rattle.ufs_base.specs.Images.{Image}
-use Rattle.ufs_catalog.specs.Folded.{IsFolded}
+use Rattle.ufs_metadata.specs.Folded.{IsFolded}
 use Rattle.ufs_image.specs.Damage.{BitmapDiffers, differing}
-use Rattle.ufs_catalog.proofs.Quiet.{read_more}
+use Rattle.ufs_metadata.proofs.Quiet.{read_more}
 use Rattle.ufs_check.proofs.Sectors.{bits_behind}
 use Rattle.ufs_check.proofs.bits.compare_bits.Goals as goal
 

@@ -2,11 +2,11 @@ use Rattle.std.proofs.Common.{◌≡◌, ◌*◌, ◌++◌, IsTrue, List, map}
 use Rattle.std.specs.List.{range_with_len}
 use Rattle.ufs_base.specs.Images.{Image}
 use Rattle.ufs_disk.specs.Moments.{reads}
-use Rattle.ufs_catalog.specs.Folded.{IsFolded}
+use Rattle.ufs_metadata.specs.Folded.{IsFolded}
 use Rattle.ufs_image.specs.Nodes.{Node}
 use Rattle.ufs_image.specs.Damage.{BitmapDiffers, differing}
 use Rattle.ufs_damage.specs.Taken.{AreTaken}
-use Rattle.ufs_catalog.specs.Reading.{IsReadOnly}
+use Rattle.ufs_metadata.specs.Reading.{IsReadOnly}
 use Rattle.ufs_check.proofs.bits.compare_bits.Given as goal
 
 abbrev pub invariant-loop-place : goal.invariant-loop-place

@@ -2,7 +2,7 @@ use Rattle.std.proofs.Common.{◌≡◌, ◌*◌, ◌++◌, ℕ, length, map, ap
 use Rattle.std.specs.List.{range_with_len}
 use Rattle.std.proofs.lemmas.Grind.{common_steps}
 use Rattle.ufs_image.specs.Damage.{BitmapDiffers, differing}
-use Rattle.ufs_catalog.specs.Reading.{AreSectors}
+use Rattle.ufs_metadata.specs.Reading.{AreSectors}
 use Rattle.ufs_check.proofs.bits.compare_block.Goals as goal
 
 pub returns-in-Ok-clause-told : goal.returns-in-Ok-clause-told

@@ -5,7 +5,7 @@ use Rattle.ufs_layout.specs.declared.geometry.Geometry.{Geometry}
 use Rattle.ufs_image.specs.Nodes.{Node}
 use Rattle.ufs_image.specs.Damage.{BitmapDiffers, differing}
 use Rattle.ufs_damage.specs.Taken.{AreTaken}
-use Rattle.ufs_catalog.specs.Reading.{AreSectors}
+use Rattle.ufs_metadata.specs.Reading.{AreSectors}
 use Rattle.ufs_check.proofs.bits.compare_sectors.Given as goal
 
 abbrev pub invariant-loop-i : goal.invariant-loop-i

@@ -4,10 +4,10 @@ use Rattle.ufs_base.specs.Images.{Image}
 use Rattle.ufs_disk.specs.Moments.{reads}
 use Rattle.ufs_image.specs.Damage.{Damage, damage}
 use Rattle.ufs_image.specs.Opens.{damage_list}
-use Rattle.ufs_catalog.specs.Faults.{BlamesNone, IsOutside, IsWhyNot}
-use Rattle.ufs_catalog.specs.Folded.{IsFolded}
-use Rattle.ufs_catalog.proofs.Outside.{outside_blames, why_outside}
-use Rattle.ufs_catalog.proofs.Quiet.{read_more}
+use Rattle.ufs_metadata.specs.Faults.{BlamesNone, IsOutside, IsWhyNot}
+use Rattle.ufs_metadata.specs.Folded.{IsFolded}
+use Rattle.ufs_metadata.proofs.Outside.{outside_blames, why_outside}
+use Rattle.ufs_metadata.proofs.Quiet.{read_more}
 use Rattle.ufs_volume.specs.Volumes.{folded_image, volume_in}
 use Rattle.ufs_volume.proofs.Folds.{is_folded}
 use Rattle.ufs_check.proofs.Listed.{why_volume, listed}

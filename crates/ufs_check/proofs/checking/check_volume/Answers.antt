@@ -1,4 +1,4 @@
-use Rattle.ufs_catalog.proofs.Quiet.{read_more}
+use Rattle.ufs_metadata.proofs.Quiet.{read_more}
 use Rattle.ufs_check.proofs.checking.check_volume.Goals as goal
 
 pub returns-in_err-compare_bits-clause-read_only : goal.returns-in_err-compare_bits-clause-read_only

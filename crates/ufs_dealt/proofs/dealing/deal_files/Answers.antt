@@ -1,6 +1,6 @@
 use Rattle.std.proofs.Common.{length, arith, ◌≡◌, ℕ, List, [], ◌∷◌, ◌++◌, ap, sym, refl, ◌∙◌}
 use Rattle.std.proofs.lemmas.List.{append-nil}
-use Rattle.ufs_durable.specs.State.{DurableState}
+use Rattle.ufs_file_commits.specs.State.{DurableState}
 use Rattle.ufs_held.specs.Together.{under_numbers}
 use Rattle.ufs_joint.specs.Cells.{FileCell, View}
 use Rattle.ufs_noted.specs.declared.known.KnownFile.{KnownFile}

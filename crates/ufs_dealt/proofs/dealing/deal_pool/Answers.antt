@@ -1,6 +1,6 @@
 use Rattle.std.proofs.Common.{sym, ◌∙◌, subst}
 use Rattle.ufs_model.specs.declared.data.PartName.TheVariants.{File}
-use Rattle.ufs_first_hand.specs.FirstHand.{HasPoolAlone}
+use Rattle.ufs_joint.specs.FirstHand.{HasPoolAlone}
 use Rattle.ufs_dealt.specs.Dealt.{AreApart}
 use Rattle.ufs_dealt.proofs.Hands.{kept_apart, left_pool, pool_alone}
 use Rattle.ufs_dealt.proofs.dealing.deal_pool.Goals as goal

@@ -9,7 +9,7 @@ use Rattle.ufs_recovery.specs.Recovered.{IsCleanDisk, IsProperDisk}
 use Rattle.ufs_session.proofs.ThroughoutLemmas.{between_joined}
 use Rattle.ufs_start.specs.Begun.{IsBegun}
 use Rattle.ufs_start.specs.Refused.{HasStartCause}
-use Rattle.ufs_stored.specs.OnDisk.{IsExplainedBetween}
+use Rattle.ufs_promise_laws.specs.OnDisk.{IsExplainedBetween}
 use Rattle.ufs_engine.specs.Begins.{BeginsWith}
 use Rattle.ufs_engine.proofs.Numbers.{begins_from}
 use Rattle.ufs_engine.proofs.Read.{begins_alike, outside_session, proper_begins, recovery_explained, same_tree}

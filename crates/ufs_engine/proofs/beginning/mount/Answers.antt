@@ -1,7 +1,7 @@
 use Rattle.std.proofs.Common.{◌≡◌, ◌≤◌, [], refl, ap, sym, ◌∙◌, subst}
 use Rattle.ufs_bitmap.specs.Space.{Space}
-use Rattle.ufs_catalog.specs.Lacks.{IsOfNumbers}
-use Rattle.ufs_catalog.specs.declared.fault.RecoverFault.TheVariants.{Lack}
+use Rattle.ufs_metadata.specs.Lacks.{IsOfNumbers}
+use Rattle.ufs_metadata.specs.declared.fault.RecoverFault.TheVariants.{Lack}
 use Rattle.ufs_disk.specs.Disk.{State, seen}
 use Rattle.ufs_disk.specs.Moments.{reads}
 use Rattle.ufs_disk.proofs.Runs.{started, weaker}
@@ -10,18 +10,18 @@ use Rattle.ufs_layout.specs.Areas.{sector_count}
 use Rattle.ufs_layout.specs.declared.geometry.Geometry.{Geometry}
 use Rattle.ufs_ledger.specs.Ledger.{IsLeftBy}
 use Rattle.ufs_model.specs.PosixTree.{PosixTree}
-use Rattle.ufs_names_image.specs.Starts.{image_start}
+use Rattle.ufs_tree_laws.specs.Starts.{image_start}
 use Rattle.ufs_one_hand.specs.OneHand.{IsStart, seeing}
 use Rattle.ufs_one_hand.proofs.Started.{seeing_starts}
 use Rattle.ufs_session.specs.Played.{MayBegin}
-use Rattle.ufs_sound.specs.Parts as sound
-use Rattle.ufs_sound.specs.Visible.{IsDiskVisible}
+use Rattle.ufs_hand_laws.specs.Parts as sound
+use Rattle.ufs_hand_laws.specs.Visible.{IsDiskVisible}
 use Rattle.ufs_start.specs.Begun.{tree_under, volume_under}
 use Rattle.ufs_store.specs.Mounting.{marking}
 use Rattle.ufs_store_steps.specs.Cells.{cells_of}
-use Rattle.ufs_stored.specs.OnDisk.{IsExplainedImage}
-use Rattle.ufs_stored.specs.Parts.{Parts}
-use Rattle.ufs_stored.specs.Sound.{IsSoundServer}
+use Rattle.ufs_promise_laws.specs.OnDisk.{IsExplainedImage}
+use Rattle.ufs_promise_laws.specs.Parts.{Parts}
+use Rattle.ufs_promise_laws.specs.Sound.{IsSoundServer}
 use Rattle.ufs_engine.specs.Begins.{BeginsWith}
 use Rattle.ufs_engine.specs.Laws.{IsReadClean, parts_of}
 use Rattle.ufs_image.specs.Volume.{Volume, superblock_of}

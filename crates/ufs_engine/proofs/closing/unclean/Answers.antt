@@ -1,5 +1,5 @@
 use Rattle.std.proofs.Common.{subst}
-use Rattle.ufs_catalog.specs.Faults.{IsOutside}
+use Rattle.ufs_metadata.specs.Faults.{IsOutside}
 use Rattle.ufs_engine.proofs.Lacks.{sound_lack}
 use Rattle.ufs_engine.proofs.closing.unclean.Goals as goal
 

@@ -8,7 +8,7 @@ use Rattle.ufs_client.proofs.Lists.{once_rising}
 use Rattle.ufs_client.specs.declared.played.EndFault.{EndFault}
 use Rattle.ufs_image.specs.Opens.{opens}
 use Rattle.ufs_image.specs.Volume.{Refusal}
-use Rattle.ufs_last.specs.Last.{StandsForTree}
+use Rattle.ufs_promise_laws.specs.Last.{StandsForTree}
 use Rattle.ufs_ledger.specs.Kept.{OpensExplained}
 use Rattle.ufs_model.specs.History.{AreTicketsOnce, joined, tree_after}
 use Rattle.ufs_model.specs.Order.{fd_cmp}
@@ -24,8 +24,8 @@ use Rattle.ufs_session.proofs.HadLemmas.{begins_itself}
 use Rattle.ufs_session.proofs.ThroughoutLemmas.{throughout_after, throughout_before}
 use Rattle.ufs_store.specs.State.{StoreState}
 use Rattle.ufs_store.specs.Tables.{state_of}
-use Rattle.ufs_stored.specs.OnDisk.{IsExplainedBetween, IsOnDisk}
-use Rattle.ufs_stored.specs.Stored.{ArePartsOf}
+use Rattle.ufs_promise_laws.specs.OnDisk.{IsExplainedBetween, IsOnDisk}
+use Rattle.ufs_promise_laws.specs.Stored.{ArePartsOf}
 use Rattle.ufs_engine.proofs.EndLemmas.{both_ok, bytes_told, end_fault, faults_of, never_ended, no_faults, none_played, not_served, played_as}
 use Rattle.ufs_engine.proofs.Numbers.{raises_numbers}
 use Rattle.ufs_engine.specs.Numbers.{RaisesNumbers}

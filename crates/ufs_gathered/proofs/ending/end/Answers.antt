@@ -3,12 +3,12 @@ use Rattle.ufs_joint.specs.Cells.{FileCell}
 use Rattle.ufs_joint.specs.Disks.{cell_of}
 use Rattle.ufs_joint.specs.Ends.{HoldsAll}
 use Rattle.ufs_joint.specs.Turns.{turn_begun}
-use Rattle.ufs_last.specs.Laws.{AllIsLast}
-use Rattle.ufs_sound.specs.Owned.{count}
-use Rattle.ufs_sound.proofs.Keys.{alike, itself}
-use Rattle.ufs_sound.proofs.Owning.{has_count}
-use Rattle.ufs_stored.specs.AlwaysLaws.{RestIsExplained}
-use Rattle.ufs_synced.specs.Laws.{AllAreThere}
+use Rattle.ufs_promise_laws.specs.LastLaws.{AllIsLast}
+use Rattle.ufs_hand_laws.specs.Owned.{count}
+use Rattle.ufs_hand_laws.proofs.Keys.{alike, itself}
+use Rattle.ufs_hand_laws.proofs.Owning.{has_count}
+use Rattle.ufs_promise_laws.specs.AlwaysLaws.{RestIsExplained}
+use Rattle.ufs_names_commit.specs.Laws.{AllAreThere}
 use Rattle.ufs_turns.specs.HeldStore.{begun_in}
 use Rattle.ufs_gathered.proofs.AtEnd.{has_ended}
 use Rattle.ufs_gathered.proofs.AllThere.{begun_all}

@@ -10,7 +10,7 @@ use Rattle.ufs_image.specs.Proper.{IsProperImage}
 use Rattle.ufs_image.specs.Volume.{superblock_of}
 use Rattle.ufs_recovery.specs.Recovered.{IsCleanDisk, IsRecovered}
 use Rattle.ufs_joint.specs.Cells.{FileCell}
-use Rattle.ufs_sound.specs.Owned.{count}
+use Rattle.ufs_hand_laws.specs.Owned.{count}
 use Rattle.ufs_store.specs.Refusals.{fault_in, stop_after}
 use Rattle.ufs_store.specs.State.{StoreState}
 use Rattle.ufs_store.specs.Tables.{state_of}

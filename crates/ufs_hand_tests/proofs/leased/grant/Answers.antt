@@ -1,5 +1,5 @@
 use Rattle.std.proofs.Common.{ℕ, sym, subst}
-use Rattle.ufs_sound.specs.Parts.{Start, View}
+use Rattle.ufs_hand_laws.specs.Parts.{Start, View}
 use Rattle.ufs_hand.specs.Session.{IsEvent}
 use Rattle.ufs_hand_tests.proofs.LeasedSteps.{grants}
 use Rattle.ufs_hand_tests.proofs.leased.grant.Goals as goal

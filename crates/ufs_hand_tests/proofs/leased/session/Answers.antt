@@ -1,11 +1,11 @@
 use Rattle.std.proofs.Common.{[], ◌∷◌, ◌%◌, sym, subst}
 use Rattle.ufs_model.specs.declared.data.Lease.{Lease}
-use Rattle.ufs_sound.specs.declared.fresh.Fresh.{Fresh}
-use Rattle.ufs_sound.specs.Draws.{MayDraw}
-use Rattle.ufs_sound.specs.FileSession.{small_disk, open_leaves}
-use Rattle.ufs_sound.specs.Parts.{Start, View}
-use Rattle.ufs_sound.specs.Rule.{clock_step}
-use Rattle.ufs_sound.specs.Whole.{HoldsAll}
+use Rattle.ufs_hand_laws.specs.declared.fresh.Fresh.{Fresh}
+use Rattle.ufs_hand_laws.specs.Draws.{MayDraw}
+use Rattle.ufs_hand_laws.specs.FileSession.{small_disk, open_leaves}
+use Rattle.ufs_hand_laws.specs.Parts.{Start, View}
+use Rattle.ufs_hand_laws.specs.Rule.{clock_step}
+use Rattle.ufs_hand_laws.specs.Whole.{HoldsAll}
 use Rattle.ufs_hand.specs.Session.{DrewLocal, first_view, IsEvent}
 use Rattle.ufs_hand_tests.specs.Leased.{open_asked, read_leaves}
 use Rattle.ufs_hand_tests.proofs.LeasedSteps.{asks, may_open, may_read, ends}

@@ -1,4 +1,4 @@
-use Rattle.ufs_sound.specs.FileSession.{small_disk, open_leaves}
+use Rattle.ufs_hand_laws.specs.FileSession.{small_disk, open_leaves}
 use Rattle.ufs_hand_tests.specs.Leased.{open_asked, granted, read_asked, read_leaves}
 use Rattle.ufs_hand_tests.proofs.leased.session.Given as goal
 

@@ -1,12 +1,12 @@
 use Rattle.std.proofs.Common.{◌≡◌, [], inr, sym, ap, ◌∙◌, subst}
 use Rattle.std.specs.Prelude.{◌%◌}
 use Rattle.ufs_model.specs.declared.data.PartName.TheVariants.{Client, File}
-use Rattle.ufs_sound.specs.Clock.{looked, ticked}
-use Rattle.ufs_sound.specs.Draws.{MayDraw, drawn}
-use Rattle.ufs_sound.specs.First.{new_names, primary_pool}
-use Rattle.ufs_sound.specs.Parts.{Start, View, kept_of, given_of, both_of}
-use Rattle.ufs_sound.specs.Rule.{clock_step, MayTick}
-use Rattle.ufs_sound.specs.Whole.{HoldsAll}
+use Rattle.ufs_hand_laws.specs.Clock.{looked, ticked}
+use Rattle.ufs_hand_laws.specs.Draws.{MayDraw, drawn}
+use Rattle.ufs_hand_laws.specs.First.{new_names, primary_pool}
+use Rattle.ufs_hand_laws.specs.Parts.{Start, View, kept_of, given_of, both_of}
+use Rattle.ufs_hand_laws.specs.Rule.{clock_step, MayTick}
+use Rattle.ufs_hand_laws.specs.Whole.{HoldsAll}
 use Rattle.ufs_hand.specs.Session.{first_view, word_of, HoldsPool, IsEvent}
 use Rattle.ufs_hand_tests.specs.Small.{small, asked}
 use Rattle.ufs_hand_tests.proofs.Small.{asks, has_pool, left, fresh, joined, draws, ticks, at_end, has_all}

@@ -1,6 +1,6 @@
 use Rattle.std.specs.Prelude.{[], ◌∷◌}
 use Rattle.std.specs.FinMap as fin
-use Rattle.ufs_sound.specs.First.{new_names}
+use Rattle.ufs_hand_laws.specs.First.{new_names}
 use Rattle.ufs_hand_tests.specs.Small.{asked}
 use Rattle.ufs_hand_tests.proofs.session.session.Given as goal
 

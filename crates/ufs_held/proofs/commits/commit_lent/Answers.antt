@@ -1,6 +1,6 @@
 use Rattle.std.proofs.Common.{◌≤◌, ◌++◌, ℕ, List, ap, sym, subst, ◌∙◌}
 use Rattle.std.proofs.lemmas.Result.{on_err_weaker, on_ok_weaker}
-use Rattle.ufs_durable.specs.State.{state_of}
+use Rattle.ufs_file_commits.specs.State.{state_of}
 use Rattle.ufs_joint.specs.Cells.{FileCell}
 use Rattle.ufs_held.specs.Held.{first_cell}
 use Rattle.ufs_held.proofs.commits.commit_lent.Goals as goal

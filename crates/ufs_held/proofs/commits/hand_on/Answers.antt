@@ -1,5 +1,5 @@
 use Rattle.std.proofs.Common.{ℕ, ap, sym, subst, ◌∙◌}
-use Rattle.ufs_durable.specs.State.{state_of}
+use Rattle.ufs_file_commits.specs.State.{state_of}
 use Rattle.ufs_joint.specs.Cells.{View, both_of, given_of, kept_of}
 use Rattle.ufs_model.specs.declared.data.PartName.TheVariants.{File}
 use Rattle.ufs_held.specs.Committed.{HasSameCells}

@@ -1,10 +1,10 @@
 use Rattle.std.proofs.Common.{◌≡◌, ◌≤◌, ap, sym, subst, ◌∙◌, arith}
-use Rattle.ufs_durable.specs.Serving.{IsApplied}
-use Rattle.ufs_durable.specs.State.{state_of}
+use Rattle.ufs_file_commits.specs.Serving.{IsApplied}
+use Rattle.ufs_file_commits.specs.State.{state_of}
 use Rattle.ufs_joint.specs.Cells.{View}
 use Rattle.ufs_joint.specs.Draws.{MayDraw}
 use Rattle.ufs_held.specs.Drawn.{fresh_of, held_leaves}
-use Rattle.ufs_sound.specs.Draws.{left_faults}
+use Rattle.ufs_hand_laws.specs.Draws.{left_faults}
 use Rattle.ufs_held.proofs.Drawing.{apart, calm, may_draw, noted}
 use Rattle.ufs_held.proofs.draws.draw_served.Goals as goal
 

@@ -1,13 +1,13 @@
 use Rattle.std.proofs.Common.{◌≡◌, ◌≤◌, ◌++◌, ℕ, Some, ap, sym, subst, ◌∙◌}
-use Rattle.ufs_durable.specs.State.{DurableState, state_of}
+use Rattle.ufs_file_commits.specs.State.{DurableState, state_of}
 use Rattle.ufs_file.specs.Hand.{IsFileOf}
 use Rattle.ufs_joint.specs.Cells.{FileCell, View, given_of, kept_of}
 use Rattle.ufs_joint.specs.Draws.{drawn}
 use Rattle.ufs_joint.specs.FileHands.{IsFileHand}
 use Rattle.ufs_model.specs.declared.data.PartName.TheVariants.{File}
-use Rattle.ufs_sound.specs.Draws.{left_faults}
-use Rattle.ufs_sound.specs.Owned.{times}
-use Rattle.ufs_sound.specs.Parts.{ClientPart}
+use Rattle.ufs_hand_laws.specs.Draws.{left_faults}
+use Rattle.ufs_hand_laws.specs.Owned.{times}
+use Rattle.ufs_hand_laws.specs.Parts.{ClientPart}
 use Rattle.ufs_held.specs.Asking.{Asks, IsGuest}
 use Rattle.ufs_held.specs.Drawn.{fresh_of}
 use Rattle.ufs_held.specs.Held.{IsHeld, first_cell}

@@ -4,8 +4,8 @@ use Rattle.ufs_joint.specs.Draws.{drawn}
 use Rattle.ufs_joint.specs.Cells.{View}
 use Rattle.ufs_joint.specs.Rule.{MayDrawAny}
 use Rattle.ufs_model.specs.declared.data.Entry.{Entry}
-use Rattle.ufs_sound.specs.Draws.{entry_of}
-use Rattle.ufs_sound.specs.declared.fresh.Fresh.{Fresh}
+use Rattle.ufs_hand_laws.specs.Draws.{entry_of}
+use Rattle.ufs_hand_laws.specs.declared.fresh.Fresh.{Fresh}
 use Rattle.ufs_held.specs.Drawn.{fresh_of, replied_to}
 use Rattle.ufs_held.specs.Together.{still_of}
 use Rattle.ufs_held.proofs.replies.draw_reply.Goals as goal

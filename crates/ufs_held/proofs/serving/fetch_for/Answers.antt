@@ -2,7 +2,7 @@ use Rattle.std.proofs.Common.{◌≡◌, ◌++◌, ℕ, List, None, Some, Option
 use Rattle.std.proofs.lemmas.List.{append-nil}
 use Rattle.std.specs.Prelude.{OnErr, Result, Ok, Err}
 use Rattle.std.proofs.lemmas.Result.{on_ok_weaker}
-use Rattle.ufs_durable.specs.State.{state_of}
+use Rattle.ufs_file_commits.specs.State.{state_of}
 use Rattle.ufs_file.specs.Hand.{FileState, HasNeeded}
 use Rattle.ufs_model.specs.FileCalls.{file_refusal}
 use Rattle.ufs_model.specs.declared.data.Desc.{Desc}

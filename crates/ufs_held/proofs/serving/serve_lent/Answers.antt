@@ -1,6 +1,6 @@
 use Rattle.std.proofs.Common.{◌≡◌, ℕ, List, Some, Result, true, false, ap, refl, sym, subst, ◌∙◌}
 use Rattle.std.specs.Prelude.{IsTrue}
-use Rattle.ufs_durable.specs.State.{DurableState, state_of}
+use Rattle.ufs_file_commits.specs.State.{DurableState, state_of}
 use Rattle.ufs_file.specs.Hand.{IsOf}
 use Rattle.ufs_file.proofs.FilledLemmas.{same_refusal}
 use Rattle.ufs_joint.specs.Cells.{FileCell}

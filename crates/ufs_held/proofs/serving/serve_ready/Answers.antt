@@ -1,9 +1,9 @@
 use Rattle.std.proofs.Common.{◌≡◌, ◌++◌, ℕ, List, ap, sym, subst, ◌∙◌}
-use Rattle.ufs_durable.specs.State.{DurableState, state_of}
+use Rattle.ufs_file_commits.specs.State.{DurableState, state_of}
 use Rattle.ufs_joint.specs.Cells.{FileCell, View, given_of, kept_of}
 use Rattle.ufs_joint.specs.Draws.{drawn}
 use Rattle.ufs_joint.specs.FileHands.{IsFileHand}
-use Rattle.ufs_sound.specs.Parts.{ClientPart}
+use Rattle.ufs_hand_laws.specs.Parts.{ClientPart}
 use Rattle.ufs_model.specs.declared.data.PartName.TheVariants.{File}
 use Rattle.ufs_held.specs.Asking.{Asks, IsGuest}
 use Rattle.ufs_held.specs.Drawn.{fresh_of, held_leaves}

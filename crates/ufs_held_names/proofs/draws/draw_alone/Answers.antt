@@ -7,7 +7,7 @@ use Rattle.ufs_joint.specs.Draws.{MayDraw}
 use Rattle.ufs_joint.specs.NamesHands.{NamesRequestsMayDraw}
 use Rattle.ufs_model.specs.History.{is_excused, tree_after}
 use Rattle.ufs_held.specs.Drawn.{fresh_of}
-use Rattle.ufs_sound.specs.Draws.{left_faults}
+use Rattle.ufs_hand_laws.specs.Draws.{left_faults}
 use Rattle.ufs_noted.specs.Noted.{Noted, one_file}
 use Rattle.ufs_held_names.specs.Drawn.{names_left, new_cells}
 use Rattle.ufs_held_names.proofs.Drawing.{apart_with, asked_of, asked_with, gathered_none, may_excused, may_served, none_some_of, part_of}

@@ -6,11 +6,11 @@ use Rattle.ufs_joint.specs.Draws.{MayDraw}
 use Rattle.ufs_joint.specs.NamesHands.{AreFilesOfCells, AreNumberedOnce, IsNextCell, NamesRequestsMayDraw}
 use Rattle.ufs_model.specs.History.{is_excused, tree_after}
 use Rattle.ufs_held.specs.Drawn.{fresh_of}
-use Rattle.ufs_prefix.specs.Changes.{asks_commit}
-use Rattle.ufs_sound.specs.Draws.{left_faults}
-use Rattle.ufs_durable.specs.State.{DurableState, IsNoted}
+use Rattle.ufs_crash_laws.specs.Changes.{asks_commit}
+use Rattle.ufs_hand_laws.specs.Draws.{left_faults}
+use Rattle.ufs_file_commits.specs.State.{DurableState, IsNoted}
 use Rattle.ufs_turns.proofs.Syncing.{file_sound}
-use Rattle.ufs_sound.specs.Owned.{Has}
+use Rattle.ufs_hand_laws.specs.Owned.{Has}
 use Rattle.ufs_noted.specs.Known.{commits_in, file_in}
 use Rattle.ufs_noted.specs.Noted.{Noted, one_file, one_known}
 use Rattle.ufs_held_names.specs.Drawn.{names_left, next_cells}

@@ -1,6 +1,6 @@
 use Rattle.std.proofs.Common.{◌≡◌, ◌++◌, [], ◌∷◌, None, Option, Some, ap, refl, sym, subst, ◌∙◌}
 use Rattle.ufs_joint.specs.Cells.{FileCell, NamesCell, View, both_of, given_of, kept_of}
-use Rattle.ufs_durable.specs.State.{DurableState}
+use Rattle.ufs_file_commits.specs.State.{DurableState}
 use Rattle.ufs_model.specs.declared.data.PartName.TheVariants.{Names}
 use Rattle.ufs_noted.specs.declared.known.KnownFile.{KnownFile}
 use Rattle.ufs_held_names.specs.Asked.{IsNeeded}

@@ -3,7 +3,7 @@ use Rattle.std.specs.Prelude.{OnOk, Result, Ok, Err}
 use Rattle.std.proofs.lemmas.Result.{on_err_weaker, on_ok_weaker}
 use Rattle.std.specs.FinSet as set
 use Rattle.ufs_bitmap.specs.Taking.{set_of}
-use Rattle.ufs_durable.specs.State.{file_committed}
+use Rattle.ufs_file_commits.specs.State.{file_committed}
 use Rattle.ufs_joint.specs.Cells.{FileCell}
 use Rattle.ufs_store.specs.declared.fault.StoreFault.{StoreFault}
 use Rattle.ufs_turns.specs.Lent.{AreTold}

@@ -5,8 +5,8 @@ use Rattle.ufs_joint.specs.Draws.{Leaves, MayDraw}
 use Rattle.ufs_joint.specs.NamesHands.{SyncsMayDraw}
 use Rattle.ufs_model.specs.declared.data.Entry.{Entry}
 use Rattle.ufs_model.specs.declared.data.PartName.TheVariants.{Names}
-use Rattle.ufs_sound.specs.Draws.{entry_of}
-use Rattle.ufs_sound.specs.declared.fresh.Fresh.{Fresh}
+use Rattle.ufs_hand_laws.specs.Draws.{entry_of}
+use Rattle.ufs_hand_laws.specs.declared.fresh.Fresh.{Fresh}
 use Rattle.ufs_held.specs.Drawn.{fresh_of, replied_to}
 use Rattle.ufs_held.specs.Together.{HasDrawnStill, still_of}
 use Rattle.ufs_noted.specs.Noted.{Noted}

@@ -1,6 +1,6 @@
 use Rattle.std.proofs.Common.{◌≡◌, ◌≤◌, ◌++◌, ℕ, List, Some, ap, refl, sym, subst, ◌∙◌, arith}
 use Rattle.std.proofs.lemmas.List.{append-nil}
-use Rattle.ufs_durable.specs.State.{DurableState, state_of}
+use Rattle.ufs_file_commits.specs.State.{DurableState, state_of}
 use Rattle.ufs_file.specs.Hand.{IsFileOf, IsOf}
 use Rattle.ufs_joint.specs.Cells.{View, given_of, kept_of}
 use Rattle.ufs_joint.specs.Draws.{drawn}
@@ -9,9 +9,9 @@ use Rattle.ufs_model.specs.FileCalls.{file_refusal}
 use Rattle.ufs_model.specs.declared.data.Desc.{Desc}
 use Rattle.ufs_model.specs.declared.data.PartName.TheVariants.{File}
 use Rattle.ufs_model.specs.declared.data.Reply.TheVariants.{Excused}
-use Rattle.ufs_sound.specs.Draws.{left_faults}
-use Rattle.ufs_sound.specs.Owned.{times}
-use Rattle.ufs_sound.specs.Parts.{ClientPart}
+use Rattle.ufs_hand_laws.specs.Draws.{left_faults}
+use Rattle.ufs_hand_laws.specs.Owned.{times}
+use Rattle.ufs_hand_laws.specs.Parts.{ClientPart}
 use Rattle.ufs_turns.proofs.Hands.{later_left}
 use Rattle.ufs_held.specs.Asking.{Asks, IsGuest, faults_of}
 use Rattle.ufs_held.specs.Drawn.{fresh_of}

@@ -1,7 +1,7 @@
 use Rattle.std.proofs.Common.{◌≡◌, ap, sym, subst, ◌∙◌}
 use Rattle.std.specs.FinSet as set
 use Rattle.ufs_bitmap.specs.Taking.{set_of}
-use Rattle.ufs_durable.specs.State.{DurableState, file_committed}
+use Rattle.ufs_file_commits.specs.State.{DurableState, file_committed}
 use Rattle.ufs_file.specs.Hand.{IsOf}
 use Rattle.ufs_joint.specs.Cells.{FileCell}
 use Rattle.ufs_turns.specs.Lent.{AreTold}

@@ -1,6 +1,6 @@
 use Rattle.std.proofs.Common.{◌≡◌, ap, ◌∙◌}
 use Rattle.ufs_model.specs.declared.data.Reply.{Reply}
-use Rattle.ufs_sound.specs.Draws.{left_faults}
+use Rattle.ufs_hand_laws.specs.Draws.{left_faults}
 use Rattle.ufs_held.specs.Drawn.{fresh_of}
 use Rattle.ufs_held.specs.Together.{HasDrawnStill}
 use Rattle.ufs_held.proofs.Together.{drawn_still}

@@ -1,8 +1,8 @@
 use Rattle.std.proofs.Common.{ℕ, inl, refl, ap, sym, subst, ◌∙◌, arith}
 use Rattle.ufs_joint.specs.Cells.{View}
 use Rattle.ufs_model.specs.declared.data.Op.TheVariants as op
-use Rattle.ufs_sound.specs.Owned.{Has}
-use Rattle.ufs_sound.specs.Whole.{idle_asked, idle_client}
+use Rattle.ufs_hand_laws.specs.Owned.{Has}
+use Rattle.ufs_hand_laws.specs.Whole.{idle_asked, idle_client}
 use Rattle.ufs_held_tests.proofs.session.ask.Goals as goal
 
 pub mark-requires-clause-may : goal.mark-requires-clause-may

@@ -7,7 +7,7 @@ use Rattle.ufs_joint.specs.Marks.{asking}
 use Rattle.ufs_joint.specs.Whole.{no_blocks}
 use Rattle.ufs_model.specs.declared.data.Op.TheVariants.{Sync}
 use Rattle.ufs_model.specs.declared.data.PartName.TheVariants.{Client, File, Names, Store}
-use Rattle.ufs_sound.specs.Whole.{idle_client}
+use Rattle.ufs_hand_laws.specs.Whole.{idle_client}
 use Rattle.ufs_turns.specs.HeldStore.{IsHeldStore}
 use Rattle.ufs_turns.specs.Lent.{IsBare}
 use Rattle.ufs_held.specs.Asking.{IsGuest}

@@ -1,5 +1,5 @@
 use Rattle.std.proofs.Common.{◌≡◌, eqb, List, [], length, refl, ap, sym, subst, ◌∙◌, arith}
-use Rattle.ufs_sound.specs.Owned.{count}
+use Rattle.ufs_hand_laws.specs.Owned.{count}
 use Rattle.ufs_joint.specs.Cells.{FileCell}
 use Rattle.ufs_held.specs.Together.{under_numbers}
 use Rattle.ufs_held_names.specs.SyncAll.{AreAllLive}

@@ -1,7 +1,7 @@
 use Rattle.std.proofs.Common.{◌≡◌, sym, subst}
 use Rattle.ufs_joint.specs.FileHands.{FileFailuresMayEnd}
 use Rattle.ufs_layout.specs.declared.geometry.Geometry.{Geometry}
-use Rattle.ufs_stored.specs.AlwaysLaws.{RestIsExplained}
+use Rattle.ufs_promise_laws.specs.AlwaysLaws.{RestIsExplained}
 use Rattle.ufs_joint_tests.specs.Row.{IsStoreHand}
 use Rattle.ufs_joint_tests.proofs.RowSteps.{keeps}
 use Rattle.ufs_joint_tests.proofs.row.a_row_is_sound.Goals as goal

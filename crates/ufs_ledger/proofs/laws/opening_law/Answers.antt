@@ -8,7 +8,7 @@ use Rattle.ufs_layout.specs.declared.geometry.Geometry.{Geometry}
 use Rattle.ufs_layout.specs.declared.superblock.Super.{Super}
 use Rattle.ufs_model.specs.PosixTree.{PosixTree}
 use Rattle.ufs_model.specs.declared.data.Entry.{Entry}
-use Rattle.ufs_prefix.specs.Explained.{IsCovering}
+use Rattle.ufs_crash_laws.specs.Explained.{IsCovering}
 use Rattle.ufs_ledger.specs.Ledger.{Stand, IsLeft, Standing, Ledger, IsLeftBy}
 use Rattle.ufs_image.specs.CatalogLaws.{SpellsDirs, StandsAtPaths, StandsNowhereElse}
 use Rattle.ufs_ledger.proofs.Opened.{opens_explained, opens_explained_from, same_geometry}

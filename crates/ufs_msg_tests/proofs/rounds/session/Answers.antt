@@ -5,8 +5,8 @@ use Rattle.ufs_joint.specs.Marks.{asking}
 use Rattle.ufs_model.specs.declared.data.Op.TheVariants.{Sync}
 use Rattle.ufs_model.specs.declared.data.PartName.TheVariants.{Client}
 use Rattle.ufs_msg.specs.Requests.{IsAsked}
-use Rattle.ufs_sound.specs.Owned.{Has}
-use Rattle.ufs_sound.specs.Whole.{idle_asked, idle_client}
+use Rattle.ufs_hand_laws.specs.Owned.{Has}
+use Rattle.ufs_hand_laws.specs.Whole.{idle_asked, idle_client}
 use Rattle.ufs_msg_tests.specs.TwoClients.{both_asked, none_left, second_left, sync_of}
 use Rattle.ufs_msg_tests.proofs.TwoClients.{both_back, first_asked, second_asked}
 use Rattle.ufs_msg_tests.proofs.rounds.session.Goals as goal

@@ -2,7 +2,7 @@ use Rattle.std.proofs.Common.{None, sym, subst}
 use Rattle.ufs_joint.specs.Cells.{Start, View}
 use Rattle.ufs_joint_tests.specs.Small.{excused}
 use Rattle.ufs_msg.specs.Answers.{IsTold}
-use Rattle.ufs_sound.specs.Draws.{entry_of}
+use Rattle.ufs_hand_laws.specs.Draws.{entry_of}
 use Rattle.ufs_msg_tests.proofs.Passing.{is_told}
 use Rattle.ufs_msg_tests.proofs.served.answer_of.Goals as goal
 

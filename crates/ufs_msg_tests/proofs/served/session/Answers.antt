@@ -6,8 +6,8 @@ use Rattle.ufs_joint.specs.Marks.{asking}
 use Rattle.ufs_model.specs.declared.data.Op.TheVariants.{Sync}
 use Rattle.ufs_model.specs.declared.data.PartName.TheVariants.{Client}
 use Rattle.ufs_joint_tests.specs.Small.{answered, small_start}
-use Rattle.ufs_sound.specs.Owned.{Has}
-use Rattle.ufs_sound.specs.Whole.{idle_asked, idle_client}
+use Rattle.ufs_hand_laws.specs.Owned.{Has}
+use Rattle.ufs_hand_laws.specs.Whole.{idle_asked, idle_client}
 use Rattle.ufs_msg_tests.proofs.Passing.{holds_all}
 use Rattle.ufs_msg_tests.proofs.served.session.Goals as goal
 

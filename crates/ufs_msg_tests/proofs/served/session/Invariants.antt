@@ -1,7 +1,7 @@
 use Rattle.ufs_joint.specs.Marks.{asking}
 use Rattle.ufs_joint_tests.specs.Small.{all_left}
 use Rattle.ufs_model.specs.declared.data.Op.TheVariants.{Sync}
-use Rattle.ufs_sound.specs.Whole.{idle_client}
+use Rattle.ufs_hand_laws.specs.Whole.{idle_client}
 use Rattle.ufs_msg_tests.proofs.served.session.Given as goal
 
 abbrev pub ghosts-ask : goal.ghosts-ask

@@ -1,6 +1,6 @@
 use Rattle.std.proofs.Common.{inl, refl, ◌∙◌, arith}
 use Rattle.ufs_model.specs.declared.data.Op.TheVariants.{Sync}
-use Rattle.ufs_sound.specs.Whole.{idle_asked, idle_client}
+use Rattle.ufs_hand_laws.specs.Whole.{idle_asked, idle_client}
 use Rattle.ufs_msg_tests.proofs.steps.ask.Goals as goal
 
 pub mark-requires-clause-may : goal.mark-requires-clause-may

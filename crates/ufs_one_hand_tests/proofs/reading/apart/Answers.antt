@@ -3,8 +3,8 @@ use Rattle.std.proofs.Common.{[], ◌∷◌, None, ap, inl, sym, subst, ◌∙�
 use Rattle.ufs_model.specs.declared.data.PartName.TheVariants as part
 use Rattle.ufs_one_hand.specs.Apart.{HasEachFile}
 use Rattle.ufs_one_hand.specs.OneHand.{HasSession, IsStart}
-use Rattle.ufs_sound.specs.Draws.{entry_of}
-use Rattle.ufs_sound.specs.Parts.{View, both_of, given_of}
+use Rattle.ufs_hand_laws.specs.Draws.{entry_of}
+use Rattle.ufs_hand_laws.specs.Parts.{View, both_of, given_of}
 use Rattle.ufs_one_hand_tests.proofs.Parted.{both_each, both_session, first_not_apart, has_other, kept_each, kept_session, only_other}
 use Rattle.ufs_one_hand_tests.proofs.TwoFiles.{other_stands, starts}
 use Rattle.ufs_one_hand_tests.specs.TwoFiles.{opens, reads}

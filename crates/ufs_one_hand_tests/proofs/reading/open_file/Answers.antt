@@ -5,8 +5,8 @@ use Rattle.ufs_model.specs.declared.data.Reply.TheVariants.{Fd}
 use Rattle.ufs_one_hand.specs.Apart.{HasEachFile}
 use Rattle.ufs_one_hand.specs.Drawn.{IsAnswer}
 use Rattle.ufs_one_hand.specs.OneHand.{HasSession}
-use Rattle.ufs_sound.specs.Draws.{entry_of}
-use Rattle.ufs_sound.specs.declared.fresh.Fresh.{Fresh}
+use Rattle.ufs_hand_laws.specs.Draws.{entry_of}
+use Rattle.ufs_hand_laws.specs.declared.fresh.Fresh.{Fresh}
 use Rattle.ufs_one_hand_tests.proofs.TwoFiles.{left, opens_answers}
 use Rattle.ufs_one_hand_tests.proofs.reading.open_file.Goals as goal
 

@@ -1,5 +1,5 @@
 use Rattle.std.proofs.Common.{[], ◌∷◌, refl, inl, ◌∙◌}
-use Rattle.ufs_sound.specs.Draws.{entry_of}
+use Rattle.ufs_hand_laws.specs.Draws.{entry_of}
 use Rattle.ufs_one_hand_tests.specs.Small.{done_sync, excused_sync}
 use Rattle.ufs_one_hand_tests.proofs.Small.{done_acknowledged, done_answers, still_covered}
 use Rattle.ufs_one_hand_tests.proofs.session.done.Goals as goal

@@ -1,5 +1,5 @@
 use Rattle.std.proofs.Common.{[], ◌∷◌, refl, inl, ◌∙◌}
-use Rattle.ufs_sound.specs.Draws.{entry_of}
+use Rattle.ufs_hand_laws.specs.Draws.{entry_of}
 use Rattle.ufs_one_hand_tests.specs.Small.{excused_sync}
 use Rattle.ufs_one_hand_tests.proofs.Small.{excused_answers, still_covered}
 use Rattle.ufs_one_hand_tests.proofs.session.excused.Goals as goal

@@ -1,7 +1,7 @@
 use Rattle.std.proofs.Common.{[], ◌∷◌, ℕ, Option, None, ap, refl, inl, ◌∙◌}
 use Rattle.ufs_one_hand.specs.Drawn.{fault_met}
-use Rattle.ufs_sound.specs.Draws.{entry_of}
-use Rattle.ufs_sound.specs.Owned.{times}
+use Rattle.ufs_hand_laws.specs.Draws.{entry_of}
+use Rattle.ufs_hand_laws.specs.Owned.{times}
 use Rattle.ufs_one_hand_tests.specs.Small.{done_sync, excused_sync, unread_sync}
 use Rattle.ufs_one_hand_tests.proofs.Small.{read_met, still_covered, unread_answers, unread_may_pass}
 use Rattle.ufs_one_hand_tests.proofs.session.unread.Goals as goal

@@ -3,9 +3,9 @@ use Rattle.std.specs.Prelude.{flat_map}
 use Rattle.std.specs.List.{range_with_len}
 use Rattle.std.proofs.lemmas.List.{append-nil}
 use Rattle.ufs_base.specs.Images.{Image}
-use Rattle.ufs_catalog.specs.Folded.{IsFolded}
+use Rattle.ufs_metadata.specs.Folded.{IsFolded}
 use Rattle.ufs_image.specs.Images.{block_at}
-use Rattle.ufs_catalog.proofs.Quiet.{read_more, read_none}
+use Rattle.ufs_metadata.proofs.Quiet.{read_more, read_none}
 use Rattle.ufs_opening.specs.Heads.{IsFrontOf}
 use Rattle.ufs_opening.proofs.Rows.{flat_more}
 use Rattle.ufs_opening.proofs.files.read_extent.Goals as goal

@@ -4,9 +4,9 @@ use Rattle.std.specs.List.{range_with_len}
 use Rattle.std.proofs.lemmas.List.{append-nil, length-take, take_more, take_all}
 use Rattle.ufs_base.specs.Images.{Image}
 use Rattle.ufs_layout.specs.declared.inode.Extent.{Extent}
-use Rattle.ufs_catalog.specs.Folded.{IsFolded}
+use Rattle.ufs_metadata.specs.Folded.{IsFolded}
 use Rattle.ufs_image.specs.Images.{block_at}
-use Rattle.ufs_catalog.proofs.Quiet.{read_more, read_none}
+use Rattle.ufs_metadata.proofs.Quiet.{read_more, read_none}
 use Rattle.ufs_opening.specs.Heads.{IsFrontOf}
 use Rattle.ufs_opening.proofs.Rows.{flat_append}
 use Rattle.ufs_opening.proofs.Fronts.{front_taken}

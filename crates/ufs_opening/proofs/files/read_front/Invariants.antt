@@ -3,8 +3,8 @@ use Rattle.std.specs.Prelude.{flat_map}
 use Rattle.std.specs.List.{range_with_len}
 use Rattle.ufs_base.specs.Images.{Image}
 use Rattle.ufs_disk.specs.Moments.{reads}
-use Rattle.ufs_catalog.specs.Folded.{IsFolded}
-use Rattle.ufs_catalog.specs.Reading.{IsReadOnly}
+use Rattle.ufs_metadata.specs.Folded.{IsFolded}
+use Rattle.ufs_metadata.specs.Reading.{IsReadOnly}
 use Rattle.ufs_image.specs.Images.{block_at}
 use Rattle.ufs_layout.specs.declared.inode.Extent.{Extent}
 use Rattle.ufs_opening.specs.Heads.{IsFrontOf}

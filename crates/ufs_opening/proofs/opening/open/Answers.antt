@@ -3,9 +3,9 @@ use Rattle.std.proofs.lemmas.Result.{err_from_is_err_and}
 use Rattle.ufs_base.specs.Images.{Image}
 use Rattle.ufs_disk.specs.Moments.{reads}
 use Rattle.ufs_damage.specs.Findings.{AreFindingsOf}
-use Rattle.ufs_catalog.specs.Faults.{HasFaultCause}
-use Rattle.ufs_catalog.specs.Folded.{IsFolded}
-use Rattle.ufs_catalog.proofs.Quiet.{read_more}
+use Rattle.ufs_metadata.specs.Faults.{HasFaultCause}
+use Rattle.ufs_metadata.specs.Folded.{IsFolded}
+use Rattle.ufs_metadata.proofs.Quiet.{read_more}
 use Rattle.ufs_volume.specs.Volumes.{folded_image, volume_in}
 use Rattle.ufs_volume.proofs.Folds.{is_folded}
 use Rattle.ufs_opening.proofs.Why.{why_volume, why_damage}

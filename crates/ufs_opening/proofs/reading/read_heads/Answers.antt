@@ -3,10 +3,10 @@ use Rattle.std.proofs.lemmas.List.{map_more, map-append}
 use Rattle.std.proofs.lemmas.Result.{err_from_is_err_and}
 use Rattle.ufs_base.specs.Images.{Image}
 use Rattle.ufs_image.specs.Opens as opens
-use Rattle.ufs_catalog.specs.Folded.{IsFolded}
+use Rattle.ufs_metadata.specs.Folded.{IsFolded}
 use Rattle.ufs_walk.specs.Walked.{Place, entry_of, pairs_of}
 use Rattle.ufs_walk.specs.declared.places.PathAt.{PathAt}
-use Rattle.ufs_catalog.proofs.Quiet.{read_more, read_none}
+use Rattle.ufs_metadata.proofs.Quiet.{read_more, read_none}
 use Rattle.ufs_opening.specs.Heads.{heads_of, path_head, paths_of}
 use Rattle.ufs_opening.specs.declared.head.PathHead.{PathHead}
 use Rattle.ufs_opening.proofs.Trees.{inode_there}

@@ -1,8 +1,8 @@
 use Rattle.std.proofs.Common.{◌≡◌, IsTrue, take, map}
 use Rattle.ufs_base.specs.Images.{Image}
 use Rattle.ufs_disk.specs.Moments.{reads}
-use Rattle.ufs_catalog.specs.Folded.{IsFolded}
-use Rattle.ufs_catalog.specs.Reading.{IsReadOnly}
+use Rattle.ufs_metadata.specs.Folded.{IsFolded}
+use Rattle.ufs_metadata.specs.Reading.{IsReadOnly}
 use Rattle.ufs_walk.specs.Walked.{AreInodes, entry_of, pairs_of}
 use Rattle.ufs_walk.specs.declared.places.PathAt.{PathAt}
 use Rattle.ufs_opening.specs.Heads.{heads_of, paths_of, AreHeads}

@@ -3,9 +3,9 @@ use Rattle.std.proofs.lemmas.Result.{IfErr-weaker, IfOk-weaker}
 use Rattle.ufs_base.specs.Images.{Image}
 use Rattle.ufs_disk.specs.Moments.{reads}
 use Rattle.ufs_image.specs.Opens.{opens}
-use Rattle.ufs_catalog.specs.Faults.{IsOutside}
-use Rattle.ufs_catalog.proofs.Outside.{why_outside}
-use Rattle.ufs_catalog.proofs.Quiet.{read_more}
+use Rattle.ufs_metadata.specs.Faults.{IsOutside}
+use Rattle.ufs_metadata.proofs.Outside.{why_outside}
+use Rattle.ufs_metadata.proofs.Quiet.{read_more}
 use Rattle.ufs_opening.specs.Told.{TellsWhy}
 use Rattle.ufs_opening.specs.Heads.{HasHeads}
 use Rattle.ufs_opening.specs.Shown.{IsOpened}

@@ -1,5 +1,5 @@
 use Rattle.std.proofs.Common.{ℕ, None, ap, arith, refl, sym, subst, ◌∙◌}
-use Rattle.ufs_first_hand.specs.FirstHand.{HasPoolAlone}
+use Rattle.ufs_joint.specs.FirstHand.{HasPoolAlone}
 use Rattle.ufs_held.specs.Asking.{IsGuest}
 use Rattle.ufs_held_names.specs.Dirs.{answered}
 use Rattle.ufs_model.specs.declared.data.Ask.{Ask}

@@ -3,7 +3,7 @@ use Rattle.ufs_held.specs.Asking.{Asks}
 use Rattle.ufs_joint.specs.Cells.{View}
 use Rattle.ufs_joint.specs.Rule.{looked_at}
 use Rattle.ufs_msg.specs.Requests.{HasClientAlone, IsAsked}
-use Rattle.ufs_sound.specs.Parts.{ClientPart}
+use Rattle.ufs_hand_laws.specs.Parts.{ClientPart}
 use Rattle.ufs_serving.proofs.Asked.{same_part, still_asked}
 use Rattle.ufs_primary.proofs.Asked.{asks_here}
 use Rattle.ufs_primary.proofs.here.know_here.Goals as goal

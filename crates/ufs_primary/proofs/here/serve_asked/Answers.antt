@@ -1,9 +1,9 @@
 use Rattle.std.proofs.Common.{◌≢◌, ℕ, ap, arith, refl, sym, subst}
-use Rattle.ufs_prefix.specs.Changes.{asks_commit}
+use Rattle.ufs_crash_laws.specs.Changes.{asks_commit}
 use Rattle.ufs_primary.specs.Here.{IsDoneHere}
 use Rattle.ufs_primary.proofs.Asked.{commits_none}
 use Rattle.ufs_primary.proofs.SyncedHere.{synced_number}
-use Rattle.ufs_first_hand.specs.FirstHand.{HasPoolAlone}
+use Rattle.ufs_joint.specs.FirstHand.{HasPoolAlone}
 use Rattle.ufs_serving.proofs.Lacking.{off_pool, some_of}
 use Rattle.ufs_primary.proofs.here.serve_asked.Goals as goal
 

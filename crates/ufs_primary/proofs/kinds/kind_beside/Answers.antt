@@ -1,6 +1,6 @@
 use Rattle.std.proofs.Common.{ap, sym, ◌∙◌}
 use Rattle.ufs_model.specs.FileCalls.{is_on_file}
-use Rattle.ufs_prefix.specs.Changes.{asks_commit}
+use Rattle.ufs_crash_laws.specs.Changes.{asks_commit}
 use Rattle.ufs_primary.proofs.Beside.{beside_none}
 use Rattle.ufs_primary.proofs.kinds.kind_beside.Goals as goal
 

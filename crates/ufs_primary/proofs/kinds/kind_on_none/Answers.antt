@@ -1,5 +1,5 @@
 use Rattle.std.proofs.Common.{ap, ◌∙◌}
-use Rattle.ufs_prefix.specs.Changes.{asks_commit}
+use Rattle.ufs_crash_laws.specs.Changes.{asks_commit}
 use Rattle.ufs_primary.proofs.Asked.{commits_none}
 use Rattle.ufs_primary.proofs.kinds.kind_on_none.Goals as goal
 

@@ -5,9 +5,9 @@ use Rattle.ufs_msg.specs.Answers.{Told}
 use Rattle.ufs_msg.specs.Requests.{Asked}
 use Rattle.ufs_msg.specs.declared.answer.Answer.TheVariants as answer
 use Rattle.ufs_names.specs.Calls.{IsOfNames}
-use Rattle.ufs_prefix.specs.Changes.{asks_commit}
+use Rattle.ufs_crash_laws.specs.Changes.{asks_commit}
 use Rattle.ufs_primary.specs.Named.{IsNamesServed}
-use Rattle.ufs_first_hand.specs.FirstHand.{HasPoolAlone}
+use Rattle.ufs_joint.specs.FirstHand.{HasPoolAlone}
 use Rattle.ufs_serving.proofs.Lacking.{off_pool}
 use Rattle.ufs_primary.proofs.NamesTold.{asks_names, named_apart, names_told}
 use Rattle.ufs_primary.proofs.named.serve_named.Goals as goal

@@ -1,6 +1,6 @@
 use Rattle.std.proofs.Common.{ℕ, sym, subst}
 use Rattle.std.specs.Prelude.{IfOk}
-use Rattle.ufs_first_hand.specs.FirstHand.{HasPoolAlone}
+use Rattle.ufs_joint.specs.FirstHand.{HasPoolAlone}
 use Rattle.ufs_held.specs.Asking.{IsGuest}
 use Rattle.ufs_held_names.specs.Asked.{IsNeeded}
 use Rattle.ufs_msg.specs.Requests.{Asked}

@@ -4,7 +4,7 @@ use Rattle.ufs_held_names.specs.SyncAll.{AreAllLive}
 use Rattle.ufs_joint.specs.Cells.{FileCell}
 use Rattle.ufs_msg.specs.Answers.{Told}
 use Rattle.ufs_msg.specs.declared.answer.Answer.TheVariants as says
-use Rattle.ufs_sound.specs.Owned.{Has}
+use Rattle.ufs_hand_laws.specs.Owned.{Has}
 use Rattle.ufs_primary.specs.All.{IsAllSynced}
 use Rattle.ufs_primary.proofs.AllTold.{same_length}
 use Rattle.ufs_primary.proofs.trying.sync_lent.Goals as goal

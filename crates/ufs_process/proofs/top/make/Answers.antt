@@ -1,5 +1,5 @@
 use Rattle.std.proofs.Common.{inl, inr, refl}
-use Rattle.ufs_quiet.specs.Commands.{asked}
+use Rattle.ufs_command.specs.Commands.{asked}
 use Rattle.ufs_process.specs.Views.{kind, view}
 use Rattle.ufs_process.proofs.AnswerLemmas.{made_fault, made_joins, no_label_made, not_made, source_unread}
 use Rattle.ufs_process.proofs.CountLemmas.{made_counted}

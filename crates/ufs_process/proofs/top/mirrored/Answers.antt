@@ -1,10 +1,10 @@
 use Rattle.std.proofs.Common.{◌∙◌, Some, ap, inl, refl, sym}
-use Rattle.ufs_quiet.specs.Commands.{asked}
-use Rattle.ufs_quiet.specs.Endings.{IsFixed}
-use Rattle.ufs_quiet.specs.Seen.{writing}
-use Rattle.ufs_quiet.specs.declared.ending.Ending.TheVariants.{NotBuilt, OutOfMemory, Usage}
-use Rattle.ufs_quiet.specs.declared.words.Command.{Command}
-use Rattle.ufs_quiet.specs.declared.words.Command.TheVariants as command
+use Rattle.ufs_command.specs.Commands.{asked}
+use Rattle.ufs_command.specs.Endings.{IsFixed}
+use Rattle.ufs_command.specs.Seen.{writing}
+use Rattle.ufs_command.specs.declared.ending.Ending.TheVariants.{NotBuilt, OutOfMemory, Usage}
+use Rattle.ufs_command.specs.declared.words.Command.{Command}
+use Rattle.ufs_command.specs.declared.words.Command.TheVariants as command
 use Rattle.ufs_process.proofs.AnswerLemmas.{alone_ends, alone_none, alone_not_built, alone_starved}
 use Rattle.ufs_process.proofs.top.mirrored.Goals as goal
 use Rattle.ufs_process.proofs.top.mirrored.Goals.{in-Ok-Some-NotBuilt, in-Ok-None, in-Err}

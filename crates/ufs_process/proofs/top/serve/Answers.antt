@@ -1,7 +1,7 @@
 use Rattle.std.proofs.Common.{ap, sym, subst, ◌∙◌}
 use Rattle.std.proofs.Math.Logic.{∥∥₁_map}
-use Rattle.ufs_quiet.specs.Commands.{asked}
-use Rattle.ufs_quiet.specs.Seen.{course}
+use Rattle.ufs_command.specs.Commands.{asked}
+use Rattle.ufs_command.specs.Seen.{course}
 use Rattle.ufs_mirror.specs.Pairs.{Follows, moments_of, watched}
 use Rattle.std.specs.Prelude.{◌&&◌}
 use Rattle.ufs_process.specs.Counts.{HasFailed}

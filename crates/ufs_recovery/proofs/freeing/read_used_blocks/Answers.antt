@@ -1,6 +1,6 @@
 use Rattle.std.proofs.Common.{sym, subst}
 use Rattle.std.proofs.lemmas.Result.{IfErr-weaker, IfOk-weaker}
-use Rattle.ufs_catalog.specs.Faults.{HasFaultCause}
+use Rattle.ufs_metadata.specs.Faults.{HasFaultCause}
 use Rattle.ufs_disk.specs.Moments.{reads}
 use Rattle.ufs_recovery.proofs.freeing.read_used_blocks.Goals as goal
 

@@ -1,5 +1,5 @@
 use Rattle.std.proofs.Common.{List, ap, sym, ◌∙◌, length}
-use Rattle.ufs_durable.specs.State.{DurableState, state_of}
+use Rattle.ufs_file_commits.specs.State.{DurableState, state_of}
 use Rattle.ufs_extent.specs.Runs.{blocks_of}
 use Rattle.ufs_extent.specs.declared.Run.{Run}
 use Rattle.ufs_file.specs.Content.{block_count}

@@ -4,7 +4,7 @@ use Rattle.ufs_model.specs.declared.data.PartName.TheVariants.{File}
 use Rattle.ufs_msg.specs.Requests.{HasClientAlone}
 use Rattle.ufs_serving.proofs.Lending.{client_back, pool_back}
 use Rattle.ufs_serving.proofs.pool.take_pool.Goals as goal
-use Rattle.ufs_first_hand.specs.FirstHand.{HasPoolAlone}
+use Rattle.ufs_joint.specs.FirstHand.{HasPoolAlone}
 
 pub returns-clause-client : goal.returns-clause-client
 returns-clause-client g c = λ client part pool came.

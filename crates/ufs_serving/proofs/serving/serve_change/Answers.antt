@@ -1,8 +1,8 @@
 use Rattle.std.proofs.Common.{◌≡◌, ◌≤◌, ◌+◌, ℕ, max, Bool, true, false, List, length, Option, Some, None, ap, refl, sym, subst, ◌∙◌}
 use Rattle.std.specs.FinSet as set
 use Rattle.ufs_bitmap.specs.Blocks.{BlockSet}
-use Rattle.ufs_durable.specs.Serving.{IsServedKept}
-use Rattle.ufs_durable.specs.State.{whole_of}
+use Rattle.ufs_file_commits.specs.Serving.{IsServedKept}
+use Rattle.ufs_file_commits.specs.State.{whole_of}
 use Rattle.ufs_file.specs.Content.{IsContentOf, block_count}
 use Rattle.ufs_file.specs.Hand.{FileState, IsOf, missing}
 use Rattle.ufs_held.specs.Asking.{IsGuest}
@@ -15,7 +15,7 @@ use Rattle.ufs_model.specs.declared.data.Desc.{Desc}
 use Rattle.ufs_model.specs.declared.data.Entry.{Entry}
 use Rattle.ufs_model.specs.declared.data.Excuse.TheVariants as excuse
 use Rattle.ufs_model.proofs.Facts.Lookups.{same_some}
-use Rattle.ufs_first_hand.specs.FirstHand.{HasPoolAlone}
+use Rattle.ufs_joint.specs.FirstHand.{HasPoolAlone}
 use Rattle.ufs_serving.specs.Pools.{IsWithin}
 use Rattle.ufs_serving.specs.Serving.{IsServedAt}
 use Rattle.ufs_serving.proofs.Conserving.{left_within, none_lost}

@@ -1,7 +1,7 @@
 use Rattle.std.proofs.Common.{ℕ, refl, sym, subst}
 use Rattle.ufs_held.specs.Asking.{IsGuest}
 use Rattle.ufs_serving.proofs.syncing.serve_sync.Goals as goal
-use Rattle.ufs_first_hand.specs.FirstHand.{HasPoolAlone}
+use Rattle.ufs_joint.specs.FirstHand.{HasPoolAlone}
 
 pub lend_pool-guest-requires : goal.lend_pool-guest-requires
 lend_pool-guest-requires g c =

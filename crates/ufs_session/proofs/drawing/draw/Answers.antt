@@ -5,9 +5,9 @@ use Rattle.ufs_one_hand.specs.Apart.{HasEachFile}
 use Rattle.ufs_one_hand.specs.Drawn.{HasCauses, IsReplyAlike}
 use Rattle.ufs_one_hand.specs.OneHand.{HasSession, IsCoveredIn, IsStampedIn, KnowsSynced, faults_in, passed_in, state_in}
 use Rattle.ufs_one_hand.proofs.Showing.{covered_in_push}
-use Rattle.ufs_sound.specs.Covers.{step_in}
-use Rattle.ufs_sound.specs.Parts.{Start, View}
-use Rattle.ufs_sound.specs.Shown.{ExplainsImages}
+use Rattle.ufs_hand_laws.specs.Covers.{step_in}
+use Rattle.ufs_hand_laws.specs.Parts.{Start, View}
+use Rattle.ufs_hand_laws.specs.Shown.{ExplainsImages}
 use Rattle.ufs_session.specs.Drawing.{IsServedIn, acknowledges, entry_had, had_as, tree_had}
 use Rattle.ufs_session.proofs.DrawingLemmas.{acked_done, is_acked, no_ack}
 use Rattle.ufs_session.proofs.HadLemmas.{given_done, had_causes, had_done, had_push, same_had}

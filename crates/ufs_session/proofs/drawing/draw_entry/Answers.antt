@@ -4,8 +4,8 @@ use Rattle.ufs_model.specs.declared.data.Entry.{Entry}
 use Rattle.ufs_one_hand.specs.Apart.{HasEachFile}
 use Rattle.ufs_one_hand.specs.Drawn.{IsAnswer, IsReplyAlike, told_as}
 use Rattle.ufs_one_hand.specs.OneHand.{HasSession, IsStampedIn, in_store}
-use Rattle.ufs_sound.specs.Owned.{Has, weigh}
-use Rattle.ufs_sound.specs.Parts.{StorePart}
+use Rattle.ufs_hand_laws.specs.Owned.{Has, weigh}
+use Rattle.ufs_hand_laws.specs.Parts.{StorePart}
 use Rattle.ufs_session.specs.Drawing.{entry_had, had_as}
 use Rattle.ufs_session.proofs.DrawingLemmas.{fresh_of, is_answer}
 use Rattle.ufs_session.proofs.HadLemmas.{had_push}

@@ -3,8 +3,8 @@ use Rattle.std.specs.Prelude.{◌≤◌, List, ℕ}
 use Rattle.ufs_model.specs.PosixTree.{PosixTree}
 use Rattle.ufs_one_hand.specs.Drawn.{IsAcknowledged}
 use Rattle.ufs_one_hand.specs.OneHand.{KnowsSynced}
-use Rattle.ufs_sound.specs.Covers.{step_in}
-use Rattle.ufs_sound.specs.Owned.{Has, times}
+use Rattle.ufs_hand_laws.specs.Covers.{step_in}
+use Rattle.ufs_hand_laws.specs.Owned.{Has, times}
 use Rattle.ufs_session.specs.Drawing.{had_as}
 use Rattle.ufs_session.proofs.drawing.keep.Goals as goal
 

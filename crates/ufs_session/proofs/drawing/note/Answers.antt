@@ -1,8 +1,8 @@
 use Rattle.std.proofs.Common.{◌≡◌, ◌++◌, ◌≤◌, ℕ, List, length, None, Some, sym, refl, ap, ◌∙◌, subst, inl, arith}
 use Rattle.ufs_server.specs.Answered.{device_in, stopped_in}
 use Rattle.ufs_session.specs.Drawing.{short_in}
-use Rattle.ufs_sound.specs.Owned.{Has, times}
-use Rattle.ufs_sound.specs.Parts.{Cells, Shortage}
+use Rattle.ufs_hand_laws.specs.Owned.{Has, times}
+use Rattle.ufs_hand_laws.specs.Parts.{Cells, Shortage}
 use Rattle.ufs_one_hand.specs.Drawn.{MayPass}
 use Rattle.ufs_one_hand.specs.OneHand.{faults_in}
 use Rattle.ufs_session.proofs.DrawingLemmas.{none_met}

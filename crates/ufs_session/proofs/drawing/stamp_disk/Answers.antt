@@ -1,8 +1,8 @@
 use Rattle.std.proofs.Common.{ℕ, ◌++◌, ◌≡◌, [], List, length, None, Some, ap, ◌∙◌, sym, subst, arith}
 use Rattle.ufs_one_hand.specs.OneHand.{faults_in}
-use Rattle.ufs_sound.specs.Owned.{Has}
-use Rattle.ufs_sound.specs.Parts.{Cells}
-use Rattle.ufs_sound.specs.Shown.{ExplainsImages}
+use Rattle.ufs_hand_laws.specs.Owned.{Has}
+use Rattle.ufs_hand_laws.specs.Parts.{Cells}
+use Rattle.ufs_hand_laws.specs.Shown.{ExplainsImages}
 use Rattle.ufs_session.proofs.DrawingLemmas.{none_met}
 use Rattle.ufs_session.proofs.drawing.stamp_disk.Goals as goal
 

@@ -1,7 +1,7 @@
 use Rattle.std.proofs.Common.{◌≡◌, ◌∷◌, ◌++◌, [], ℕ, List, Option, None, Some, Result, Err, inl, true, false, ap, sym, refl, subst, ◌∙◌, arith}
 use Rattle.std.specs.Prelude.{IfOk, IsOk, IsTrue}
-use Rattle.ufs_alike.proofs.StepLemmas.{asks}
-use Rattle.ufs_alike.proofs.TreeLemmas.{either_way}
+use Rattle.ufs_bytes_laws.proofs.StepLemmas.{asks}
+use Rattle.ufs_bytes_laws.proofs.TreeLemmas.{either_way}
 use Rattle.ufs_base.specs.declared.memory.Memory.{Memory}
 use Rattle.ufs_model.specs.Asks.{file_in}
 use Rattle.ufs_model.specs.Excuses.{ExcuseFits}
@@ -11,15 +11,15 @@ use Rattle.ufs_model.specs.declared.data.Reply.TheVariants as reply
 use Rattle.ufs_names.specs.Calls.{IsOfNames}
 use Rattle.ufs_server.specs.Fetched.{IsReady}
 use Rattle.ufs_server.specs.Touching.{IsFileTouched}
-use Rattle.ufs_stored.specs.Parts.{Parts}
+use Rattle.ufs_promise_laws.specs.Parts.{Parts}
 use Rattle.ufs_model.specs.History.{is_excused}
 use Rattle.ufs_model.specs.PosixTree.{PosixTree}
 use Rattle.ufs_model.specs.declared.data.Entry.{Entry}
 use Rattle.ufs_server.proofs.FileFetching.{none_read}
 use Rattle.ufs_server.specs.Answered.{device_told}
 use Rattle.ufs_store.specs.State.{geometry_of_store}
-use Rattle.ufs_stored.specs.OnDisk.{IsExplainedBetween, IsOnDisk}
-use Rattle.ufs_stored.proofs.Stamping.{go_on}
+use Rattle.ufs_promise_laws.specs.OnDisk.{IsExplainedBetween, IsOnDisk}
+use Rattle.ufs_promise_laws.proofs.Stamping.{go_on}
 use Rattle.ufs_layout.specs.declared.geometry.Geometry.{Geometry}
 use Rattle.ufs_server.specs.Numbers.{most_raised}
 use Rattle.ufs_store.specs.Numbers.{HasRaised}

@@ -7,13 +7,13 @@ use Rattle.ufs_model.specs.declared.data.Op.{Op}
 use Rattle.ufs_model.specs.declared.data.Entry.{Entry}
 use Rattle.ufs_file.specs.Hand.{IsEntryOf}
 use Rattle.ufs_one_hand.specs.OneHand.{HasSession}
-use Rattle.ufs_sound.specs.Parts.{Start}
-use Rattle.ufs_sound.specs.Shown.{ExplainsImages}
-use Rattle.ufs_sound.specs.Visible.{IsDiskVisible}
+use Rattle.ufs_hand_laws.specs.Parts.{Start}
+use Rattle.ufs_hand_laws.specs.Shown.{ExplainsImages}
+use Rattle.ufs_hand_laws.specs.Visible.{IsDiskVisible}
 use Rattle.ufs_stamped.specs.Stamped.{disk_state}
 use Rattle.ufs_store.specs.State.{StoreState}
-use Rattle.ufs_stored.specs.OnDisk.{IsOnDisk}
-use Rattle.ufs_stored.specs.Parts.{Parts}
+use Rattle.ufs_promise_laws.specs.OnDisk.{IsOnDisk}
+use Rattle.ufs_promise_laws.specs.Parts.{Parts}
 use Rattle.ufs_server.specs.Away.{AwayStays}
 use Rattle.ufs_session.specs.Asking.{AsksOf, HasAnswered, HasAnsweredOn, IsAsking}
 use Rattle.ufs_session.specs.Drawing.{HasFilesOf, IsServedIn, SeesDisk, had_as, tree_had}

@@ -4,7 +4,7 @@ use Rattle.ufs_session.specs.Throughout.{IsExplainedThroughout}
 use Rattle.ufs_session.specs.Told.{IsCaused}
 use Rattle.ufs_stamped.specs.Stamped.{StoreBefore}
 use Rattle.ufs_store.specs.State.{StoreState}
-use Rattle.ufs_stored.specs.OnDisk.{IsOnDisk}
+use Rattle.ufs_promise_laws.specs.OnDisk.{IsOnDisk}
 use Rattle.ufs_session.proofs.request.serve_stamped.Goals as goal
 
 pub serve_one-applied-requires-clause-stamped : goal.serve_one-applied-requires-clause-stamped

@@ -6,7 +6,7 @@ use Rattle.ufs_client.specs.declared.played.EndFault.TheVariants as fault
 use Rattle.ufs_disk.specs.Disk.{State}
 use Rattle.ufs_disk.specs.Moments.{all}
 use Rattle.ufs_model.specs.History.{joined}
-use Rattle.ufs_sound.specs.Owned.{Has}
+use Rattle.ufs_hand_laws.specs.Owned.{Has}
 use Rattle.ufs_store.specs.State.{StoreState}
 use Rattle.ufs_store_steps.specs.Cells.{cells_of}
 use Rattle.ufs_session.specs.Served.{AreServed}

@@ -6,7 +6,7 @@ use Rattle.ufs_model.specs.History as History
 use Rattle.ufs_model.specs.declared.data.Entry.{Entry}
 use Rattle.ufs_one_hand.specs.Drawn.{IsExplainedAtStamps}
 use Rattle.ufs_one_hand.specs.Apart.{HasEachFile}
-use Rattle.ufs_sound.specs.Owned.{Has}
+use Rattle.ufs_hand_laws.specs.Owned.{Has}
 use Rattle.ufs_store_steps.specs.Cells.{cells_of}
 use Rattle.ufs_session.specs.Drawing.{had_as}
 use Rattle.ufs_session.specs.Gathered.{AreParted, IsTogether}

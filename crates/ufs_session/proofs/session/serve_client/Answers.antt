@@ -6,7 +6,7 @@ use Rattle.ufs_model.specs.declared.data.Op.{Op}
 use Rattle.ufs_model.specs.declared.data.Entry.{Entry}
 use Rattle.ufs_client.proofs.Lists.{no_items, pushed_on}
 use Rattle.ufs_store.specs.State.{StoreState}
-use Rattle.ufs_stored.specs.Parts.{Parts}
+use Rattle.ufs_promise_laws.specs.Parts.{Parts}
 use Rattle.ufs_session.specs.Asking.{AsksOf}
 use Rattle.ufs_session.specs.Drawing.{SeesDisk, had_as}
 use Rattle.ufs_session.specs.Picked.{Pick}

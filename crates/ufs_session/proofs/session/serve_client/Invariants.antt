@@ -2,8 +2,8 @@ use Rattle.std.proofs.Common.{◌≡◌, ◌++◌}
 use Rattle.std.specs.Prelude.{List}
 use Rattle.ufs_model.specs.History.{joined}
 use Rattle.ufs_store.specs.State.{geometry_of_store}
-use Rattle.ufs_stored.specs.Parts.{Parts}
-use Rattle.ufs_stored.specs.Sound.{IsSoundServer}
+use Rattle.ufs_promise_laws.specs.Parts.{Parts}
+use Rattle.ufs_promise_laws.specs.Sound.{IsSoundServer}
 use Rattle.ufs_session.specs.Drawing.{had_as}
 use Rattle.ufs_session.specs.Picked.{Pick}
 use Rattle.ufs_session.specs.Reading.{IsNewTo}

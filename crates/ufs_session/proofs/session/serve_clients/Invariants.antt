@@ -1,7 +1,7 @@
 use Rattle.std.proofs.Common.{◌≡◌, length}
 use Rattle.ufs_model.specs.History.{joined}
 use Rattle.ufs_store.specs.State.{geometry_of_store}
-use Rattle.ufs_stored.specs.Sound.{IsSoundServer}
+use Rattle.ufs_promise_laws.specs.Sound.{IsSoundServer}
 use Rattle.ufs_session.specs.Drawing.{had_as}
 use Rattle.ufs_session.specs.Resting.{IsResting}
 use Rattle.ufs_session.specs.Told.{AreFaultsTold}

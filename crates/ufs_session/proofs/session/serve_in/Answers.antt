@@ -7,7 +7,7 @@ use Rattle.ufs_client.specs.declared.played.EndFault.TheVariants as fault
 use Rattle.ufs_disk.specs.Disk.{State}
 use Rattle.ufs_disk.specs.Moments.{all}
 use Rattle.ufs_one_hand.specs.Apart.{HasEachFile}
-use Rattle.ufs_sound.specs.Owned.{Has, times}
+use Rattle.ufs_hand_laws.specs.Owned.{Has, times}
 use Rattle.ufs_store_steps.specs.Cells.{cells_of}
 use Rattle.ufs_session.specs.Resting.{KnowsDisk}
 use Rattle.ufs_session.specs.Served.{AreServed}

@@ -1,8 +1,8 @@
 use Rattle.std.proofs.Common.{◌≡◌, ◌∙◌, ◌++◌, ◌+◌, ℕ, List, Option, ap, sym, subst, inl, inr, ⊎_elim, length}
 use Rattle.ufs_one_hand.specs.Drawn.{MayPass, faults_met}
 use Rattle.ufs_one_hand.specs.OneHand.{passed_in}
-use Rattle.ufs_sound.specs.Owned.{Has}
-use Rattle.ufs_sound.specs.Parts.{Cells, Shortage}
+use Rattle.ufs_hand_laws.specs.Owned.{Has}
+use Rattle.ufs_hand_laws.specs.Parts.{Cells, Shortage}
 use Rattle.ufs_stamped.proofs.Steps.{may_pass, new_faults, stamped_behind}
 use Rattle.ufs_stamped.proofs.door.stamp.Goals as goal
 
@@ -21,7 +21,7 @@ pass-requires g c =
       stop = λ n is. c.requires.stop ∙ faults.kept n is;
       stopped = λ n going is. faults.stopped n going (sym c.requires.stop ∙ is);
       failed = λ n is. faults.failed n (sym c.requires.failed ∙ is);
-      apart = λ n is. subst (λ (o : Option ℕ). Rattle.ufs_sound.specs.Owned.times n (Rattle.ufs_one_hand.specs.Drawn.fault_met v.stop o) ≡ 0) (sym c.requires.stop) (faults.apart n (sym c.requires.failed ∙ is));
+      apart = λ n is. subst (λ (o : Option ℕ). Rattle.ufs_hand_laws.specs.Owned.times n (Rattle.ufs_one_hand.specs.Drawn.fault_met v.stop o) ≡ 0) (sym c.requires.stop) (faults.apart n (sym c.requires.failed ∙ is));
     }
 
 pub returns : goal.returns

@@ -1,7 +1,7 @@
 use Rattle.std.proofs.Common.{◌*◌, inl, inr, ap, ◌∙◌, arith}
 use Rattle.std.proofs.lemmas.Bool.{cases_lt}
 use Rattle.ufs_base.specs.Images.{Image}
-use Rattle.ufs_catalog.proofs.Quiet.{read_more}
+use Rattle.ufs_metadata.proofs.Quiet.{read_more}
 use Rattle.ufs_start.proofs.copy.copy_blocks.Goals as goal
 
 pub returns-in_err-copy_block-clause-read_only : goal.returns-in_err-copy_block-clause-read_only

@@ -1,7 +1,7 @@
 use Rattle.std.proofs.Common.{◌≡◌, ◌*◌, ◌≤◌, ◌<◌, ℕ, IsTrue}
 use Rattle.ufs_disk.specs.Bytes.{image_of}
 use Rattle.ufs_disk.specs.Moments.{reads}
-use Rattle.ufs_catalog.specs.Reading.{IsReadOnly}
+use Rattle.ufs_metadata.specs.Reading.{IsReadOnly}
 use Rattle.ufs_front.specs.Fronts.{bytes_of}
 use Rattle.ufs_start.proofs.copy.copy_blocks.Given as goal
 

@@ -3,7 +3,7 @@ use Rattle.ufs_base.specs.Images.{Image}
 use Rattle.ufs_disk.specs.Bytes.{image_of}
 use Rattle.ufs_disk.specs.Disk.{bytes_from}
 use Rattle.ufs_disk.specs.Moments.{reads}
-use Rattle.ufs_catalog.proofs.Quiet.{read_more}
+use Rattle.ufs_metadata.proofs.Quiet.{read_more}
 use Rattle.ufs_layout.specs.Areas.{sector_count}
 use Rattle.ufs_layout.specs.declared.geometry.Geometry.{Geometry}
 use Rattle.ufs_start.specs.Copies.{IsUsed}

@@ -2,7 +2,7 @@ use Rattle.std.proofs.Common.{◌≡◌, ◌≤◌, ◌^◌, ℕ, length, ap, sy
 use Rattle.ufs_base.specs.Images.{Image}
 use Rattle.ufs_image.specs.Catalog.{catalog_at}
 use Rattle.ufs_dir_tree.specs.DirTable.{DirTable, IsReached}
-use Rattle.ufs_dir_image.specs.Tables.{IsTableOf}
+use Rattle.ufs_dir_laws.specs.Tables.{IsTableOf}
 use Rattle.ufs_layout.specs.declared.superblock.Super.{Super}
 use Rattle.ufs_name_tree.specs.NameTable.{NameTable}
 use Rattle.ufs_names.specs.Closed.{AreClosed}

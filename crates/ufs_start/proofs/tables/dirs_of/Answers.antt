@@ -11,7 +11,7 @@ use Rattle.ufs_image.proofs.Depth.{has_root}
 use Rattle.ufs_dirs.specs.Directory.{Directory, entry_of}
 use Rattle.ufs_dir_tree.specs.DirTable.{DirTable, IsReached}
 use Rattle.ufs_dir_tree.specs.DirEdits.{dir_in}
-use Rattle.ufs_dir_image.specs.Tables.{IsTableOf}
+use Rattle.ufs_dir_laws.specs.Tables.{IsTableOf}
 use Rattle.ufs_start.specs.Starts.{IsUndamaged}
 use Rattle.ufs_start.proofs.Tabled.{is_table}
 use Rattle.ufs_start.proofs.SoundRead.{sound_dirs}

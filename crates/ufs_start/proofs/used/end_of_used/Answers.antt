@@ -1,8 +1,8 @@
 use Rattle.std.proofs.Common.{◌≡◌, ◌≤◌, Ok, refl, sym, ◌∙◌, subst, arith}
 use Rattle.std.specs.Prelude.{Result, min}
 use Rattle.ufs_base.specs.Images.{Image}
-use Rattle.ufs_catalog.specs.Faults.{IsWhyNot}
-use Rattle.ufs_catalog.specs.Folded.{IsFolded}
+use Rattle.ufs_metadata.specs.Faults.{IsWhyNot}
+use Rattle.ufs_metadata.specs.Folded.{IsFolded}
 use Rattle.ufs_disk.specs.Bytes.{image_of}
 use Rattle.ufs_image.specs.Agree.{IsOfDir}
 use Rattle.ufs_image.specs.Catalog.{catalog_at}

@@ -1,5 +1,5 @@
 use Rattle.std.proofs.Common.{subst}
-use Rattle.ufs_catalog.specs.Faults.{IsOutside}
+use Rattle.ufs_metadata.specs.Faults.{IsOutside}
 use Rattle.ufs_start.proofs.used.lack_of.Goals as goal
 
 pub returns-clause-lack : goal.returns-clause-lack

@@ -1,5 +1,5 @@
 use Rattle.std.proofs.Common.{inl, inr}
-use Rattle.ufs_durable.specs.State.{state_of}
+use Rattle.ufs_file_commits.specs.State.{state_of}
 use Rattle.ufs_turns.specs.HeldStore.{sync_turn}
 use Rattle.ufs_turns.proofs.held_store.end_turn.Goals as goal
 

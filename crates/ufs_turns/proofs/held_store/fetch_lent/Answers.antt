@@ -3,13 +3,13 @@ use Rattle.std.specs.List.{slice_get}
 use Rattle.ufs_file.specs.Content.{IsContentOf}
 use Rattle.std.specs.Prelude.{All}
 use Rattle.ufs_extent.specs.Runs.{IsRun}
-use Rattle.ufs_durable.specs.State.{DurableState, state_of}
+use Rattle.ufs_file_commits.specs.State.{DurableState, state_of}
 use Rattle.ufs_joint.specs.Disks.{cell_of}
 use Rattle.ufs_joint.specs.FileHands.{FileFetchesGoOn, FileFetchesMayEnd, IsFurther}
 use Rattle.ufs_layout.specs.Areas.{first_of_data}
 use Rattle.ufs_layout.specs.declared.geometry.Geometry.{Geometry}
-use Rattle.ufs_on_disk.specs.Fetches.{IsFetched}
-use Rattle.ufs_on_disk.specs.Syncs.{IsSpaceOf, MaySync}
+use Rattle.ufs_event_laws.specs.Fetches.{IsFetched}
+use Rattle.ufs_event_laws.specs.Syncs.{IsSpaceOf, MaySync}
 use Rattle.ufs_joint.specs.Turns.{MayEndTurn}
 use Rattle.ufs_store.specs.Refusals.{fault_in}
 use Rattle.ufs_store.specs.State.{StoreState, geometry_of_store}

@@ -1,4 +1,4 @@
-use Rattle.ufs_durable.specs.State.{state_of}
+use Rattle.ufs_file_commits.specs.State.{state_of}
 use Rattle.ufs_turns.specs.HeldStore.{begun_view, ended_view, sync_turn}
 use Rattle.ufs_turns.proofs.held_store.fetch_lent.Given as goal
 

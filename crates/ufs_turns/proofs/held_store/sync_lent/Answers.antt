@@ -2,14 +2,14 @@ use Rattle.std.proofs.Common.{◌≡◌, ◌++◌, ℕ, Option, None, [], ◌∷
 use Rattle.std.specs.Prelude.{All}
 use Rattle.ufs_bitmap.specs.Space.{Space}
 use Rattle.ufs_extent.specs.Runs.{IsRun}
-use Rattle.ufs_durable.specs.State.{DurableState, IsNoted, state_of}
+use Rattle.ufs_file_commits.specs.State.{DurableState, IsNoted, state_of}
 use Rattle.ufs_joint.specs.Cells.{FileCell, View}
 use Rattle.ufs_joint.specs.Disks.{cell_of}
 use Rattle.ufs_joint.specs.FileHands.{FileCommitsGoOn, FileCommitsMayEnd, FileFailuresGoOn, FileFailuresMayEnd}
 use Rattle.ufs_layout.specs.Areas.{first_of_data, is_inode_number}
 use Rattle.ufs_layout.specs.declared.geometry.Geometry.{Geometry}
-use Rattle.ufs_on_disk.specs.Syncs.{IsSpaceOf, MaySync}
-use Rattle.ufs_sound.specs.Owned.{Has}
+use Rattle.ufs_event_laws.specs.Syncs.{IsSpaceOf, MaySync}
+use Rattle.ufs_hand_laws.specs.Owned.{Has}
 use Rattle.ufs_joint.specs.Turns.{MayEndTurn}
 use Rattle.ufs_store.specs.Refusals.{fault_in, fault_of, stop_after}
 use Rattle.ufs_store.specs.State.{geometry_of_store}

@@ -2,7 +2,7 @@ use Rattle.std.proofs.Common.{ℕ, List, ◌∷◌, [], inr, ap, ◌∙◌}
 use Rattle.ufs_bitmap.specs.Blocks.{BlockSet}
 use Rattle.ufs_joint.specs.Cells.{View}
 use Rattle.ufs_joint.specs.Moves.{blocks_moved}
-use Rattle.ufs_sound.specs.Owned.{each}
+use Rattle.ufs_hand_laws.specs.Owned.{each}
 use Rattle.ufs_turns.specs.HeldStore.{moved_in}
 use Rattle.ufs_turns.proofs.space.move_blocks.Goals as goal
 

@@ -4,9 +4,9 @@ use Rattle.ufs_disk.specs.Moments.{reads}
 use Rattle.ufs_image.specs.Volume.{volume}
 use Rattle.ufs_layout.specs.declared.records.Committed.{Committed}
 use Rattle.ufs_overlay.specs.Seen.{HasAdded}
-use Rattle.ufs_catalog.specs.Faults.{HasFaultCause}
-use Rattle.ufs_catalog.proofs.Quiet.{read_more}
-use Rattle.ufs_catalog.proofs.Outside.{why_outside}
+use Rattle.ufs_metadata.specs.Faults.{HasFaultCause}
+use Rattle.ufs_metadata.proofs.Quiet.{read_more}
+use Rattle.ufs_metadata.proofs.Outside.{why_outside}
 use Rattle.ufs_volume.specs.Volumes.{highest_number}
 use Rattle.ufs_volume.proofs.Why.{why_superblock, why_read, rises, folds_all, volume_is, list_is}
 use Rattle.ufs_volume.proofs.reading.read_volume.Goals as goal

@@ -1,11 +1,11 @@
 use Rattle.std.proofs.Common.{◌≢◌, ℕ, ap, sym, subst}
 use Rattle.ufs_joint.specs.Cells.{FileCell}
-use Rattle.ufs_prefix.specs.Changes.{asks_commit}
+use Rattle.ufs_crash_laws.specs.Changes.{asks_commit}
 use Rattle.ufs_serving.specs.Serving.{IsDoneAt}
 use Rattle.ufs_serving.proofs.Asked.{commits_none}
 use Rattle.ufs_serving.proofs.Lacking.{off_pool, some_of}
 use Rattle.ufs_worker.proofs.requests.serve_asked.Goals as goal
-use Rattle.ufs_first_hand.specs.FirstHand.{HasPoolAlone}
+use Rattle.ufs_joint.specs.FirstHand.{HasPoolAlone}
 
 pub serve_sync-requires-clause-pool : goal.serve_sync-requires-clause-pool
 serve_sync-requires-clause-pool g c = subst (λ (n : ℕ). HasPoolAlone n c.args.pool.now c.args.right.now) (sym c.pool_number-number.ensures) c.requires.pool

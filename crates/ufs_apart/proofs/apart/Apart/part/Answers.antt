@@ -1,7 +1,7 @@
 use Rattle.std.proofs.Common.{◌≡◌, ◌<◌, ◌≤◌, ◌+◌, ◌*◌, ℕ, length, arith, inl, inr}
 use Rattle.ufs_base.specs.declared.limits.TheConstants.{MAX_CLIENTS}
 use Rattle.ufs_model.specs.declared.data.PartName.TheVariants as part
-use Rattle.ufs_sound.specs.Parts.{View}
+use Rattle.ufs_hand_laws.specs.Parts.{View}
 use Rattle.ufs_one_hand.specs.declared.pools.TheConstants.{PRIMARY_POOL}
 use Rattle.ufs_apart.specs.Apart.{ApartState, client_names, part_names}
 use Rattle.ufs_apart.proofs.Splitting.{HasSplit, all_split, client_next, client_there, names_there, next_room, pool_there, split_apart, split_beside, split_room, store_there}

@@ -1,7 +1,7 @@
 use Rattle.std.proofs.Common.{Some, ap, arith, inl, sym, ◌∙◌}
 use Rattle.std.proofs.lemmas.Grind.{common_steps}
 use Rattle.ufs_model.specs.declared.data.PartName.TheVariants as part
-use Rattle.ufs_sound.specs.Parts.{given_of}
+use Rattle.ufs_hand_laws.specs.Parts.{given_of}
 use Rattle.ufs_apart.proofs.Places.{flat, made, splits, told}
 use Rattle.ufs_apart.proofs.apart.Apart.place_file.Goals as goal
 

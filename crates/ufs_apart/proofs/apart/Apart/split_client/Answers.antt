@@ -1,6 +1,6 @@
 use Rattle.std.proofs.Common.{ap, eqb, inl, sym, subst, ◌≤◌, ◌∙◌}
-use Rattle.ufs_sound.specs.Owned.{count}
-use Rattle.ufs_sound.specs.Parts.{View}
+use Rattle.ufs_hand_laws.specs.Owned.{count}
+use Rattle.ufs_hand_laws.specs.Parts.{View}
 use Rattle.ufs_apart.proofs.Cuts.{without_none}
 use Rattle.ufs_apart.proofs.apart.Apart.split_client.Goals as goal
 

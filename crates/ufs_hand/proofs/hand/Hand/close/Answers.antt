@@ -1,5 +1,5 @@
 use Rattle.std.proofs.Common.{arith}
-use Rattle.ufs_sound.specs.Whole.{HoldsAll}
+use Rattle.ufs_hand_laws.specs.Whole.{HoldsAll}
 use Rattle.ufs_hand.proofs.Ends.{at_close}
 use Rattle.ufs_hand.proofs.hand.Hand.close.Goals as goal
 

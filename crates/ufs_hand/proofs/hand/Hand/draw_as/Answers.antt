@@ -1,10 +1,10 @@
 use Rattle.std.proofs.Common.{[], ◌+◌, ◌%◌, ◌^◌, ◌∙◌, sym, subst, arith}
 use Rattle.atomic_table.specs.Table.{Allows}
-use Rattle.ufs_sound.specs.ByImages.{by_images}
-use Rattle.ufs_sound.specs.Draws.{MayDraw}
-use Rattle.ufs_sound.specs.Parts.{Start}
-use Rattle.ufs_sound.specs.Rule.{Drew, IsRuled}
-use Rattle.ufs_sound.proofs.Ruling.{draw_keeps}
+use Rattle.ufs_hand_laws.specs.ByImages.{by_images}
+use Rattle.ufs_hand_laws.specs.Draws.{MayDraw}
+use Rattle.ufs_hand_laws.specs.Parts.{Start}
+use Rattle.ufs_hand_laws.specs.Rule.{Drew, IsRuled}
+use Rattle.ufs_hand_laws.proofs.Ruling.{draw_keeps}
 use Rattle.ufs_hand.proofs.hand.Hand.draw_as.Goals as goal
 
 pub fetch_add-word-requires : goal.fetch_add-word-requires

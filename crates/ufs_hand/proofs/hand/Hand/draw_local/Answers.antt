@@ -1,8 +1,8 @@
 use Rattle.std.proofs.Common.{[], ◌∷◌, sym, subst}
-use Rattle.ufs_sound.specs.Draws.{MayDraw}
-use Rattle.ufs_sound.specs.Parts.{View}
-use Rattle.ufs_sound.specs.Rule.{word_at}
-use Rattle.ufs_sound.proofs.LeasedDraws.{looked_may_draw}
+use Rattle.ufs_hand_laws.specs.Draws.{MayDraw}
+use Rattle.ufs_hand_laws.specs.Parts.{View}
+use Rattle.ufs_hand_laws.specs.Rule.{word_at}
+use Rattle.ufs_hand_laws.proofs.LeasedDraws.{looked_may_draw}
 use Rattle.ufs_hand.proofs.hand.Hand.draw_local.Goals as goal
 
 pub exchange_as-found-requires-clause-may : goal.exchange_as-found-requires-clause-may

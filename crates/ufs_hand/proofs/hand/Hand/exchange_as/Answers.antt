@@ -1,7 +1,7 @@
 use Rattle.std.proofs.Common.{[], ◌∷◌, ◌∙◌, sym, subst, arith}
-use Rattle.ufs_sound.specs.ByImages.{by_images}
-use Rattle.ufs_sound.specs.Draws.{MayDraw}
-use Rattle.ufs_sound.proofs.LeasedDraws.{local_keeps}
+use Rattle.ufs_hand_laws.specs.ByImages.{by_images}
+use Rattle.ufs_hand_laws.specs.Draws.{MayDraw}
+use Rattle.ufs_hand_laws.proofs.LeasedDraws.{local_keeps}
 use Rattle.ufs_hand.proofs.hand.Hand.exchange_as.Goals as goal
 
 pub compare_exchange-requires : goal.compare_exchange-requires

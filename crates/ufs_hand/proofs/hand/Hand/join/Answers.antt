@@ -1,6 +1,6 @@
 use Rattle.std.proofs.Common.{◌∙◌, sym, arith}
-use Rattle.ufs_sound.specs.ByImages.{by_images}
-use Rattle.ufs_sound.proofs.Ruling.{join_keeps}
+use Rattle.ufs_hand_laws.specs.ByImages.{by_images}
+use Rattle.ufs_hand_laws.proofs.Ruling.{join_keeps}
 use Rattle.ufs_hand.proofs.hand.Hand.join.Goals as goal
 
 pub join_seat-requires : goal.join_seat-requires

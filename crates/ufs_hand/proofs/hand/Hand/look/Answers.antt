@@ -1,6 +1,6 @@
 use Rattle.std.proofs.Common.{◌∙◌, sym, arith}
-use Rattle.ufs_sound.specs.ByImages.{by_images}
-use Rattle.ufs_sound.proofs.Ruling.{look_keeps}
+use Rattle.ufs_hand_laws.specs.ByImages.{by_images}
+use Rattle.ufs_hand_laws.proofs.Ruling.{look_keeps}
 use Rattle.ufs_hand.proofs.hand.Hand.look.Goals as goal
 
 pub load-word-requires : goal.load-word-requires

@@ -1,8 +1,8 @@
 use Rattle.std.proofs.Common.{◌∙◌, sym, subst, arith}
 use Rattle.atomic_table.specs.Table.{Allows}
-use Rattle.ufs_sound.specs.ByImages.{by_images}
-use Rattle.ufs_sound.specs.Parts.{Start}
-use Rattle.ufs_sound.specs.Rule.{IsRuled, Marked}
+use Rattle.ufs_hand_laws.specs.ByImages.{by_images}
+use Rattle.ufs_hand_laws.specs.Parts.{Start}
+use Rattle.ufs_hand_laws.specs.Rule.{IsRuled, Marked}
 use Rattle.ufs_hand.specs.Session.{IsEvent}
 use Rattle.ufs_hand.proofs.Steps.{event_keeps}
 use Rattle.ufs_hand.proofs.hand.Hand.mark.Goals as goal

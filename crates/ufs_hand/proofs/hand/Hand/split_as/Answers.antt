@@ -1,6 +1,6 @@
 use Rattle.std.proofs.Common.{◌∙◌, sym, arith}
-use Rattle.ufs_sound.specs.ByImages.{by_images}
-use Rattle.ufs_sound.proofs.Ruling.{split_keeps}
+use Rattle.ufs_hand_laws.specs.ByImages.{by_images}
+use Rattle.ufs_hand_laws.proofs.Ruling.{split_keeps}
 use Rattle.ufs_hand.proofs.hand.Hand.split_as.Goals as goal
 
 pub split_seat-seat-requires : goal.split_seat-seat-requires

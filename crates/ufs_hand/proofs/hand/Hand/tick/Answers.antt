@@ -1,8 +1,8 @@
 use Rattle.std.proofs.Common.{◌≡◌, ◌+◌, ◌*◌, ◌/◌, ◌%◌, ◌^◌, ◌∙◌, sym, subst, arith}
 use Rattle.atomic_table.specs.Table.{Allows}
-use Rattle.ufs_sound.specs.ByImages.{by_images}
-use Rattle.ufs_sound.specs.Rule.{clock_step, IsRuled, MayTick, Ticked}
-use Rattle.ufs_sound.proofs.Ruling.{tick_keeps}
+use Rattle.ufs_hand_laws.specs.ByImages.{by_images}
+use Rattle.ufs_hand_laws.specs.Rule.{clock_step, IsRuled, MayTick, Ticked}
+use Rattle.ufs_hand_laws.proofs.Ruling.{tick_keeps}
 use Rattle.ufs_hand.proofs.hand.Hand.tick.Goals as goal
 
 pub fetch_add-word-requires : goal.fetch_add-word-requires

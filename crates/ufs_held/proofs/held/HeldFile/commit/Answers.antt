@@ -2,7 +2,7 @@ use Rattle.std.proofs.Common.{◌≡◌, ap, sym, subst, ◌∙◌}
 use Rattle.std.proofs.lemmas.Result.{on_err_weaker, on_ok_weaker}
 use Rattle.std.specs.FinSet as set
 use Rattle.ufs_bitmap.specs.Taking.{set_of}
-use Rattle.ufs_durable.specs.State.{DurableState, file_committed, state_of}
+use Rattle.ufs_file_commits.specs.State.{DurableState, file_committed, state_of}
 use Rattle.ufs_joint.specs.Cells.{FileCell}
 use Rattle.ufs_turns.specs.Lent.{AreTold}
 use Rattle.ufs_held.specs.Held.{first_cell}

@@ -1,5 +1,5 @@
 use Rattle.std.proofs.Common.{ap, ◌∙◌}
-use Rattle.ufs_durable.specs.State.{DurableState, state_of}
+use Rattle.ufs_file_commits.specs.State.{DurableState, state_of}
 use Rattle.ufs_held.proofs.After.{alone, seen_value}
 use Rattle.ufs_held.proofs.held.HeldFile.drop_blocks.Goals as goal
 

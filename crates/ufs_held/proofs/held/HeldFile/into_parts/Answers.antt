@@ -1,5 +1,5 @@
 use Rattle.std.proofs.Common.{sym}
-use Rattle.ufs_durable.specs.State.{state_of}
+use Rattle.ufs_file_commits.specs.State.{state_of}
 use Rattle.ufs_held.proofs.After.{alone, seen_value}
 use Rattle.ufs_held.proofs.held.HeldFile.into_parts.Goals as goal
 

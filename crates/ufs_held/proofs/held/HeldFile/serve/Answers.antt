@@ -1,6 +1,6 @@
 use Rattle.std.proofs.Common.{◌≡◌, ℕ, List, Some, true, false, ap, sym, subst, ◌∙◌}
-use Rattle.ufs_durable.specs.Serving.{IsServedKept}
-use Rattle.ufs_durable.specs.State.{DurableState, state_of, whole_of}
+use Rattle.ufs_file_commits.specs.Serving.{IsServedKept}
+use Rattle.ufs_file_commits.specs.State.{DurableState, state_of, whole_of}
 use Rattle.ufs_file.specs.Content.{IsContentOf}
 use Rattle.ufs_file.specs.Hand.{FileState, IsOf}
 use Rattle.ufs_model.specs.FileCalls.{file_step}

@@ -2,7 +2,7 @@ use Rattle.std.proofs.Common.{◌||◌, ℕ, sym, subst, ◌∙◌}
 use Rattle.std.specs.Prelude.{IsSome}
 use Rattle.std.specs.FinMap as fin
 use Rattle.std.specs.FinSet as set
-use Rattle.ufs_durable.specs.State.{state_of}
+use Rattle.ufs_file_commits.specs.State.{state_of}
 use Rattle.ufs_held.proofs.After.{named_in}
 use Rattle.ufs_held.proofs.held.HeldFile.tell_born.Goals as goal
 

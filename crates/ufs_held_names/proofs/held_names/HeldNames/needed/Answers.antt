@@ -3,7 +3,7 @@ use Rattle.std.specs.Prelude.{IfOk, IfSome, IsSome}
 use Rattle.std.specs.FinMap as fin
 use Rattle.ufs_base.specs.declared.memory.Memory.{Memory}
 use Rattle.ufs_noted.specs.Noted.{Noted}
-use Rattle.ufs_prefix.specs.Changes.{asks_commit}
+use Rattle.ufs_crash_laws.specs.Changes.{asks_commit}
 use Rattle.ufs_held_names.specs.Asked.{IsNeeded}
 use Rattle.ufs_held_names.specs.HeldNames.{first_names}
 use Rattle.ufs_held_names.proofs.After.{seen_noted}

@@ -1,7 +1,7 @@
 use Rattle.std.proofs.Common.{◌≡◌, ℕ, subst}
 use Rattle.std.specs.Prelude.{IfOk, IsSome}
 use Rattle.ufs_joint.specs.Cells.{FileCell}
-use Rattle.ufs_sound.specs.Owned.{Has}
+use Rattle.ufs_hand_laws.specs.Owned.{Has}
 use Rattle.ufs_home.specs.Home.{HomeState}
 use Rattle.ufs_home.specs.Lending.{AreLent}
 use Rattle.ufs_home.specs.Places.{file_here}

@@ -1,7 +1,7 @@
 use Rattle.std.proofs.Common.{[], ◌∙◌, Some, sym, subst, ap}
 use Rattle.std.specs.Prelude.{List, length, ◌-◌}
-use Rattle.ufs_sound.specs.Owned.{Has, weigh}
-use Rattle.ufs_sound.specs.Parts.{StorePart}
+use Rattle.ufs_hand_laws.specs.Owned.{Has, weigh}
+use Rattle.ufs_hand_laws.specs.Parts.{StorePart}
 use Rattle.ufs_one_hand.specs.OneHand.{IsStampedIn, in_store}
 use Rattle.ufs_one_hand.proofs.hand.OneHand.ask.Goals as goal
 

@@ -1,7 +1,7 @@
 use Rattle.std.proofs.Common.{◌∙◌, Some, refl, sym, subst, ap}
 use Rattle.std.specs.Prelude.{ℕ, ◌%◌}
-use Rattle.ufs_sound.specs.Parts.{View}
-use Rattle.ufs_sound.specs.Rule.{clock_step}
+use Rattle.ufs_hand_laws.specs.Parts.{View}
+use Rattle.ufs_hand_laws.specs.Rule.{clock_step}
 use Rattle.ufs_hand.specs.Session.{IsEvent}
 use Rattle.ufs_one_hand.specs.Apart.{HasEachFile}
 use Rattle.ufs_one_hand.specs.Drawn.{asked_view}

@@ -1,6 +1,6 @@
 use Rattle.std.specs.FinMap as fin
 use Rattle.std.proofs.Common.{[], None, ◌∙◌, ap, sym, subst}
-use Rattle.ufs_sound.specs.Parts.{View}
+use Rattle.ufs_hand_laws.specs.Parts.{View}
 use Rattle.ufs_one_hand.specs.Apart.{HasEachFile}
 use Rattle.ufs_one_hand.specs.OneHand.{HasSession, IsCoveredIn, faults_in, passed_in, stamp_in}
 use Rattle.ufs_one_hand.proofs.Beginning.{start_begun, start_covered, start_each, start_faults, start_passed, start_stamp}

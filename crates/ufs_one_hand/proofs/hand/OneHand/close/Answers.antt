@@ -1,6 +1,6 @@
 use Rattle.std.proofs.Common.{sym, subst}
-use Rattle.ufs_sound.specs.Parts.{View}
-use Rattle.ufs_sound.specs.Whole.{HoldsAll}
+use Rattle.ufs_hand_laws.specs.Parts.{View}
+use Rattle.ufs_hand_laws.specs.Whole.{HoldsAll}
 use Rattle.ufs_hand.specs.Session.{KnowsAll}
 use Rattle.ufs_one_hand.proofs.Closing.{holds_all, all_drawn, stamped_explained}
 use Rattle.ufs_one_hand.proofs.hand.OneHand.close.Goals as goal

@@ -1,6 +1,6 @@
 use Rattle.std.proofs.Common.{◌++◌, ◌∷◌, ◌∙◌, [], None, Some, ap, sym, subst}
-use Rattle.ufs_sound.specs.Draws.{entry_of, left_faults}
-use Rattle.ufs_sound.specs.Parts.{View}
+use Rattle.ufs_hand_laws.specs.Draws.{entry_of, left_faults}
+use Rattle.ufs_hand_laws.specs.Parts.{View}
 use Rattle.ufs_one_hand.specs.Drawn.{IsAnswer, told_as}
 use Rattle.ufs_one_hand.specs.Apart.{HasEachFile}
 use Rattle.ufs_one_hand.specs.OneHand.{HasSession}

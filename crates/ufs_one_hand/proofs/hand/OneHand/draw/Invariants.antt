@@ -1,4 +1,4 @@
-use Rattle.ufs_sound.specs.Draws.{entry_of}
+use Rattle.ufs_hand_laws.specs.Draws.{entry_of}
 use Rattle.ufs_one_hand.specs.Drawn.{leaves_after, told_as}
 use Rattle.ufs_one_hand.proofs.hand.OneHand.draw.Given as goal
 

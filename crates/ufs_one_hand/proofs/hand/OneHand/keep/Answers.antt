@@ -1,6 +1,6 @@
 use Rattle.std.proofs.Common.{◌≡◌, ◌∙◌, ◌++◌, ◌∷◌, [], Some, sym, subst, ap}
-use Rattle.ufs_sound.specs.Covers.{step_in}
-use Rattle.ufs_sound.specs.Parts.{View}
+use Rattle.ufs_hand_laws.specs.Covers.{step_in}
+use Rattle.ufs_hand_laws.specs.Parts.{View}
 use Rattle.ufs_hand.specs.Session.{IsEvent}
 use Rattle.ufs_one_hand.specs.Apart.{HasEachFile}
 use Rattle.ufs_one_hand.specs.OneHand.{HasSession, IsCoveredIn, IsStampedIn, KnowsSynced, faults_in, passed_in, state_in}

@@ -1,7 +1,7 @@
 use Rattle.std.proofs.Common.{◌≡◌, ◌∙◌, refl, sym, subst, ap}
 use Rattle.std.specs.Prelude.{◌%◌}
-use Rattle.ufs_sound.specs.Parts.{View}
-use Rattle.ufs_sound.specs.Rule.{KnowsTickets, clock_step}
+use Rattle.ufs_hand_laws.specs.Parts.{View}
+use Rattle.ufs_hand_laws.specs.Rule.{KnowsTickets, clock_step}
 use Rattle.ufs_hand.specs.Session.{IsEvent}
 use Rattle.ufs_one_hand.specs.Apart.{HasEachFile}
 use Rattle.ufs_one_hand.specs.Drawn.{turned_view}

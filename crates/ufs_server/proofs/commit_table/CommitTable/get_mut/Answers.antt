@@ -7,8 +7,8 @@ use Rattle.std.specs.Ordering.{nat_cmp}
 use Rattle.std.specs.Cmp.{nat_cmp_total}
 use Rattle.ufs_calls.specs.Seen.{seen}
 use Rattle.ufs_calls.proofs.Facts.Maps.{get-seen}
-use Rattle.ufs_durable.specs.State.{CommitState}
-use Rattle.ufs_stored.specs.Parts.{Commits}
+use Rattle.ufs_file_commits.specs.State.{CommitState}
+use Rattle.ufs_promise_laws.specs.Parts.{Commits}
 use Rattle.ufs_server.proofs.Known.{put_back}
 use Rattle.ufs_server.proofs.commit_table.CommitTable.get_mut.Goals as goal
 

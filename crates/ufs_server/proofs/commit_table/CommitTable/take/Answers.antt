@@ -4,7 +4,7 @@ use Rattle.std.specs.FinMap.{nat_cmp-IsAntisymmetric}
 use Rattle.std.specs.Ordering.{nat_cmp}
 use Rattle.std.specs.Cmp.{nat_cmp_total}
 use Rattle.ufs_calls.proofs.Facts.Maps.{get-seen, remove-seen}
-use Rattle.ufs_stored.specs.Parts.{Commits}
+use Rattle.ufs_promise_laws.specs.Parts.{Commits}
 use Rattle.ufs_server.proofs.commit_table.CommitTable.take.Goals as goal
 
 pub returns-clause-value : goal.returns-clause-value

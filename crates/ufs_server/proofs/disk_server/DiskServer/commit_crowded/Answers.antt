@@ -1,7 +1,7 @@
 use Rattle.std.proofs.Common.{◌∙◌, ◌≤◌, ap, inr, is_some, subst, sym}
 use Rattle.ufs_layout.specs.declared.geometry.Geometry.{Geometry}
-use Rattle.ufs_stored.specs.Parts.{Parts}
-use Rattle.ufs_stored.specs.Stamping.{ExplainsAllowed}
+use Rattle.ufs_promise_laws.specs.Parts.{Parts}
+use Rattle.ufs_promise_laws.specs.Stamping.{ExplainsAllowed}
 use Rattle.ufs_server.specs.Served.{StaysOnDisk}
 use Rattle.ufs_server.proofs.Lending.{memory_alone, room_behind}
 use Rattle.ufs_server.proofs.Staying.{named_or_not, rests_on_disk}

@@ -9,10 +9,10 @@ use Rattle.ufs_files.specs.Files.{AreNumbered, Files}
 use Rattle.ufs_layout.specs.Areas.{first_of_data}
 use Rattle.ufs_layout.specs.declared.geometry.Geometry.{Geometry}
 use Rattle.ufs_names.specs.NamesPart.{NamesPart}
-use Rattle.ufs_durable.specs.State.{CommitState, DurableState, state_of}
-use Rattle.ufs_on_disk.specs.Syncs.{IsSpaceOf}
+use Rattle.ufs_file_commits.specs.State.{CommitState, DurableState, state_of}
+use Rattle.ufs_event_laws.specs.Syncs.{IsSpaceOf}
 use Rattle.ufs_store.specs.State.{geometry_of_store}
-use Rattle.ufs_stored.specs.Parts.{Commits, Parts, with_file}
+use Rattle.ufs_promise_laws.specs.Parts.{Commits, Parts, with_file}
 use Rattle.ufs_server.proofs.FileServing.{IsOut, whole}
 use Rattle.ufs_server.proofs.FileCommitting.{IsBack, IsForgotten, forgets_done, forgets_failed, forgotten_done, here_done, here_failed, may_blocks, may_dropped, may_leave, meanwhile, on_disk_failed, parts_done, parts_failed, sound_done, sound_failed, synced_done}
 use Rattle.ufs_server.proofs.Holding.{put_is}

@@ -7,14 +7,14 @@ use Rattle.std.proofs.lemmas.Result.{err_from_is_err_and}
 use Rattle.ufs_bitmap.specs.Taking.{has}
 use Rattle.ufs_bitmap.proofs.TakingLemmas.{has-none}
 use Rattle.ufs_calls.proofs.Facts.Maps.{on_err}
-use Rattle.ufs_durable.proofs.Served.{has_at}
+use Rattle.ufs_file_commits.proofs.Served.{has_at}
 use Rattle.ufs_model.proofs.Facts.Histories.{take-push}
 use Rattle.ufs_names.specs.NamesPart.{NamesPart}
-use Rattle.ufs_stored.specs.OnDisk.{HasFiles}
-use Rattle.ufs_stored.proofs.Stamping.{named_go_on}
+use Rattle.ufs_promise_laws.specs.OnDisk.{HasFiles}
+use Rattle.ufs_promise_laws.proofs.Stamping.{named_go_on}
 use Rattle.ufs_store.proofs.Raised.{raises_more, raises_none, raises_then}
 use Rattle.ufs_server.proofs.Filed.{forgotten_more, none_yet, one_more}
-use Rattle.ufs_stored.proofs.Stretches.{explained_joined}
+use Rattle.ufs_promise_laws.proofs.Stretches.{explained_joined}
 use Rattle.ufs_server.specs.Served.{CommitEnds}
 use Rattle.ufs_server.proofs.Staying.{ends_joined, none_ends}
 use Rattle.ufs_server.proofs.disk_server.DiskServer.commit_files.Goals as goal

@@ -5,7 +5,7 @@ use Rattle.ufs_bitmap.specs.Taking.{has}
 use Rattle.ufs_model.specs.PosixTree.{PosixTree}
 use Rattle.ufs_model.specs.declared.data.Entry.{Entry}
 use Rattle.ufs_store.specs.Numbers.{HasRaised}
-use Rattle.ufs_stored.specs.OnDisk.{HasFiles, HasNames, IsExplainedBetween}
+use Rattle.ufs_promise_laws.specs.OnDisk.{HasFiles, HasNames, IsExplainedBetween}
 use Rattle.ufs_server.specs.Served.{CommitEnds}
 use Rattle.ufs_server.proofs.disk_server.DiskServer.commit_files.Given as goal
 

@@ -9,9 +9,9 @@ use Rattle.ufs_files.specs.Files.{AreNumbered}
 use Rattle.ufs_layout.specs.Areas.{first_of_data}
 use Rattle.ufs_layout.specs.declared.geometry.Geometry.{Geometry}
 use Rattle.ufs_model.specs.declared.data.Desc.{Desc}
-use Rattle.ufs_on_disk.specs.Syncs.{IsSpaceOf}
+use Rattle.ufs_event_laws.specs.Syncs.{IsSpaceOf}
 use Rattle.ufs_store.specs.State.{geometry_of_store}
-use Rattle.ufs_stored.specs.Parts.{Parts}
+use Rattle.ufs_promise_laws.specs.Parts.{Parts}
 use Rattle.ufs_server.specs.Served.{StaysOnDisk}
 use Rattle.ufs_server.proofs.FileCommitting.{may_blocks}
 use Rattle.ufs_server.proofs.FileFetching.{IsReadBack, further_at_last, ready_at_last, sound_read, stays_at_last}

@@ -5,7 +5,7 @@ use Rattle.ufs_model.specs.Asks.{file_in}
 use Rattle.ufs_model.specs.declared.data.Ask.{Ask}
 use Rattle.ufs_model.specs.declared.data.Desc.{Desc}
 use Rattle.ufs_names.specs.Calls.{IsOfNames}
-use Rattle.ufs_stored.specs.Parts.{Parts}
+use Rattle.ufs_promise_laws.specs.Parts.{Parts}
 use Rattle.ufs_server.specs.Touching.{IsFileTouched}
 use Rattle.ufs_server.proofs.NamesGoOn.{told_of}
 use Rattle.ufs_server.proofs.disk_server.DiskServer.file_named.Goals as goal

@@ -3,8 +3,8 @@ use Rattle.std.specs.FinSet as set
 use Rattle.ufs_bitmap.specs.Blocks.{BlockSet}
 use Rattle.ufs_store.specs.Blocks.{AreApart}
 use Rattle.ufs_store.specs.State.{StoreState, geometry_of_store}
-use Rattle.ufs_stored.specs.Laws.{MovesBlocks}
-use Rattle.ufs_stored.specs.Parts.{Parts}
+use Rattle.ufs_promise_laws.specs.Laws.{MovesBlocks}
+use Rattle.ufs_promise_laws.specs.Parts.{Parts}
 use Rattle.ufs_server.proofs.Gathering.{all_given, had_in, kept_by, moved_by, store_apart}
 use Rattle.ufs_server.proofs.disk_server.DiskServer.gather.Goals as goal
 

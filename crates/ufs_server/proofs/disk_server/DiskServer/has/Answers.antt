@@ -2,7 +2,7 @@ use Rattle.std.proofs.Common.{◌≡◌, ◌∙◌, Option, Some, None, Bor, is_
 use Rattle.std.specs.FinMap as map
 use Rattle.std.specs.Option.{option_copied}
 use Rattle.ufs_model.proofs.Facts.Live.{alike}
-use Rattle.ufs_stored.specs.Parts.{Parts}
+use Rattle.ufs_promise_laws.specs.Parts.{Parts}
 use Rattle.ufs_server.proofs.Touch.{here_live, live_here}
 use Rattle.ufs_server.proofs.disk_server.DiskServer.has.Goals as goal
 

@@ -1,7 +1,7 @@
 use Rattle.std.proofs.Common.{◌≡◌, true, ap, sym, ◌∙◌}
 use Rattle.std.specs.Option.{is_some}
 use Rattle.std.specs.FinMap as map
-use Rattle.ufs_stored.specs.Parts.{Commits, Parts}
+use Rattle.ufs_promise_laws.specs.Parts.{Commits, Parts}
 use Rattle.ufs_server.proofs.Holding.{known_already}
 use Rattle.ufs_server.proofs.disk_server.DiskServer.know.Goals as goal
 

@@ -3,7 +3,7 @@ use Rattle.std.specs.FinMap as map
 use Rattle.ufs_file.specs.Hand.{FileState}
 use Rattle.ufs_model.specs.FileCalls.{file_refusal, is_on_file}
 use Rattle.ufs_model.proofs.Facts.Lookups.{same_some}
-use Rattle.ufs_stored.specs.Parts.{Parts}
+use Rattle.ufs_promise_laws.specs.Parts.{Parts}
 use Rattle.ufs_server.proofs.disk_server.DiskServer.lacking.Goals as goal
 
 pub returns-clause-some : goal.returns-clause-some

@@ -1,5 +1,5 @@
 use Rattle.std.proofs.Common.{inl, ap, ◌+◌, arith}
-use Rattle.ufs_stored.proofs.Stamping.{go_on}
+use Rattle.ufs_promise_laws.proofs.Stamping.{go_on}
 use Rattle.ufs_store.proofs.Raised.{raises_more, raises_then}
 use Rattle.ufs_store.specs.State.{geometry_of_store}
 use Rattle.ufs_server.specs.Numbers.{most_committed}

@@ -13,10 +13,10 @@ use Rattle.ufs_files.specs.Files.{AreNumbered}
 use Rattle.ufs_model.specs.History.{is_excused}
 use Rattle.ufs_model.specs.declared.data.Desc.{Desc}
 use Rattle.ufs_model.specs.declared.data.Excuse.TheVariants as excuse
-use Rattle.ufs_durable.specs.Serving.{IsApplied}
-use Rattle.ufs_durable.specs.State.{CommitState, DurableState, blocks_held, state_of}
+use Rattle.ufs_file_commits.specs.Serving.{IsApplied}
+use Rattle.ufs_file_commits.specs.State.{CommitState, DurableState, blocks_held, state_of}
 use Rattle.ufs_store.specs.State.{geometry_of_store}
-use Rattle.ufs_stored.specs.Parts.{FileOwns, Parts}
+use Rattle.ufs_promise_laws.specs.Parts.{FileOwns, Parts}
 use Rattle.ufs_server.specs.Room.{IsFree}
 use Rattle.ufs_server.specs.Served.{Stays, StaysOnDisk}
 use Rattle.ufs_server.proofs.FileServing.{IsOut, IsServedBack, answered_at_last, apart, away_at_last, excused_on_disk, forgets_at_last, kept_free, on_disk_at_last, parts_at_last, sound_at_last, whole}

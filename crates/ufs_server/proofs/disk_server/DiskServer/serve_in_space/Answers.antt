@@ -2,7 +2,7 @@ use Rattle.std.proofs.Common.{◌≡◌, refl, subst, sym, true, arith, ◌+◌,
 use Rattle.ufs_model.specs.Bounds.{IsBounded}
 use Rattle.ufs_model.specs.History.{is_excused}
 use Rattle.ufs_model.specs.declared.data.Ask.{Ask}
-use Rattle.ufs_stored.proofs.Stamping.{go_on}
+use Rattle.ufs_promise_laws.proofs.Stamping.{go_on}
 use Rattle.ufs_store.proofs.Raised.{raises_more, raises_then}
 use Rattle.ufs_layout.specs.declared.geometry.Geometry.{Geometry}
 use Rattle.ufs_store.specs.Numbers.{HasRaised}

@@ -13,9 +13,9 @@ use Rattle.ufs_model.specs.declared.data.Reply.TheVariants as reply
 use Rattle.ufs_names.specs.Calls.{IsOfNames, IsTouched}
 use Rattle.ufs_store.specs.State.{StoreState, geometry_of_store}
 use Rattle.ufs_store.proofs.Raised.{raises_beside}
-use Rattle.ufs_stored.specs.Parts.{Parts}
-use Rattle.ufs_stored.specs.Sound.{IsSoundServer}
-use Rattle.ufs_stored.specs.Stored.{ArePartsOf}
+use Rattle.ufs_promise_laws.specs.Parts.{Parts}
+use Rattle.ufs_promise_laws.specs.Sound.{IsSoundServer}
+use Rattle.ufs_promise_laws.specs.Stored.{ArePartsOf}
 use Rattle.ufs_server.proofs.NamesGoOn.{DidApply, did_promise, did_serve, did_stay, touched_alone, touched_here}
 use Rattle.ufs_server.proofs.Gathering.{store_apart}
 use Rattle.ufs_server.proofs.Lending.{lacking, room_stays, short_of, spends, spends_none}

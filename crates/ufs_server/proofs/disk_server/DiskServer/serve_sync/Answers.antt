@@ -6,8 +6,8 @@ use Rattle.ufs_model.specs.PosixTree.{PosixTree}
 use Rattle.ufs_model.specs.Refusals.{own_refusal}
 use Rattle.ufs_model.specs.declared.data.Reply.{Reply}
 use Rattle.ufs_model.specs.declared.data.Reply.TheVariants as reply
-use Rattle.ufs_prefix.specs.Steps.{is_ok}
-use Rattle.ufs_stored.specs.Laws.{leaves_tree}
+use Rattle.ufs_crash_laws.specs.Steps.{is_ok}
+use Rattle.ufs_promise_laws.specs.Laws.{leaves_tree}
 use Rattle.ufs_store.specs.State.{geometry_of_store}
 use Rattle.ufs_store.proofs.Raised.{raises_none}
 use Rattle.ufs_server.specs.Numbers.{most_raised}

@@ -1,6 +1,6 @@
 use Rattle.std.proofs.Common.{ap, subst, sym}
 use Rattle.std.specs.Prelude.{Option}
-use Rattle.ufs_stored.specs.Parts.{Parts}
+use Rattle.ufs_promise_laws.specs.Parts.{Parts}
 use Rattle.ufs_server.specs.Touching.{AreReadied, IsReadied, IsSettled, file_touched}
 use Rattle.ufs_server.specs.declared.touched.Touched.{Touched}
 use Rattle.ufs_server.proofs.Touching.{one_settled}

@@ -4,9 +4,9 @@ use Rattle.std.specs.FinMap as map
 use Rattle.std.proofs.lemmas.Result.{on_err_weaker, on_ok_weaker}
 use Rattle.ufs_bitmap.specs.Taking.{has}
 use Rattle.ufs_names.specs.NamesPart.{Holdings, NamesPart}
-use Rattle.ufs_stored.specs.Parts.{Parts}
-use Rattle.ufs_stored.proofs.Stretches.{explained_joined}
-use Rattle.ufs_stored.proofs.Stamping.{go_on_named}
+use Rattle.ufs_promise_laws.specs.Parts.{Parts}
+use Rattle.ufs_promise_laws.proofs.Stretches.{explained_joined}
+use Rattle.ufs_promise_laws.proofs.Stamping.{go_on_named}
 use Rattle.ufs_name_tree.specs.NameTable.{IsNameTable}
 use Rattle.ufs_store.specs.State.{geometry_of_store}
 use Rattle.ufs_store.proofs.Raised.{raises_more, raises_none, raises_then}

@@ -3,9 +3,9 @@ use Rattle.std.specs.Prelude.{IsSome}
 use Rattle.std.specs.FinMap as map
 use Rattle.std.proofs.lemmas.Result.{on_err_weaker, on_ok_weaker}
 use Rattle.ufs_names.specs.NamesPart.{NamesPart}
-use Rattle.ufs_stored.specs.Parts.{Parts}
-use Rattle.ufs_stored.proofs.Stretches.{explained_joined}
-use Rattle.ufs_stored.proofs.Stamping.{go_on_named}
+use Rattle.ufs_promise_laws.specs.Parts.{Parts}
+use Rattle.ufs_promise_laws.proofs.Stretches.{explained_joined}
+use Rattle.ufs_promise_laws.proofs.Stamping.{go_on_named}
 use Rattle.ufs_store.proofs.Raised.{raises_then}
 use Rattle.ufs_server.proofs.Filed.{has_file, none_yet}
 use Rattle.ufs_server.proofs.Staying.{ends_joined}

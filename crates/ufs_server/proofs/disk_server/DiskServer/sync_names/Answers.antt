@@ -12,15 +12,15 @@ use Rattle.ufs_names.specs.Notes.{with_notes}
 use Rattle.ufs_store.specs.Refusals.{is_own}
 use Rattle.ufs_store.specs.State.{geometry_of_store}
 use Rattle.ufs_store.specs.declared.fault.StoreFault.{StoreFault}
-use Rattle.ufs_stored.specs.Laws.{with_names_committed}
-use Rattle.ufs_stored.specs.OnDisk.{HasNames, IsExplainedBetween, IsOnDisk}
-use Rattle.ufs_stored.specs.Parts.{Parts, TheNames}
-use Rattle.ufs_stored.specs.Sound.{IsSoundServer}
-use Rattle.ufs_stored.specs.Stored.{ArePartsOf}
-use Rattle.ufs_stored.proofs.Stamping.{is_going}
+use Rattle.ufs_promise_laws.specs.Laws.{with_names_committed}
+use Rattle.ufs_promise_laws.specs.OnDisk.{HasNames, IsExplainedBetween, IsOnDisk}
+use Rattle.ufs_promise_laws.specs.Parts.{Parts, TheNames}
+use Rattle.ufs_promise_laws.specs.Sound.{IsSoundServer}
+use Rattle.ufs_promise_laws.specs.Stored.{ArePartsOf}
+use Rattle.ufs_promise_laws.proofs.Stamping.{is_going}
 use Rattle.ufs_server.specs.Away.{ForgetsNothing}
 use Rattle.ufs_server.proofs.Away.{forgets_none}
-use Rattle.ufs_stored.proofs.Unfresh.{parts_committed, sound_committed}
+use Rattle.ufs_promise_laws.proofs.Unfresh.{parts_committed, sound_committed}
 use Rattle.ufs_server.proofs.disk_server.DiskServer.sync_names.Given.{Over}
 use Rattle.ufs_server.proofs.disk_server.DiskServer.sync_names.Goals.{After-commit_notes-committed}
 use Rattle.ufs_server.proofs.disk_server.DiskServer.sync_names.Goals as goal

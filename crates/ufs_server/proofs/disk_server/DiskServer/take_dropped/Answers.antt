@@ -4,12 +4,12 @@ use Rattle.ufs_bitmap.specs.Space.{Space}
 use Rattle.ufs_layout.specs.declared.geometry.Geometry.{Geometry}
 use Rattle.ufs_store.specs.State.{geometry_of_store}
 use Rattle.ufs_store.proofs.Stamping.{home_more}
-use Rattle.ufs_stored.specs.Parts.{Parts}
-use Rattle.ufs_stored.specs.Sound.{IsSoundServer}
-use Rattle.ufs_stored.specs.Stored.{ArePartsOf}
-use Rattle.ufs_stored.specs.OnDisk.{IsOnDisk}
-use Rattle.ufs_stored.proofs.Stamping.{is_going}
-use Rattle.ufs_synced.specs.Laws.{IsBeside, with_reclaimed}
+use Rattle.ufs_promise_laws.specs.Parts.{Parts}
+use Rattle.ufs_promise_laws.specs.Sound.{IsSoundServer}
+use Rattle.ufs_promise_laws.specs.Stored.{ArePartsOf}
+use Rattle.ufs_promise_laws.specs.OnDisk.{IsOnDisk}
+use Rattle.ufs_promise_laws.proofs.Stamping.{is_going}
+use Rattle.ufs_names_commit.specs.Laws.{IsBeside, with_reclaimed}
 use Rattle.ufs_server.proofs.Away.{forgets_none}
 use Rattle.ufs_server.proofs.Beside.{told_untold}
 use Rattle.ufs_server.proofs.Checkpoints.{checkpoint_err, checkpoint_moments, checkpoint_ok, none_passed, none_told}

@@ -1,7 +1,7 @@
 use Rattle.std.proofs.Common.{◌≡◌, ap, sym, ◌∙◌, subst}
 use Rattle.std.specs.FinMap as map
 use Rattle.ufs_files.specs.Files.{AreNumbered, Files}
-use Rattle.ufs_stored.specs.Parts.{Parts}
+use Rattle.ufs_promise_laws.specs.Parts.{Parts}
 use Rattle.ufs_server.proofs.Holding.{goes_back, held_is, here_known, others_stay, room_put, same_files}
 use Rattle.ufs_server.proofs.disk_server.DiskServer.take_out.Goals as goal
 

@@ -2,7 +2,7 @@ use Rattle.std.proofs.Common.{◌≡◌, None, ap, ⊎_elim}
 use Rattle.std.specs.Prelude.{IsTrue, ◌≢◌}
 use Rattle.ufs_disk.proofs.Runs.{weaker}
 use Rattle.ufs_ledger.specs.Kept.{OpensExplained}
-use Rattle.ufs_sound.specs.Visible.{IsDiskVisible}
+use Rattle.ufs_hand_laws.specs.Visible.{IsDiskVisible}
 use Rattle.ufs_store.specs.Ledgers.{IsLeftByAny, stages}
 use Rattle.ufs_store.specs.Refusals.{answer_of, fault_in}
 use Rattle.ufs_store.specs.Stamping.{MayLeaveDelta}

@@ -4,7 +4,7 @@ use Rattle.ufs_disk.proofs.Runs.{weaker}
 use Rattle.ufs_ledger.specs.Changes.{written}
 use Rattle.ufs_ledger.specs.Kept.{OpensExplained}
 use Rattle.ufs_ledger.specs.Ledger.{IsLeftBy}
-use Rattle.ufs_sound.specs.Visible.{IsDiskVisible}
+use Rattle.ufs_hand_laws.specs.Visible.{IsDiskVisible}
 use Rattle.ufs_store.specs.Refusals.{fault_in}
 use Rattle.ufs_store.specs.Stamping.{MayLeaveWritten}
 use Rattle.ufs_stamped.proofs.Steps.{called, rest_of_write}

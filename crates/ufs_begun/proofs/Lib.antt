@@ -1,4 +1,0 @@
-mod Facts
-mod Kept
-mod Owned
-mod Begun

@@ -1,4 +1,0 @@
-mod Lists
-mod Trees
-mod Commits
-mod Beginning

@@ -1,5 +1,0 @@
-use Rattle.ufs_first_hand.proofs.Beginning.{ready_can_begin}
-use Rattle.ufs_first_hand.proofs.laws.first_hand_law.Goals as goal
-
-pub returns : goal.returns
-returns c = ready_can_begin c.args.geometry.now c.names_law.ensures.nothing

@@ -1,2 +1,0 @@
-pub mod FirstHand
-pub mod Ready

@@ -1,5 +1,0 @@
-use Rattle.ufs_last.proofs.Last.{all_last}
-use Rattle.ufs_last.proofs.laws.last_law.Goals as goal
-
-pub returns : goal.returns
-returns c = all_last c.args.geometry.now c.on_disk_law.ensures.all_synced c.on_disk_law.ensures.explained c.synced_law.ensures

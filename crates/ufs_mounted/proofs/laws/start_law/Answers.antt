@@ -1,8 +1,0 @@
-use Rattle.ufs_mounted.proofs.Opened.{starts_opened}
-use Rattle.ufs_mounted.proofs.laws.start_law.Goals as goal
-
-pub returns-clause-opened : goal.returns-clause-opened
-returns-clause-opened c = starts_opened
-
-pub returns-clause-named : goal.returns-clause-named
-returns-clause-named c sectors disk s is = is.named

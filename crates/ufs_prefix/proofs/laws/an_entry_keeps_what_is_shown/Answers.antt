@@ -1,7 +1,0 @@
-use Rattle.ufs_prefix.proofs.Facts.Explains.{covering-push}
-use Rattle.ufs_prefix.proofs.Facts.Acks.{fsync_covered, dir_fsync_covered, sync_covered}
-use Rattle.ufs_prefix.proofs.StepLemmas.{keep_shown, others_nothing}
-use Rattle.ufs_prefix.proofs.laws.an_entry_keeps_what_is_shown.Goals as goal
-
-pub returns : goal.returns
-returns c = record { shown = keep_shown; covering = covering-push; other = others_nothing; fsync = fsync_covered; dir_fsync = dir_fsync_covered; sync = sync_covered }

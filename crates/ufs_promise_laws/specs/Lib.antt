@@ -1,0 +1,11 @@
+pub mod Parts
+pub mod Stored
+pub mod Laws
+pub mod Sound
+pub mod OnDisk
+pub mod OnDiskLaws
+pub mod AlwaysLaws
+pub mod Stamping
+pub mod Known
+pub mod Last
+pub mod LastLaws

@@ -1,5 +1,0 @@
-use Rattle.ufs_sound.proofs.Knowing.{knows}
-use Rattle.ufs_sound.proofs.laws.a_hand_knows.Goals as goal
-
-pub returns : goal.returns
-returns g c = knows c.a_request_keeps_the_tree.ensures g.P.Promise.shows

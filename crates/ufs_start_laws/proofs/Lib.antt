@@ -1,0 +1,5 @@
+mod Facts
+mod Kept
+mod Owned
+mod Begun
+mod Opened

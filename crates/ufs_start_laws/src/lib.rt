@@ -1,0 +1,8 @@
+//! What a server begins with is on its disk.
+#![tactic(auto)]
+
+mod laws;
+mod mounting;
+
+pub use laws::{begun_law, parts_law};
+pub use mounting::start_law;
