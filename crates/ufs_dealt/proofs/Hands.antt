@@ -1,5 +1,5 @@
 -- The hands of names, store, files, pools and clients, and the one that is left.
-use Rattle.std.proofs.Common.{◌≡◌, ◌≤◌, ℕ, Bool, true, eqb, [], ◌∷◌, length, map, ap, refl, ◌∙◌, subst, arith}
+use Rattle.std.proofs.Common.{◌≡◌, ◌≤◌, ℕ, Bool, true, eqb, [], ◌∷◌, length, map, ap, refl, sym, ◌∙◌, subst, arith}
 use Rattle.std.specs.Prelude.{IsTrue}
 use Rattle.ufs_bitmap.specs.Blocks.{BlockSet}
 use Rattle.ufs_disk.specs.Moments.{all}
@@ -18,7 +18,7 @@ use Rattle.ufs_hand_laws.proofs.Keys.{alike, itself}
 use Rattle.ufs_hand_laws.proofs.Owning.{count_has, weigh_cut}
 use Rattle.ufs_store.specs.State.{StoreState, geometry_of_store}
 use Rattle.ufs_store_steps.specs.Cells.{cells_of}
-use Rattle.ufs_turns.specs.HeldStore.{HasStoreAlone, IsHeldStore, counted_in}
+use Rattle.ufs_turns.specs.HeldStore.{HasStoreAlone, IsHeldStore, counted_in, sectors_in}
 use Rattle.ufs_joint.specs.FirstHand.{HasPoolAlone}
 use Rattle.ufs_dealt.specs.Dealt.{AreApart, rest_of}
 use Rattle.ufs_dealt.proofs.Cutting.{only_absent, only_none, only_this, without_absent, without_none}
@@ -80,6 +80,7 @@ holds_store k visible keeps v s first alone formed sees = record {
     has = alone.store;
     sees = sees;
     formed = formed;
+    size = sym (ap sectors_in first);
     since = λ _. (let n = counted in omega (arith, n));
     covers = λ _ x has. absurd (subst (Has x) none has);
   };

@@ -76,6 +76,7 @@ module _ (names : NamesCell) (right : View) (named : HasNamesAlone names right) 
     has = store_is ∙ h.has;
     sees = h.sees;
     formed = h.formed;
+    size = h.size;
     since = h.since;
     covers = h.covers;
   }

@@ -229,6 +229,7 @@ module _ (k : Start) (visible keeps : Bool) (names : NamesCell) (files : List Fi
     complete = complete;
     faults = λ fault told. let f = whole.faults fault told in record { later = f.later; counted = f.answered; below = f.below };
     stopped = whole.stopped;
+    size = home.size;
     parts = whole.parts;
     are = whole.are;
     has_names = whole.cells.names tt names has_names;

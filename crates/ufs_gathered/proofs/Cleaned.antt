@@ -20,7 +20,7 @@ use Rattle.ufs_promise_laws.specs.Last.{StandsForTree}
 use Rattle.ufs_model.specs.History.{tree_after}
 use Rattle.ufs_model.specs.declared.data.Entry.{Entry}
 use Rattle.ufs_hand_laws.specs.Owned.{Has, count, one}
-use Rattle.ufs_store.specs.Refusals.{fault_in, stop_after}
+use Rattle.ufs_store.specs.Refusals.{fault_in, is_no_space, stop_after}
 use Rattle.ufs_store.specs.State.{StoreState}
 use Rattle.ufs_store.specs.declared.fault.StoreFault.{StoreFault}
 use Rattle.ufs_store.specs.declared.fault.StoreFault.TheVariants as refusal
@@ -28,7 +28,7 @@ use Rattle.ufs_promise_laws.specs.OnDisk.{IsExplainedBetween, IsExplainedImage}
 use Rattle.ufs_turns.specs.HeldStore.{IsHeldStore}
 use Rattle.ufs_turns.specs.Lent.{GainsBlocks, IsBare, IsBeside, stop_in}
 use Rattle.ufs_gathered.specs.Ended.{AreAllKnown, HasEnded}
-use Rattle.ufs_gathered.specs.Finished.{EndsBehind, EndsBy, ended_by}
+use Rattle.ufs_gathered.specs.Finished.{EndsBehind, EndsBy}
 use Rattle.ufs_gathered.specs.Gathered.{AreAllBack, HasPoolsAlone}
 
 -- ---- the hand that is lent to the commits
@@ -121,23 +121,31 @@ pub of_done : {P : Type 0} (done : Result (Unit {0}) StoreFault) → is_ok done 
 of_done (Ok x) ok p = p
 of_done (Err e) ok p = (let no : false ≡ true = ok in absurd cc)
 
+-- The store had stopped there before the commits, if it had; who is told that it has stopped is told where; and no commit asks for blocks.
+pub record IsOfCommits (was : Option ℕ) (done : Result (Unit {0}) StoreFault) : Type 0 where
+  pub halted : (fault : ℕ) → was ≡ Some fault → done ≡ Err (refusal.Stopped fault)
+  pub stopped : (fault : ℕ) → done ≡ Err (refusal.Stopped fault) → stop_after was (fault_in done) ≡ Some fault
+  pub refused : IfErr done (λ fault. is_no_space fault ≡ false)
+
+pub of_commits : (was : Option ℕ) (done : Result (Unit {0}) StoreFault) (stop : Option ℕ) → stop ≡ stop_after was (fault_in done) → ((fault : ℕ) → was ≡ Some fault → done ≡ Err (refusal.Stopped fault))
+    → ((fault : ℕ) → done ≡ Err (refusal.Stopped fault) → stop ≡ Some fault) → IfErr done (λ fault. is_no_space fault ≡ false) → IsOfCommits was done
+of_commits was done stop halts halted stopped refused = record { halted = halted; stopped = λ fault is. sym halts ∙ stopped fault is; refused = refused }
+
 module _ (before now : ℕ) where
-  -- the store had stopped there before the commits, if it had
-  pub ends_by : (was : Option ℕ) (done : Result (Unit {0}) StoreFault) (ended : Result (Unit {0}) CloseFault) → ((fault : ℕ) → was ≡ Some fault → done ≡ Err (refusal.Stopped fault))
-      → EndsBehind done (stop_after was (fault_in done)) before now ended → EndsBy (is_ok done) (stop_after was (fault_in done)) before now ended
-  ends_by None (Ok x) (Ok y) halted ends = (refl, refl, ends.0)
-  ends_by None (Ok x) (Err (cause.Device fault)) halted ends = inr (refl, refl, ends.0)
-  ends_by None (Ok x) (Err (cause.Stopped fault)) halted ends = (let none : Some fault ≡ None = ends.1 in absurd cc)
-  ends_by None (Ok x) (Err (cause.Lack why)) halted ends = (refl, ends.0)
-  ends_by None (Err (refusal.Device fault)) ended halted ends = subst (EndsBy false (Some fault) before now) (sym ends.1) (inl (refl, refl, ends.0))
-  ends_by None (Err (refusal.Stopped fault)) ended halted ends = subst (EndsBy false None before now) (sym ends.1) (refl, ends.0)
-  ends_by None (Err (refusal.NoSpace need had)) ended halted ends = subst (EndsBy false None before now) (sym ends.1) (refl, ends.0)
-  ends_by None (Err (refusal.Lack why)) ended halted ends = subst (EndsBy false None before now) (sym ends.1) (refl, ends.0)
-  ends_by (Some n) (Ok x) ended halted ends = (let stopped : ◌≡◌ {A = Result (Unit {0}) StoreFault} (Ok x) (Err (refusal.Stopped n)) = halted n refl in absurd cc)
-  ends_by (Some n) (Err (refusal.Device fault)) ended halted ends = (let stopped : ◌≡◌ {A = Result (Unit {0}) StoreFault} (Err (refusal.Device fault)) (Err (refusal.Stopped n)) = halted n refl in absurd cc)
-  ends_by (Some n) (Err (refusal.Stopped fault)) ended halted ends = subst (EndsBy false (Some n) before now) (sym ends.1) (refl, refl, ends.0)
-  ends_by (Some n) (Err (refusal.NoSpace need had)) ended halted ends = (let stopped : ◌≡◌ {A = Result (Unit {0}) StoreFault} (Err (refusal.NoSpace need had)) (Err (refusal.Stopped n)) = halted n refl in absurd cc)
-  ends_by (Some n) (Err (refusal.Lack why)) ended halted ends = (let stopped : ◌≡◌ {A = Result (Unit {0}) StoreFault} (Err (refusal.Lack why)) (Err (refusal.Stopped n)) = halted n refl in absurd cc)
+  pub ends_by : (was : Option ℕ) (done : Result (Unit {0}) StoreFault) (ended : Result (Unit {0}) CloseFault) → IsOfCommits was done → EndsBehind done before now ended → EndsBy (is_ok done) (stop_after was (fault_in done)) before now ended
+  ends_by None (Ok x) (Ok y) of ends = (refl, refl, ends.0)
+  ends_by None (Ok x) (Err (cause.Device fault)) of ends = inr (refl, refl, ends.0)
+  ends_by None (Ok x) (Err (cause.Stopped fault)) of ends = (let none : Some fault ≡ None = ends.1 in absurd cc)
+  ends_by None (Ok x) (Err (cause.Lack why)) of ends = (refl, ends.0)
+  ends_by None (Err (refusal.Device fault)) ended of ends = subst (EndsBy false (Some fault) before now) (sym ends.1) (inl (refl, refl, ends.0))
+  ends_by None (Err (refusal.Stopped fault)) ended of ends = (let none : None ≡ Some fault = of.stopped fault refl in absurd cc)
+  ends_by None (Err (refusal.NoSpace need had)) ended of ends = (let no : true ≡ false = of.refused in absurd cc)
+  ends_by None (Err (refusal.Lack why)) ended of ends = subst (EndsBy false None before now) (sym ends.1) (refl, ends.0)
+  ends_by (Some n) (Ok x) ended of ends = (let stopped : ◌≡◌ {A = Result (Unit {0}) StoreFault} (Ok x) (Err (refusal.Stopped n)) = of.halted n refl in absurd cc)
+  ends_by (Some n) (Err (refusal.Device fault)) ended of ends = (let stopped : ◌≡◌ {A = Result (Unit {0}) StoreFault} (Err (refusal.Device fault)) (Err (refusal.Stopped n)) = of.halted n refl in absurd cc)
+  ends_by (Some n) (Err (refusal.Stopped fault)) ended of ends = subst (EndsBy false (Some n) before now) (sym ends.1) (refl, of.stopped fault refl, ends.0)
+  ends_by (Some n) (Err (refusal.NoSpace need had)) ended of ends = (let no : true ≡ false = of.refused in absurd cc)
+  ends_by (Some n) (Err (refusal.Lack why)) ended of ends = (let stopped : ◌≡◌ {A = Result (Unit {0}) StoreFault} (Err (refusal.Lack why)) (Err (refusal.Stopped n)) = of.halted n refl in absurd cc)
 
   none_told : (ended : Result (Unit {0}) CloseFault) (x : CloseFault) (fault : ℕ) → stopped_at x ≡ None → ended ≡ Err x → ended ≡ Err (cause.Stopped fault) → ⊥
   none_told ended x fault none is e =
@@ -146,24 +154,23 @@ module _ (before now : ℕ) where
       cc
 
   -- it tells so, and only then
-  pub tells_stop : (was : Option ℕ) (done : Result (Unit {0}) StoreFault) (ended : Result (Unit {0}) CloseFault) → ((fault : ℕ) → was ≡ Some fault → done ≡ Err (refusal.Stopped fault))
-      → EndsBehind done (stop_after was (fault_in done)) before now ended → (fault : ℕ) → (ended ≡ Err (cause.Stopped fault)) ↔ (was ≡ Some fault)
-  tells_stop None (Ok x) ended halted ends fault = (
+  pub tells_stop : (was : Option ℕ) (done : Result (Unit {0}) StoreFault) (ended : Result (Unit {0}) CloseFault) → IsOfCommits was done → EndsBehind done before now ended → (fault : ℕ) → (ended ≡ Err (cause.Stopped fault)) ↔ (was ≡ Some fault)
+  tells_stop None (Ok x) ended of ends fault = (
     λ e. let n : Some fault ≡ None = subst (λ (r : Result (Unit {0}) CloseFault). IfErr r (λ f. stopped_at f ≡ None)) e ends.1 in absurd cc,
     λ e. let n : None ≡ Some fault = e in absurd cc,
   )
-  tells_stop None (Err (refusal.Device d)) ended halted ends fault = (λ e. absurd (none_told ended _ fault refl ends.1 e), λ e. let n : None ≡ Some fault = e in absurd cc)
-  tells_stop None (Err (refusal.Stopped d)) ended halted ends fault = (λ e. absurd (none_told ended _ fault refl ends.1 e), λ e. let n : None ≡ Some fault = e in absurd cc)
-  tells_stop None (Err (refusal.NoSpace need had)) ended halted ends fault = (λ e. absurd (none_told ended _ fault refl ends.1 e), λ e. let n : None ≡ Some fault = e in absurd cc)
-  tells_stop None (Err (refusal.Lack why)) ended halted ends fault = (λ e. absurd (none_told ended _ fault refl ends.1 e), λ e. let n : None ≡ Some fault = e in absurd cc)
-  tells_stop (Some n) (Ok x) ended halted ends fault = (let stopped : ◌≡◌ {A = Result (Unit {0}) StoreFault} (Ok x) (Err (refusal.Stopped n)) = halted n refl in absurd cc)
-  tells_stop (Some n) (Err (refusal.Device d)) ended halted ends fault = (let stopped : ◌≡◌ {A = Result (Unit {0}) StoreFault} (Err (refusal.Device d)) (Err (refusal.Stopped n)) = halted n refl in absurd cc)
-  tells_stop (Some n) (Err (refusal.Stopped d)) ended halted ends fault = (
-    λ e. let same : ◌≡◌ {A = Result (Unit {0}) CloseFault} (Err (cause.Stopped n)) (Err (cause.Stopped fault)) = sym ends.1 ∙ e in cc,
-    λ e. let same : Some n ≡ Some fault = e in let is = ends.1 in ends.1 ∙ ap (λ (m : Option ℕ). Err (ended_by (refusal.Stopped d) m)) same,
+  tells_stop None (Err (refusal.Device d)) ended of ends fault = (λ e. absurd (none_told ended _ fault refl ends.1 e), λ e. let n : None ≡ Some fault = e in absurd cc)
+  tells_stop None (Err (refusal.Stopped d)) ended of ends fault = (let none : None ≡ Some d = of.stopped d refl in absurd cc)
+  tells_stop None (Err (refusal.NoSpace need had)) ended of ends fault = (let no : true ≡ false = of.refused in absurd cc)
+  tells_stop None (Err (refusal.Lack why)) ended of ends fault = (λ e. absurd (none_told ended _ fault refl ends.1 e), λ e. let n : None ≡ Some fault = e in absurd cc)
+  tells_stop (Some n) (Ok x) ended of ends fault = (let stopped : ◌≡◌ {A = Result (Unit {0}) StoreFault} (Ok x) (Err (refusal.Stopped n)) = of.halted n refl in absurd cc)
+  tells_stop (Some n) (Err (refusal.Device d)) ended of ends fault = (let stopped : ◌≡◌ {A = Result (Unit {0}) StoreFault} (Err (refusal.Device d)) (Err (refusal.Stopped n)) = of.halted n refl in absurd cc)
+  tells_stop (Some n) (Err (refusal.Stopped d)) ended of ends fault = (
+    λ e. let same : ◌≡◌ {A = Result (Unit {0}) CloseFault} (Err (cause.Stopped d)) (Err (cause.Stopped fault)) = sym ends.1 ∙ e in let at : Some n ≡ Some d = of.stopped d refl in cc,
+    λ e. let same : Some d ≡ Some fault = sym (of.stopped d refl) ∙ e in let is : d ≡ fault = cc in ends.1 ∙ ap (λ (m : ℕ). Err (cause.Stopped m)) is,
   )
-  tells_stop (Some n) (Err (refusal.NoSpace need had)) ended halted ends fault = (let stopped : ◌≡◌ {A = Result (Unit {0}) StoreFault} (Err (refusal.NoSpace need had)) (Err (refusal.Stopped n)) = halted n refl in absurd cc)
-  tells_stop (Some n) (Err (refusal.Lack why)) ended halted ends fault = (let stopped : ◌≡◌ {A = Result (Unit {0}) StoreFault} (Err (refusal.Lack why)) (Err (refusal.Stopped n)) = halted n refl in absurd cc)
+  tells_stop (Some n) (Err (refusal.NoSpace need had)) ended of ends fault = (let no : true ≡ false = of.refused in absurd cc)
+  tells_stop (Some n) (Err (refusal.Lack why)) ended of ends fault = (let stopped : ◌≡◌ {A = Result (Unit {0}) StoreFault} (Err (refusal.Lack why)) (Err (refusal.Stopped n)) = of.halted n refl in absurd cc)
 
 -- a store that committed everything goes on
 pub going_on : (was : Option ℕ) (done : Result (Unit {0}) StoreFault) → ((fault : ℕ) → was ≡ Some fault → done ≡ Err (refusal.Stopped fault)) → is_ok done ≡ true → stop_after was (fault_in done) ≡ None

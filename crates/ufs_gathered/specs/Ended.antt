@@ -23,7 +23,7 @@ use Rattle.ufs_joint.specs.NamesTurns.{live_files}
 use Rattle.ufs_joint.specs.Picks.{Pick}
 use Rattle.ufs_joint.specs.Sound.{IsExplainedState, MayHaveBegun}
 use Rattle.ufs_joint.specs.Whole.{HasFileCell, HasNamesCell}
-use Rattle.ufs_turns.specs.HeldStore.{counted_in}
+use Rattle.ufs_turns.specs.HeldStore.{counted_in, sectors_in}
 
 -- ---- scripts
 
@@ -61,7 +61,8 @@ pub record AreAllKnown (names : NamesCell) (files : List FileCell) : Type 0 wher
 
 -- The transcripts are those of one history, with all tickets, in which a tree with which the session may have begun gives each reply, or
 -- the reply is an excuse that fits and leaves the tree; each client's requests are in its order. Names and files are those of the tree
--- to which it leads. A fault that excuses an entry is one of the session, and whoever is told that the store stopped is told where.
+-- to which it leads. A fault that excuses an entry is one of the session, and whoever is told that the store stopped is told where. The disk
+-- has as many sectors as at the beginning.
 pub record HasEnded (k : Start) (tickets : ℕ) (lists : List (List Entry)) (names : NamesCell) (files : List FileCell) (s : StoreState) : Type 0 where
   pub start : PosixTree
   pub picks : List Pick
@@ -74,6 +75,7 @@ pub record HasEnded (k : Start) (tickets : ℕ) (lists : List (List Entry)) (nam
   pub complete : (scripts : List (List Op)) → AnswerAll scripts lists → IsComplete scripts history
   pub faults : (fault : ℕ) → 1 ≤ told fault history → IsFaultSince (faults_in k.view.store) s.faults fault
   pub stopped : (e : Entry) (fault : ℕ) → Has e history → e.reply ≡ reply.Excused (excuse.Stopped fault) → s.stop ≡ Some fault
+  pub size : s.sectors ≡ sectors_in k.view.store
   pub parts : Parts
   pub are : ArePartsOf parts (tree_after start history)
   pub has_names : HasNamesCell parts names

@@ -23,19 +23,17 @@ use Rattle.ufs_gathered.specs.Ended.{HasEnded}
 
 -- ---- how it ends
 
--- What a refusal of a commit ends it with, by where the store has stopped then. One by a stop of which the store doesn't know isn't sound.
-abbrev pub ended_by : StoreFault → Option ℕ → CloseFault
-ended_by (refusal.Device fault) stop = cause.Device fault
-ended_by (refusal.Stopped fault) None = cause.Lack lack.Unsound
-ended_by (refusal.Stopped fault) (Some n) = cause.Stopped n
-ended_by (refusal.NoSpace need had) None = cause.Lack lack.Unsound
-ended_by (refusal.NoSpace need had) (Some n) = cause.Stopped n
-ended_by (refusal.Lack why) stop = cause.Lack why
+-- What a refusal of a commit ends it with. A commit asks for no blocks.
+abbrev pub ended_by : StoreFault → CloseFault
+ended_by (refusal.Device fault) = cause.Device fault
+ended_by (refusal.Stopped fault) = cause.Stopped fault
+ended_by (refusal.NoSpace need had) = cause.Lack lack.Unsound
+ended_by (refusal.Lack why) = cause.Lack why
 
 -- Once everything was committed the image was made clean, or that failed; else the disk was left with its count.
-abbrev pub EndsBehind : Result (Unit {0}) StoreFault → (stop : Option ℕ) → (before now : ℕ) → Result (Unit {0}) CloseFault → Type 0
-EndsBehind (Ok x) stop before now ended = IsTold before now (closing_fault ended) × IfErr ended (λ fault. stopped_at fault ≡ None)
-EndsBehind (Err fault) stop before now ended = (now ≡ before) × (ended ≡ Err (ended_by fault stop))
+abbrev pub EndsBehind : Result (Unit {0}) StoreFault → (before now : ℕ) → Result (Unit {0}) CloseFault → Type 0
+EndsBehind (Ok x) before now ended = IsTold before now (closing_fault ended) × IfErr ended (λ fault. stopped_at fault ≡ None)
+EndsBehind (Err fault) before now ended = (now ≡ before) × (ended ≡ Err (ended_by fault))
 
 -- How it ended, by whether everything was committed, by where the store has stopped and by the disk's count of faults behind the commits
 -- and now: well; by the fault at which the store stopped in a commit, or by one of the closing; by the stop of a store that commits

@@ -14,7 +14,7 @@ ghost use Rattle.ufs_layout.specs.Areas.{IsGeometry};
 ghost use Rattle.ufs_model.specs.declared.data.Entry.{Entry};
 ghost use Rattle.ufs_recovery.specs.Recovered.{IsCleanDisk, IsRecovered};
 ghost use Rattle.ufs_hand_laws.specs.Owned.{count};
-ghost use Rattle.ufs_store.specs.Refusals.{fault_in, stop_after};
+ghost use Rattle.ufs_store.specs.Refusals.{fault_in, is_no_space, stop_after};
 ghost use Rattle.ufs_store.specs.declared.fault.StoreFault.TheVariants as refusal;
 ghost use Rattle.ufs_turns.specs.Lent.{stop_in};
 
@@ -23,7 +23,6 @@ use crate::gathering::Actors;
 use crate::straight::Straight;
 use std::alloc::Global;
 use std::sync::ledger::{Ledger, Share};
-use ufs_base::Lack;
 use ufs_disk::Disk;
 use ufs_engine::{CloseFault, clean};
 use ufs_held::HeldFile;
@@ -87,9 +86,8 @@ pub fn finish<N: Naming, D: Disk, L: Ledger>(
         clients,
     };
     let Ended { tickets, store } = end(table, actors);
-    let stop = store.stopped();
     let mut disk = store.into_disk();
-    let ended = clean_if(alloc, &mut disk, done, stop);
+    let ended = clean_if(alloc, &mut disk, done);
     Finished {
         tickets,
         disk,
@@ -118,6 +116,8 @@ fn commit_straight<N: Naming, S: Door, L: Ledger>(
     ensures known { OnOk result.0 (N.start.is_visible ≡ true → AreAllKnown names.new files.new) }
     ensures halts { stop_in result.1.store ≡ stop_after (stop_in held.store) (fault_in result.0) }
     ensures halted { (fault : ℕ) → stop_in held.store ≡ Some fault → result.0 ≡ Err (refusal.Stopped fault) }
+    ensures stopped { (fault : ℕ) → result.0 ≡ Err (refusal.Stopped fault) → stop_in result.1.store ≡ Some fault }
+    ensures refused { IfErr result.0 (λ fault. is_no_space fault ≡ false) }
 {
     let mut door = Straight { table, held, share };
     let done = names.commit_all(table, files, pools, &mut door, geometry);
@@ -135,9 +135,9 @@ fn clean_if<D: Disk>(
     alloc: Global,
     disk: &mut D,
     done: Result<(), StoreFault>,
-    stop: Option<u64>,
 ) -> Result<(), CloseFault>
-    ensures ends { EndsBehind done stop (D.faults disk.old) (D.faults disk.new) result }
+    requires refused { IfErr done (λ fault. is_no_space fault ≡ false) }
+    ensures ends { EndsBehind done (D.faults disk.old) (D.faults disk.new) result }
     ensures tree { IsTrue D.visible → Leaves (IsProperImage (D.size disk.old)) (D.moments disk.old).state
         → LeavesOnly D.keeps (OpensAsLeft (D.size disk.old) (D.moments disk.old).state) (D.moments disk.old) (D.moments disk.new) }
     ensures clean { IsTrue D.visible → OnOk result (Leaves (IsProperImage (D.size disk.old)) (D.moments disk.old).state → IsCleanDisk (D.size disk.old) (D.moments disk.new).state) }
@@ -148,21 +148,19 @@ fn clean_if<D: Disk>(
 {
     match done {
         Ok(()) => clean(alloc, disk),
-        Err(fault) => Err(fault_of(fault, stop)),
+        Err(fault) => Err(fault_of(fault)),
     }
 }
 
-// Why everything isn't committed, by where the store has stopped.
-fn fault_of(fault: StoreFault, stop: Option<u64>) -> CloseFault
-    ensures { result ≡ ended_by fault stop }
+// Why everything isn't committed.
+fn fault_of(fault: StoreFault) -> CloseFault
+    requires { is_no_space fault ≡ false }
+    ensures { result ≡ ended_by fault }
 {
     match fault {
         StoreFault::Device { fault } => CloseFault::Device { fault },
+        StoreFault::Stopped { fault } => CloseFault::Stopped { fault },
         StoreFault::Lack(lack) => CloseFault::Lack(lack),
-        // A commit asks for no blocks, so the store has stopped.
-        StoreFault::Stopped { .. } | StoreFault::NoSpace { .. } => match stop {
-            Some(fault) => CloseFault::Stopped { fault },
-            None => CloseFault::Lack(Lack::Unsound),
-        },
+        StoreFault::NoSpace { .. } => unreachable!(),
     }
 }

@@ -8,7 +8,7 @@ use Rattle.ufs_model.specs.declared.data.Reply.TheVariants as reply
 use Rattle.ufs_store.specs.Refusals.{stop_after}
 use Rattle.ufs_store.specs.declared.fault.StoreFault.{StoreFault}
 use Rattle.ufs_store.specs.declared.fault.StoreFault.TheVariants as refusal
-use Rattle.ufs_turns.specs.Lent.{StopsByFault, TellsStop, stop_in}
+use Rattle.ufs_turns.specs.Lent.{StopsByFault, TellsStop, TellsWhere, stop_in}
 use Rattle.ufs_turns.specs.Told.{fault_told, told_list}
 use Rattle.ufs_held.specs.Asking.{faults_of}
 use Rattle.ufs_held.specs.Stopping.{ExcusesByStop, StopsByReply, fault_by}
@@ -27,6 +27,16 @@ passed_going A (Some v) q x r is halted = λ fault stop. absurd (let clash : Ok 
 pub passed_so : (A B : Type 0) (tells : Option View) (q : Result A StoreFault) (x : A) (t : Result B StoreFault) → q ≡ Ok x → TellsStop tells q → TellsStop tells t
 passed_so A B None q x t is halted = tt
 passed_so A B (Some v) q x t is halted = λ fault stop. absurd (let clash : Ok x ≡ Err (refusal.Stopped fault) = sym is ∙ halted fault stop in cc)
+
+-- One that passed tells no stop.
+pub passed_where : (A : Type 0) (tells : Option View) (x : A) → TellsWhere tells (Ok x)
+passed_where A None x = tt
+passed_where A (Some v) x = λ fault stop. absurd (let clash : Ok x ≡ Err (refusal.Stopped fault) = stop in cc)
+
+-- One that failed tells it also as what it answers.
+pub failed_where : (A B : Type 0) (tells : Option View) (q : Result A StoreFault) (e : StoreFault) → q ≡ Err e → TellsWhere tells q → TellsWhere {A = B} tells (Err e)
+failed_where A B None q e failed where_told = tt
+failed_where A B (Some v) q e failed where_told = λ fault stop. where_told fault (failed ∙ ap (λ (r : Result B StoreFault). Err (err_or e r)) stop)
 
 -- One that failed says the stop, and so does what it excuses.
 pub failed_halted : (A : Type 0) (tells : Option View) (q : Result A StoreFault) (e : StoreFault) (x : Excuse) (r : Reply) → q ≡ Err e → TellsStop tells q → ((n : ℕ) → e ≡ refusal.Stopped n → x ≡ excuse.Stopped n) → r ≡ reply.Excused x → ExcusesByStop tells r

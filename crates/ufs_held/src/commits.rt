@@ -5,7 +5,7 @@ ghost use Rattle.ufs_bitmap.specs.Taking.{set_of};
 ghost use Rattle.ufs_file_commits.specs.State.{file_committed, state_of};
 ghost use Rattle.ufs_store.specs.Refusals.{fault_in, is_no_space};
 ghost use Rattle.ufs_store.specs.declared.fault.StoreFault.TheVariants as refusal;
-ghost use Rattle.ufs_turns.specs.Lent.{AreTold, StopsByFault, TellsStop};
+ghost use Rattle.ufs_turns.specs.Lent.{AreTold, StopsByFault, TellsStop, TellsWhere};
 ghost use Rattle.ufs_turns.specs.Told.{fault_told, told_list};
 ghost use Rattle.ufs_held.specs.Committed.{HasSameCells};
 ghost use Rattle.ufs_held.specs.Held.{IsHeld, first_cell};
@@ -44,6 +44,7 @@ pub(crate) fn commit_lent<N: Naming, T: Turns<N>>(
     ensures telling { is_some (T.tells door.new) ≡ is_some (T.tells door.old) }
     ensures halts { StopsByFault (T.tells door.old) (T.tells door.new) (fault_in result) }
     ensures halted { TellsStop (T.tells door.old) result }
+    ensures stopped { TellsWhere (T.tells door.new) result }
     ensures refused { IfErr result (λ fault. is_no_space fault ≡ false) }
 {
     let done = commit_own(right, file, commits, door);
@@ -73,6 +74,7 @@ fn commit_own<N: Naming, T: Turns<N>>(
     ensures telling { is_some (T.tells door.new) ≡ is_some (T.tells door.old) }
     ensures halts { StopsByFault (T.tells door.old) (T.tells door.new) (fault_in result) }
     ensures halted { TellsStop (T.tells door.old) result }
+    ensures stopped { TellsWhere (T.tells door.new) result }
     ensures refused { IfErr result (λ fault. is_no_space fault ≡ false) }
 {
     match door.sync_file(right, file, commits) {

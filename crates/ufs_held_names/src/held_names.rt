@@ -19,7 +19,7 @@ ghost use Rattle.ufs_file_commits.specs.State.{file_committed};
 ghost use Rattle.ufs_joint.specs.NamesTurns.{live_files};
 ghost use Rattle.ufs_store.specs.Refusals.{fault_in, is_no_space};
 ghost use Rattle.ufs_store.specs.declared.fault.StoreFault.TheVariants as refusal;
-ghost use Rattle.ufs_turns.specs.Lent.{AreTold, IsBare, IsBeside, StopsByFault, TellsStop};
+ghost use Rattle.ufs_turns.specs.Lent.{AreTold, IsBare, IsBeside, StopsByFault, TellsStop, TellsWhere};
 ghost use Rattle.ufs_turns.specs.Told.{fault_told, told_list};
 ghost use Rattle.ufs_noted.specs.Noted.{HasServedWith, MayLack};
 ghost use Rattle.ufs_held.specs.Asking.{Asks, IsAnswered, IsGuest, IsSyncReply};
@@ -233,6 +233,7 @@ impl<N: Naming> HeldNames<N> {
         ensures telling { is_some (T.tells door.new) ≡ is_some (T.tells door.old) }
         ensures halts { StopsByFault (T.tells door.old) (T.tells door.new) (fault_in result) }
         ensures halted { TellsStop (T.tells door.old) result }
+        ensures stopped { TellsWhere (T.tells door.new) result }
         ensures refused { IfErr result (λ fault. is_no_space fault ≡ false) }
     {
         let HeldNames {
@@ -363,6 +364,7 @@ impl<N: Naming> HeldNames<N> {
         ensures telling { is_some (T.tells door.new) ≡ is_some (T.tells door.old) }
         ensures halts { StopsByFault (T.tells door.old) (T.tells door.new) (fault_in result) }
         ensures halted { TellsStop (T.tells door.old) result }
+        ensures stopped { TellsWhere (T.tells door.new) result }
         ensures refused { IfErr result (λ fault. is_no_space fault ≡ false) }
     {
         let HeldNames {

@@ -11,7 +11,7 @@ ghost use Rattle.ufs_hand_laws.specs.Parts.{ClientPart};
 ghost use Rattle.ufs_joint.specs.NamesTurns.{live_files};
 ghost use Rattle.ufs_store.specs.Refusals.{fault_in, is_no_space};
 ghost use Rattle.ufs_store.specs.declared.fault.StoreFault.TheVariants as refusal;
-ghost use Rattle.ufs_turns.specs.Lent.{AreTold, IsBare, IsBeside, StopsByFault, TellsStop};
+ghost use Rattle.ufs_turns.specs.Lent.{AreTold, IsBare, IsBeside, StopsByFault, TellsStop, TellsWhere};
 ghost use Rattle.ufs_turns.specs.Told.{fault_told, told_list};
 ghost use Rattle.ufs_held.specs.Asking.{IsGuest};
 ghost use Rattle.ufs_held.specs.Committed.{HasSameCells};
@@ -117,6 +117,7 @@ pub(crate) fn commit_all<N: Naming, T: Turns<N>>(
     ensures telling { is_some (T.tells door.new) ≡ is_some (T.tells door.old) }
     ensures halts { StopsByFault (T.tells door.old) (T.tells door.new) (fault_in result) }
     ensures halted { TellsStop (T.tells door.old) result }
+    ensures stopped { TellsWhere (T.tells door.new) result }
     ensures refused { IfErr result (λ fault. is_no_space fault ≡ false) }
 {
     match commit_lent(table, right, noted, reached, guest, door) {
@@ -151,6 +152,7 @@ fn commit_files<N: Naming, T: Turns<N>>(
     ensures stop { (fault : ℕ) → result ≡ Err (refusal.Stopped fault) → guest.new.stop ≡ Some fault }
     ensures telling { is_some (T.tells door.new) ≡ is_some (T.tells door.old) }
     ensures halts { StopsByFault (T.tells door.old) (T.tells door.new) (fault_in result) }
+    ensures stopped { TellsWhere (T.tells door.new) result }
     ensures refused { IfErr result (λ fault. is_no_space fault ≡ false) }
 {
     for place in 0..files.len() {
@@ -187,6 +189,7 @@ fn commit_born<N: Naming, T: Turns<N>>(
     ensures stop { (fault : ℕ) → result ≡ Err (refusal.Stopped fault) → guest.new.stop ≡ Some fault }
     ensures telling { is_some (T.tells door.new) ≡ is_some (T.tells door.old) }
     ensures halts { StopsByFault (T.tells door.old) (T.tells door.new) (fault_in result) }
+    ensures stopped { TellsWhere (T.tells door.new) result }
     ensures refused { IfErr result (λ fault. is_no_space fault ≡ false) }
 {
     tell_committed(table, right, noted, file, geometry);

@@ -133,6 +133,7 @@ module _ (k : Start) (visible keeps : Bool) (m : ℕ) (v w z : View) (s t : Stor
     has = ap (λ (q : View). q.store) moved_is;
     sees = home.sees;
     formed = home.formed;
+    size = home.size;
     since = home.since;
     covers = home.covers;
   })

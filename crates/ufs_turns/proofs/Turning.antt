@@ -139,6 +139,7 @@ module _ (k : Start) (visible keeps : Bool) (n : ℕ) (v w : View) (s t : StoreS
     has = has_store;
     sees = home.sees;
     formed = geometry ∙ home.formed;
+    size = sectors ∙ home.size;
     since = λ seen. (let a = home.since seen in let b = ap length (on seen).1 in let d = length-append (all s.moments) (on seen).0 in omega (arith, a, b, d));
     covers = covers;
   }

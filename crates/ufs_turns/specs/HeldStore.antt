@@ -38,6 +38,11 @@ abbrev pub counted_in : List (Unit {0} × StoreCell) → ℕ
 counted_in [] = 0
 counted_in (c ∷ cs) = c.1.counted
 
+-- how many sectors the disk had
+abbrev pub sectors_in : List (Unit {0} × StoreCell) → ℕ
+sectors_in [] = 0
+sectors_in (c ∷ cs) = c.1.sectors
+
 -- a stretch has this state
 abbrev pub IsPassed : Cells → List Stretch → Type 0
 IsPassed x past = (y : Stretch) × Has y past × Has x y.states
@@ -50,6 +55,7 @@ pub record IsStoreIn (k : Start) (visible keeps : Bool) (v : View) (s : StoreSta
   pub has : v.store ≡ (tt, cell_of stamp past s) ∷ []
   pub sees : k.is_visible ≡ true → IsTrue visible × IsTrue keeps
   pub formed : geometry_of_store s ≡ k.geometry
+  pub size : s.sectors ≡ sectors_in k.view.store
   pub since : k.is_visible ≡ true → counted_in k.view.store ≤ length (all s.moments)
   pub covers : k.is_visible ≡ true → (x : Cells) → Has x (states_behind (counted_in k.view.store) s) → (x ≡ cells_of s.sectors s.moments.state) ⊎ IsPassed x past
 

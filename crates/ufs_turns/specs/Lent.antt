@@ -94,6 +94,11 @@ abbrev pub TellsStop : {A : Type 0} → Option View → Result A StoreFault → 
 TellsStop (Some v) result = (fault : ℕ) → stop_in v.store ≡ Some fault → result ≡ Err (refusal.Stopped fault)
 TellsStop None result = Unit {0}
 
+-- Who is told in a turn that the store has stopped is told the fault at which it did, where its cell is told.
+abbrev pub TellsWhere : {A : Type 0} → Option View → Result A StoreFault → Type 0
+TellsWhere (Some v) result = (fault : ℕ) → result ≡ Err (refusal.Stopped fault) → stop_in v.store ≡ Some fault
+TellsWhere None result = Unit {0}
+
 -- So it is with the unassigned blocks before a turn and behind it, where they are told.
 abbrev pub AreTold : Option View → Option View → (BlockSet → BlockSet → Type 0) → Type 0
 AreTold (Some v) (Some w) so = so (free_in v.store) (free_in w.store)

@@ -110,6 +110,7 @@ pub(crate) fn commit_lent<N: Naming, D: Door>(
     ensures stop { (fault : ℕ) → result ≡ Err (refusal.Stopped fault) → hand.new.stop ≡ Some fault }
     ensures halts { (D.store store.new).stop ≡ stop_after (D.store store.old).stop (fault_in result) }
     ensures halted { (fault : ℕ) → (D.store store.old).stop ≡ Some fault → result ≡ Err (refusal.Stopped fault) }
+    ensures stopped { (fault : ℕ) → result ≡ Err (refusal.Stopped fault) → (D.store store.new).stop ≡ Some fault }
     ensures refused { IfErr result (λ fault. is_no_space fault ≡ false) }
 {
     let geometry = store.geometry();

@@ -96,6 +96,7 @@ impl<N: Naming, D: Door, L: Ledger> HeldStore<N, D, L> {
         ensures stop { (fault : ℕ) → result ≡ Err (refusal.Stopped fault) → hand.new.stop ≡ Some fault }
         ensures halts { stop_in self.new.store ≡ stop_after (stop_in self.old.store) (fault_in result) }
         ensures halted { (fault : ℕ) → stop_in self.old.store ≡ Some fault → result ≡ Err (refusal.Stopped fault) }
+        ensures stopped { (fault : ℕ) → result ≡ Err (refusal.Stopped fault) → stop_in self.new.store ≡ Some fault }
         ensures refused { IfErr result (λ fault. is_no_space fault ≡ false) }
     {
         let HeldStore {
@@ -163,6 +164,7 @@ impl<N: Naming, D: Door, L: Ledger> HeldStore<N, D, L> {
         ensures stop { (fault : ℕ) → result ≡ Err (refusal.Stopped fault) → hand.new.stop ≡ Some fault }
         ensures halts { stop_in self.new.store ≡ stop_after (stop_in self.old.store) (fault_in result) }
         ensures halted { (fault : ℕ) → stop_in self.old.store ≡ Some fault → result ≡ Err (refusal.Stopped fault) }
+        ensures stopped { (fault : ℕ) → result ≡ Err (refusal.Stopped fault) → stop_in self.new.store ≡ Some fault }
         ensures refused { IfErr result (λ fault. is_no_space fault ≡ false) }
     {
         let HeldStore {
@@ -244,6 +246,7 @@ impl<N: Naming, D: Door, L: Ledger> HeldStore<N, D, L> {
         ensures stop { (fault : ℕ) → result ≡ Err (refusal.Stopped fault) → hand.new.stop ≡ Some fault }
         ensures halts { stop_in self.new.store ≡ stop_after (stop_in self.old.store) (fault_in result) }
         ensures halted { (fault : ℕ) → stop_in self.old.store ≡ Some fault → result ≡ Err (refusal.Stopped fault) }
+        ensures stopped { (fault : ℕ) → result ≡ Err (refusal.Stopped fault) → stop_in self.new.store ≡ Some fault }
         ensures refused { IfErr result (λ fault. is_no_space fault ≡ false) }
         ensures made { OnOk result (share.new.amount ≡ share.old.amount + 1) }
         ensures unmade { OnErr result (share.new.amount ≡ share.old.amount) }
@@ -346,6 +349,7 @@ fn sync_lent<N: Naming, D: Door>(
     ensures stop { (fault : ℕ) → result ≡ Err (refusal.Stopped fault) → hand.new.stop ≡ Some fault }
     ensures halts { (D.store store.new).stop ≡ stop_after (D.store store.old).stop (fault_in result) }
     ensures halted { (fault : ℕ) → (D.store store.old).stop ≡ Some fault → result ≡ Err (refusal.Stopped fault) }
+    ensures stopped { (fault : ℕ) → result ≡ Err (refusal.Stopped fault) → (D.store store.new).stop ≡ Some fault }
     ensures refused { IfErr result (λ fault. is_no_space fault ≡ false) }
 {
     // For the prover alone.

@@ -9,7 +9,7 @@ ghost use Rattle.ufs_names.specs.Notes.{with_notes};
 ghost use Rattle.ufs_joint.specs.Cells.{FileCell, NamesCell, View};
 ghost use Rattle.ufs_store.specs.Refusals.{fault_in, is_no_space, is_own};
 ghost use Rattle.ufs_store.specs.declared.fault.StoreFault.TheVariants as refusal;
-ghost use Rattle.ufs_turns.specs.Lent.{AreTold, GainsBlocks, HasCommitted, IsBare, IsBeside, IsBesidePools, LacksBlocks, LendsFile, LendsPool, StopsByFault, TellsStop, used_in};
+ghost use Rattle.ufs_turns.specs.Lent.{AreTold, GainsBlocks, HasCommitted, IsBare, IsBeside, IsBesidePools, LacksBlocks, LendsFile, LendsPool, StopsByFault, TellsStop, TellsWhere, used_in};
 ghost use Rattle.ufs_turns.specs.NamesLent.{HaveCommitted, LendsNames};
 ghost use Rattle.ufs_turns.specs.Told.{fault_told, told_list};
 
@@ -55,6 +55,7 @@ pub trait Turns<N: Naming> {
         ensures stop { (fault : ℕ) → result ≡ Err (refusal.Stopped fault) → hand.new.stop ≡ Some fault }
         ensures halts { StopsByFault (tells self.old) (tells self.new) (fault_in result) }
         ensures halted { TellsStop (tells self.old) result }
+        ensures stopped { TellsWhere (tells self.new) result }
         ensures refused { IfErr result (λ fault. is_no_space fault ≡ false) };
 
     /// Reads the blocks of a file that a request on a descriptor of it needs and that aren't in memory. What was read stays, also
@@ -105,6 +106,7 @@ pub trait Turns<N: Naming> {
         ensures stop { (fault : ℕ) → result ≡ Err (refusal.Stopped fault) → hand.new.stop ≡ Some fault }
         ensures halts { StopsByFault (tells self.old) (tells self.new) (fault_in result) }
         ensures halted { TellsStop (tells self.old) result }
+        ensures stopped { TellsWhere (tells self.new) result }
         ensures refused { IfErr result (λ fault. is_no_space fault ≡ false) };
 
     /// Gives a pool the lowest unassigned blocks: so many, and 64 more where there are. Where there are fewer it says how many there
@@ -152,5 +154,6 @@ pub trait Turns<N: Naming> {
         ensures stop { (fault : ℕ) → result ≡ Err (refusal.Stopped fault) → hand.new.stop ≡ Some fault }
         ensures halts { StopsByFault (tells self.old) (tells self.new) (fault_in result) }
         ensures halted { TellsStop (tells self.old) result }
+        ensures stopped { TellsWhere (tells self.new) result }
         ensures refused { IfErr result (λ fault. is_no_space fault ≡ false) };
 }

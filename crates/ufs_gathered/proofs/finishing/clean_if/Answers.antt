@@ -9,12 +9,12 @@ use Rattle.ufs_gathered.proofs.finishing.clean_if.Goals as goal
 
 pub returns-in-Ok-clause-ends : goal.returns-in-Ok-clause-ends
 returns-in-Ok-clause-ends g c =
-    subst (λ (r : Result (Unit {0}) StoreFault). EndsBehind r c.args.stop (g.D.Disk.faults c.args.disk.now) (g.D.Disk.faults c.clean.new.disk) c.clean.result) (sym c.in-Ok.is) (c.clean.ensures.cause, c.clean.ensures.going)
+    subst (λ (r : Result (Unit {0}) StoreFault). EndsBehind r (g.D.Disk.faults c.args.disk.now) (g.D.Disk.faults c.clean.new.disk) c.clean.result) (sym c.in-Ok.is) (c.clean.ensures.cause, c.clean.ensures.going)
 
 pub returns-in-Err-clause-ends : goal.returns-in-Err-clause-ends
 returns-in-Err-clause-ends g c =
     let count = g.D.Disk.faults c.args.disk.now in
-    subst (λ (r : Result (Unit {0}) StoreFault). EndsBehind r c.args.stop count count (Err c.fault_of.result)) (sym c.in-Err.is) (refl, ap (λ (x : CloseFault). Err x) c.fault_of.ensures)
+    subst (λ (r : Result (Unit {0}) StoreFault). EndsBehind r count count (Err c.fault_of.result)) (sym c.in-Err.is) (refl, ap (λ (x : CloseFault). Err x) c.fault_of.ensures)
 
 pub returns-in-Err-clause-tree : goal.returns-in-Err-clause-tree
 returns-in-Err-clause-tree g c visible proper =

@@ -18,7 +18,7 @@ use Rattle.ufs_turns.specs.Lent.{stop_in}
 use Rattle.ufs_gathered.specs.Ended.{HasEnded}
 use Rattle.ufs_gathered.specs.Finished.{EndsBehind, EndsBy}
 use Rattle.ufs_gathered.specs.Gathered.{AreAllBack}
-use Rattle.ufs_gathered.proofs.Cleaned.{back_then, ends_by, explained_on, going_on, of_done, proper, stands_last, stop_is, tells_stop}
+use Rattle.ufs_gathered.proofs.Cleaned.{back_then, ends_by, explained_on, going_on, of_commits, of_done, proper, stands_last, stop_is, tells_stop}
 use Rattle.ufs_gathered.proofs.finishing.finish.Goals as goal
 
 pub end-tickets-requires-clause-back : goal.end-tickets-requires-clause-back
@@ -46,10 +46,9 @@ returns-clause-finished g c lists at_home =
     let now = g.D.Disk.moments closed.new.disk in
     let count = g.D.Disk.faults closed.new.disk in
     let halts : s.stop ≡ stop_after was (fault_in d.result.0) = sym (stop_is k g.D.Disk.visible keeps d.result.1 s c.end-tickets.ensures.store) ∙ d.ensures.halts in
-    let ends : EndsBehind d.result.0 (stop_after was (fault_in d.result.0)) s.faults count closed.result =
-    subst (λ (x : Option ℕ × ℕ). EndsBehind d.result.0 x.0 x.1 count closed.result) (λ i. ((c.stopped-stop.ensures ∙ halts) i, into.faults i)) closed.ensures.ends in
+    let ends : EndsBehind d.result.0 s.faults count closed.result = subst (λ (before : ℕ). EndsBehind d.result.0 before count closed.result) into.faults closed.ensures.ends in
     let ends_so : EndsBy (is_ok d.result.0) s.stop s.faults count closed.result =
-    subst (λ (stop : Option ℕ). EndsBy (is_ok d.result.0) stop s.faults count closed.result) (sym halts) (ends_by s.faults count was d.result.0 closed.result d.ensures.halted ends) in
+    subst (λ (stop : Option ℕ). EndsBy (is_ok d.result.0) stop s.faults count closed.result) (sym halts) (ends_by s.faults count was d.result.0 closed.result (of_commits was d.result.0 (stop_in d.result.1.store) d.ensures.halts d.ensures.halted d.ensures.stopped d.ensures.refused) ends) in
     let sight = λ (seen : k.is_visible ≡ true). (c.end-tickets.ensures.store.store.sees seen).0 in
     let same : ◌≡◌ {A = ℕ × Moments} (g.D.Disk.size c.into_disk-disk.result, g.D.Disk.moments c.into_disk-disk.result) (s.sectors, s.moments) = λ i. (into.size i, into.moments i) in
     let cleans : (seen : k.is_visible ≡ true) → Leaves (IsProperImage s.sectors) s.moments.state → LeavesOnly keeps (OpensAsLeft s.sectors s.moments.state) s.moments now =
@@ -81,15 +80,9 @@ returns-clause-finished g c lists at_home =
 
 pub returns-clause-stopped : goal.returns-clause-stopped
 returns-clause-stopped g c fault =
-    let k = g.N.Naming.start in
     let d = c.commit_straight-done in
     let was = stop_in c.args.actors.store.store in
-    let last = c.end-tickets.result.store in
-    let s : StoreState = state_of (g.D.Disk.size last.disk) (g.D.Disk.moments last.disk) (g.D.Disk.faults last.disk) last.tables in
     let closed = c.clean_if-ended in
     let before = g.D.Disk.faults c.into_disk-disk.result in
     let count = g.D.Disk.faults closed.new.disk in
-    let halts : s.stop ≡ stop_after was (fault_in d.result.0) = sym (stop_is k g.D.Disk.visible g.D.Disk.keeps d.result.1 s c.end-tickets.ensures.store) ∙ d.ensures.halts in
-    let ends : EndsBehind d.result.0 (stop_after was (fault_in d.result.0)) before count closed.result =
-    subst (λ (stop : Option ℕ). EndsBehind d.result.0 stop before count closed.result) (c.stopped-stop.ensures ∙ halts) closed.ensures.ends in
-    tells_stop before count was d.result.0 closed.result d.ensures.halted ends fault
+    tells_stop before count was d.result.0 closed.result (of_commits was d.result.0 (stop_in d.result.1.store) d.ensures.halts d.ensures.halted d.ensures.stopped d.ensures.refused) closed.ensures.ends fault

@@ -9,6 +9,7 @@ use Rattle.ufs_turns.specs.Lent.{StopsByFault, TellsStop}
 use Rattle.ufs_turns.specs.Told.{fault_told, told_list}
 use Rattle.ufs_held.specs.Held.{first_cell}
 use Rattle.ufs_held.proofs.After.{failed_first, first_held, held_failed, held_synced, kept_value, lends}
+use Rattle.ufs_held.proofs.Stopping.{failed_where, passed_where}
 use Rattle.ufs_held.proofs.commits.commit_own.Goals as goal
 
 -- ---- a stop that is told
@@ -129,3 +130,9 @@ returns-in-Err-clause-halts g c = subst (λ (r : Result ℕ StoreFault). StopsBy
 
 pub returns-in-Err-clause-halted : goal.returns-in-Err-clause-halted
 returns-in-Err-clause-halted g c = stop_when_err (g.T.Turns.tells c.args.door.now) c.sync_file.result c.in-Err.fault c.in-Err.is c.sync_file.ensures.halted
+
+pub returns-in-Ok-clause-stopped : goal.returns-in-Ok-clause-stopped
+returns-in-Ok-clause-stopped g c = passed_where (Unit {0}) (g.T.Turns.tells c.sync_file.new.self) tt
+
+pub returns-in-Err-clause-stopped : goal.returns-in-Err-clause-stopped
+returns-in-Err-clause-stopped g c = failed_where ℕ (Unit {0}) (g.T.Turns.tells c.sync_file.new.self) c.sync_file.result c.in-Err.fault c.in-Err.is c.sync_file.ensures.stopped

@@ -5,7 +5,7 @@ use Rattle.ufs_joint.specs.Cells.{NamesCell}
 use Rattle.ufs_joint.specs.NamesTurns.{live_files}
 use Rattle.ufs_store.specs.Refusals.{fault_in}
 use Rattle.ufs_store.specs.declared.fault.StoreFault.{StoreFault}
-use Rattle.ufs_turns.specs.Lent.{StopsByFault, TellsStop}
+use Rattle.ufs_turns.specs.Lent.{StopsByFault, TellsStop, TellsWhere}
 use Rattle.ufs_turns.specs.Told.{fault_told, told_list}
 use Rattle.ufs_held.proofs.Stopping.{passed_so, stops_twice}
 use Rattle.ufs_noted.specs.Noted.{Noted}
@@ -102,3 +102,6 @@ pub returns-in-Ok-clause-births : goal.returns-in-Ok-clause-births
 returns-in-Ok-clause-births g c =
     let y = c.commit_lent.new.noted in
     births_same (first_names y c.commit_lent.new.right.names) (first_names y c.commit_files.new.right.names) c.commit_lent.new.reached c.commit_files.ensures.same c.commit_lent.ensures.births
+
+pub returns-in-Err-clause-stopped : goal.returns-in-Err-clause-stopped
+returns-in-Err-clause-stopped g c = subst (λ (q : Result (Unit {0}) StoreFault). TellsWhere (g.T.Turns.tells c.commit_lent.new.door) q) c.in-Err.is c.commit_lent.ensures.stopped

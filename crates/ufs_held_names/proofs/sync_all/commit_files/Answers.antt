@@ -6,10 +6,10 @@ use Rattle.ufs_bitmap.specs.Blocks.{BlockSet}
 use Rattle.ufs_bitmap.specs.Taking.{set_of}
 use Rattle.ufs_store.specs.Refusals.{fault_in}
 use Rattle.ufs_store.specs.declared.fault.StoreFault.{StoreFault}
-use Rattle.ufs_turns.specs.Lent.{AreTold, StopsByFault}
+use Rattle.ufs_turns.specs.Lent.{AreTold, StopsByFault, TellsWhere}
 use Rattle.ufs_turns.specs.Told.{fault_told, told_list}
 use Rattle.ufs_held.proofs.Excusing.{same_told}
-use Rattle.ufs_held.proofs.Stopping.{stops_still, stops_twice}
+use Rattle.ufs_held.proofs.Stopping.{passed_where, stops_still, stops_twice}
 use Rattle.ufs_held_names.specs.SyncAll.{AreSynced, freed_by}
 use Rattle.ufs_held_names.proofs.SyncedAll.{failed_synced, freed_next, next_synced, none_synced}
 use Rattle.ufs_held_names.proofs.Tried.{same_cells, same_twice, told_chain, told_so}
@@ -109,3 +109,12 @@ returns-clause-freed g c =
     let k : ℕ = c.loop-place.place in
     let all : k ≡ length olds = omega (arith, c.loop-place-test.false, c.loop-place.auto.place-end) in
     subst (λ (n : ℕ). AreTold (g.T.Turns.tells c.args.door.now) (g.T.Turns.tells c.loop-place.door) (λ had has. has ≡ freed_by n olds had)) all c.loop-place.invariant.freed
+
+pub returns-in_err-commit_born-clause-stopped : goal.returns-in_err-commit_born-clause-stopped
+returns-in_err-commit_born-clause-stopped g c =
+    let p = err_from_is_err_and c.from_residual.result c.from_residual.ensures.1 in
+    let same : c.commit_born.result ≡ c.from_residual.result = c.in_err-commit_born.was ∙ sym (p.1 ∙ ap Err p.2) in
+    subst (λ (r : Result (Unit {0}) StoreFault). TellsWhere (g.T.Turns.tells c.commit_born.new.door) r) same c.commit_born.ensures.stopped
+
+pub returns-clause-stopped : goal.returns-clause-stopped
+returns-clause-stopped g c = passed_where (Unit {0}) (g.T.Turns.tells c.loop-place.door) tt

@@ -147,3 +147,6 @@ returns-in-Ok-clause-halted g c fault is = sym c.in-Ok.is ∙ c.sync_store.ensur
 
 pub returns-in-Err-clause-halted : goal.returns-in-Err-clause-halted
 returns-in-Err-clause-halted g c fault is = sym c.in-Err.is ∙ c.sync_store.ensures.halted fault is
+
+pub returns-in-Err-clause-stopped : goal.returns-in-Err-clause-stopped
+returns-in-Err-clause-stopped g c fault is = c.sync_store.ensures.stopped fault (c.in-Err.is ∙ is)

@@ -4,7 +4,7 @@ use Rattle.std.specs.Prelude.{OnOk, Result, Ok, Err}
 use Rattle.ufs_joint.specs.Disks.{cell_of}
 use Rattle.ufs_store.specs.Refusals.{fault_in}
 use Rattle.ufs_store.specs.declared.fault.StoreFault.{StoreFault}
-use Rattle.ufs_turns.specs.Lent.{used_in}
+use Rattle.ufs_turns.specs.Lent.{stop_in, used_in}
 use Rattle.ufs_turns.specs.Told.{fault_told, told_list}
 use Rattle.ufs_turns.proofs.FreeBlocks.{in_cells, stop_before, stop_behind}
 use Rattle.ufs_turns.proofs.held_store.HeldStore.checkpoint.Goals as goal
@@ -14,7 +14,7 @@ invariant_of-self g c =
     let t = g.D.Door.store c.checkpoint_lent-made.new.store in
     let st = c.checkpoint_lent-made.ensures.store in
     let alone = c.give_back.ensures.home (cell_of st.stamp st.past t) st.has in
-    (c.self.invariant.0, record { cell = cell_of st.stamp st.past t; alone = alone; store = record { stamp = st.stamp; past = st.past; has = alone.store; sees = st.sees; formed = st.formed; since = st.since; covers = st.covers } })
+    (c.self.invariant.0, record { cell = cell_of st.stamp st.past t; alone = alone; store = record { stamp = st.stamp; past = st.past; has = alone.store; sees = st.sees; formed = st.formed; size = st.size; since = st.since; covers = st.covers } })
 
 pub returns-clause-faults : goal.returns-clause-faults
 returns-clause-faults g c = c.give_back.ensures.faults ∙ c.checkpoint_lent-made.ensures.faults ∙ ap (λ (xs : List ℕ). told_list (fault_told (fault_in c.checkpoint_lent-made.result)) ++ xs) c.lend.ensures.faults
@@ -51,3 +51,10 @@ returns-clause-halts g c =
 pub returns-clause-halted : goal.returns-clause-halted
 returns-clause-halted g c fault is =
     c.checkpoint_lent-made.ensures.halted fault (sym (stop_before g.N.Naming.start g.D.Door.visible g.D.Door.keeps c.self.inside.hand c.give_back.new.own c.args.self.now (g.D.Door.store c.self.inside.store) c.self.invariant.1 c.self.view_is) ∙ is)
+
+pub returns-clause-stopped : goal.returns-clause-stopped
+returns-clause-stopped g c fault is =
+    let t = g.D.Door.store c.checkpoint_lent-made.new.store in
+    let st = c.checkpoint_lent-made.ensures.store in
+    let alone = c.give_back.ensures.home (cell_of st.stamp st.past t) st.has in
+    ap stop_in alone.store ∙ c.checkpoint_lent-made.ensures.stopped fault is

@@ -4,6 +4,7 @@ use Rattle.ufs_bitmap.specs.Blocks.{BlockSet}
 use Rattle.ufs_joint.specs.Disks.{cell_of}
 use Rattle.ufs_store.specs.Refusals.{fault_in}
 use Rattle.ufs_store.specs.declared.fault.StoreFault.{StoreFault}
+use Rattle.ufs_turns.specs.Lent.{stop_in}
 use Rattle.ufs_turns.specs.Told.{fault_told, told_list}
 use Rattle.ufs_turns.proofs.FreeBlocks.{in_cells, stop_before, stop_behind}
 use Rattle.ufs_turns.proofs.held_store.HeldStore.commit_names.Goals as goal
@@ -25,7 +26,7 @@ invariant_of-self g c =
     let t = g.D.Door.store c.commit_lent-committed.new.store in
     let st = c.commit_lent-committed.ensures.store in
     let alone = c.give_back.ensures.home (cell_of st.stamp st.past t) st.has in
-    (c.self.invariant.0, record { cell = cell_of st.stamp st.past t; alone = alone; store = record { stamp = st.stamp; past = st.past; has = alone.store; sees = st.sees; formed = st.formed; since = st.since; covers = st.covers } })
+    (c.self.invariant.0, record { cell = cell_of st.stamp st.past t; alone = alone; store = record { stamp = st.stamp; past = st.past; has = alone.store; sees = st.sees; formed = st.formed; size = st.size; since = st.since; covers = st.covers } })
 
 on_ok : {A B : Type 0} (r : Result (Unit {0}) StoreFault) → (A → B) → OnOk r A → OnOk r B
 on_ok (Ok x) f a = f a
@@ -86,3 +87,10 @@ returns-clause-halts g c =
 pub returns-clause-halted : goal.returns-clause-halted
 returns-clause-halted g c fault is =
     c.commit_lent-committed.ensures.halted fault (sym (stop_before g.N.Naming.start g.D.Door.visible g.D.Door.keeps c.self.inside.hand c.give_back.new.own c.args.self.now (g.D.Door.store c.self.inside.store) c.self.invariant.1 c.self.view_is) ∙ is)
+
+pub returns-clause-stopped : goal.returns-clause-stopped
+returns-clause-stopped g c fault is =
+    let t = g.D.Door.store c.commit_lent-committed.new.store in
+    let st = c.commit_lent-committed.ensures.store in
+    let alone = c.give_back.ensures.home (cell_of st.stamp st.past t) st.has in
+    ap stop_in alone.store ∙ c.commit_lent-committed.ensures.stopped fault is
