@@ -26,7 +26,7 @@ use Rattle.ufs_store.specs.declared.fault.StoreFault.{StoreFault}
 use Rattle.ufs_store.specs.declared.fault.StoreFault.TheVariants as refusal
 use Rattle.ufs_promise_laws.specs.OnDisk.{IsExplainedBetween, IsExplainedImage}
 use Rattle.ufs_turns.specs.HeldStore.{IsHeldStore}
-use Rattle.ufs_turns.specs.Lent.{GainsBlocks, IsBare, IsBeside, stop_in}
+use Rattle.ufs_turns.specs.Lent.{IsBare, IsBeside, stop_in}
 use Rattle.ufs_gathered.specs.Ended.{AreAllKnown, HasEnded}
 use Rattle.ufs_gathered.specs.Finished.{EndsBehind, EndsBy}
 use Rattle.ufs_gathered.specs.Gathered.{AreAllBack, HasPoolsAlone}
@@ -38,12 +38,6 @@ lends_bare pools alone = record { files = alone.files; names = alone.names; away
 
 pub alone_again : (pools back : View) → HasPoolsAlone pools → IsBare back → IsBeside pools back → HasPoolsAlone back
 alone_again pools back alone bare beside = record { clients = beside.clients ∙ alone.clients; files = bare.files; names = bare.names; store = bare.away }
-
--- ---- what a way tells of a pool
-
-pub some_given : (r : Result (Unit {0}) StoreFault) (missing : ℕ) (had left old new : BlockSet) → OnOk r (GainsBlocks missing had left old new) → OnOk r ((h : BlockSet) × (l : BlockSet) × GainsBlocks missing h l old new)
-some_given (Ok x) missing had left old new is = (had, left, is)
-some_given (Err e) missing had left old new is = tt
 
 -- ---- commits leave who is there
 

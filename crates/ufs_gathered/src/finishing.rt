@@ -20,7 +20,6 @@ ghost use Rattle.ufs_turns.specs.Lent.{stop_in};
 
 use crate::ending::{Ended, end};
 use crate::gathering::Actors;
-use crate::straight::Straight;
 use std::alloc::Global;
 use std::sync::ledger::{Ledger, Share};
 use ufs_disk::Disk;
@@ -30,7 +29,7 @@ use ufs_held_names::HeldNames;
 use ufs_joint::{Hand, HandTable, Naming};
 use ufs_layout::Geometry;
 use ufs_store::{Door, Store, StoreFault};
-use ufs_turns::HeldStore;
+use ufs_turns::{Direct, HeldStore};
 
 /// A disk behind a session on hands, and how that ended.
 #[derive(Drop)]
@@ -119,15 +118,9 @@ fn commit_straight<N: Naming, S: Door, L: Ledger>(
     ensures stopped { (fault : ℕ) → result.0 ≡ Err (refusal.Stopped fault) → stop_in result.1.store ≡ Some fault }
     ensures refused { IfErr result.0 (λ fault. is_no_space fault ≡ false) }
 {
-    let mut door = Straight { table, held, share };
+    let mut door = Direct { table, held, share };
     let done = names.commit_all(table, files, pools, &mut door, geometry);
-    let Straight {
-        table: _,
-        held,
-        share,
-    } = door;
-    drop(share);
-    (done, held)
+    (done, door.held)
 }
 
 // Makes the image clean, if everything is committed.

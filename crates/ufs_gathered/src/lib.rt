@@ -4,7 +4,6 @@
 mod ending;
 mod finishing;
 mod gathering;
-mod straight;
 
 pub use ending::{Ended, end};
 pub use finishing::{Finished, finish};

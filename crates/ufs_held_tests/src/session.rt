@@ -131,7 +131,7 @@ fn run<N: Naming, D: Door + Drop, L: Ledger>(
     let (book, share) = blank.open::<L>();
     ask::<N, Brand>(&table, &mut hand, geometry);
     let own = hand.split(&table, PartName::Store);
-    let mut held = HeldStore::new(own, store, book);
+    let held = HeldStore::new(own, store, book);
     let right = hand.split(&table, PartName::Names);
     let mut names = HeldNames::new(&table, noted, right);
     let next = names.next_number();
@@ -139,8 +139,8 @@ fn run<N: Naming, D: Door + Drop, L: Ledger>(
     let mut guest = hand.split(&table, PartName::Client(0));
     let pool = hand.split(&table, PartName::File(3));
     guest.join(&table, pool);
-    let turned = straight(
-        alloc, &table, &mut held, share, &mut names, guest, &mut hand, geometry, checkpoint,
+    let (turned, held) = straight(
+        alloc, &table, held, share, &mut names, guest, &mut hand, geometry, checkpoint,
     );
     let Turned {
         made,
@@ -187,25 +187,25 @@ fn ask<N: Naming, E: Event>(table: &HandTable<N>, hand: &mut Hand<N>, geometry: 
     hand.mark::<E>(table, geometry)
 }
 
-// The turns by the way that borrows the store.
-fn straight<'a, N: Naming, D: Door, L: Ledger>(
+// The turns by the way that has the store.
+fn straight<N: Naming, D: Door, L: Ledger>(
     alloc: Global,
-    table: &'a HandTable<N>,
-    held: &'a mut HeldStore<N, D, L>,
+    table: &HandTable<N>,
+    held: HeldStore<N, D, L>,
     share: Share<L>,
     names: &mut HeldNames<N>,
     guest: Hand<N>,
     hand: &mut Hand<N>,
     geometry: &Geometry,
     checkpoint: bool,
-) -> Turned<N>
+) -> (Turned<N>, HeldStore<N, D, L>)
     requires share { 0 < share.parts }
     requires formed { IsGeometry geometry.now }
     requires its { geometry.now ≡ N.start.geometry }
     requires guest { (part : ClientPart) × (n : ℕ) × (pool : BlockSet) × IsGuest 0 part n pool guest × (part.asked ≡ Some op.Sync) × (part.entries ≡ []) }
     requires none { (file : ℕ) → IsSome (fin.get names.old.value.held file) → ⊥ }
     requires bare { IsBare hand.old }
-    ensures guest { (part : ClientPart) (n : ℕ) (pool : BlockSet) → IsGuest 0 part n pool guest → IsGuest 0 (answered part result.entry) n pool result.guest }
+    ensures guest { (part : ClientPart) (n : ℕ) (pool : BlockSet) → IsGuest 0 part n pool guest → IsGuest 0 (answered part result.0.entry) n pool result.0.guest }
     ensures held { names.new.value.held ≡ names.old.value.held }
     ensures bare { IsBare hand.new }
     ensures clients { hand.new.clients ≡ hand.old.clients }
@@ -215,13 +215,14 @@ fn straight<'a, N: Naming, D: Door, L: Ledger>(
     let made = checkpoint_if(checkpoint, &mut door, hand);
     let NamesSynced { entry, guest } = sync_none(alloc, table, names, &mut door, guest, geometry);
     let (first, second) = commit_twice(table, names, &mut door, hand);
-    Turned {
+    let turned = Turned {
         made,
         entry,
         guest,
         first,
         second,
-    }
+    };
+    (turned, door.held)
 }
 
 // A checkpoint, if one is wanted.

@@ -12,11 +12,11 @@ use ufs_model::{Desc, Op};
 use ufs_names::Names;
 use ufs_store::{Door, StoreFault};
 
-/// To a store that it borrows.
+/// To a store that is its own: nobody else comes to it meanwhile, and behind its turns it is known which store they went to.
 #[derive(Drop)]
 pub struct Direct<'a, N: Naming, D: Door, L: Ledger> {
     pub table: &'a HandTable<N>,
-    pub held: &'a mut HeldStore<N, D, L>,
+    pub held: HeldStore<N, D, L>,
     pub share: Share<L>,
     pub ghost part: { 0 < share.parts },
 }
@@ -24,7 +24,7 @@ pub struct Direct<'a, N: Naming, D: Door, L: Ledger> {
 impl<'a, N: Naming, D: Door, L: Ledger> Turns<N> for Direct<'a, N, D, L> {
     ghost use Rattle.std.specs.Prelude.{Some};
 
-    ghost tells = { λ d. Some d.held.now };
+    ghost tells = { λ d. Some d.held };
 
     ghost answers = { λ d. d.share.amount };
 

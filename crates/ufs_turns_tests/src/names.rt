@@ -80,8 +80,8 @@ fn run_commits<N: Naming, D: Door + Drop, L: Ledger>(
     let Begun { table, mut hand } = opened.named::<N>();
     let (book, share) = blank.open::<L>();
     let own = hand.split(&table, PartName::Store);
-    let mut held = HeldStore::new(own, store, book);
-    let (first, second) = commit_twice(alloc, &table, &mut held, &mut hand, names, share);
+    let held = HeldStore::new(own, store, book);
+    let (first, second, held) = commit_twice(alloc, &table, held, &mut hand, names, share);
     let (own, store) = held.into_parts();
     drop(store);
     hand.join(&table, own);
@@ -94,14 +94,18 @@ fn run_commits<N: Naming, D: Door + Drop, L: Ledger>(
 }
 
 // Whichever way a commit goes, the hand has the names, of the same files.
-fn commit_twice<'a, N: Naming, D: Door, L: Ledger>(
+fn commit_twice<N: Naming, D: Door, L: Ledger>(
     alloc: Global,
-    table: &'a HandTable<N>,
-    held: &'a mut HeldStore<N, D, L>,
+    table: &HandTable<N>,
+    held: HeldStore<N, D, L>,
     hand: &mut Hand<N>,
     names: &mut Names,
     share: Share<L>,
-) -> (Result<(), StoreFault>, Result<(), StoreFault>)
+) -> (
+    Result<(), StoreFault>,
+    Result<(), StoreFault>,
+    HeldStore<N, D, L>,
+)
     requires part { 0 < share.parts }
     requires lent { (cell : NamesCell) × LendsNames cell hand.old × (cell.value ≡ names.old) × (cell.fresh ≡ []) }
     ensures lent { (cell : NamesCell) × LendsNames cell hand.new × (cell.value.held ≡ names.old.held) }
@@ -112,5 +116,5 @@ fn commit_twice<'a, N: Naming, D: Door, L: Ledger>(
     let mut door = Direct { table, held, share };
     let first = door.commit_names(hand, names, &mut fresh);
     let second = door.commit_names(hand, names, &mut fresh);
-    (first, second)
+    (first, second, door.held)
 }

@@ -135,9 +135,9 @@ fn run<N: Naming, D: Door + Drop, L: Ledger>(
     let Begun { table, mut hand } = opened.named::<N>();
     let (book, share) = blank.open::<L>();
     let own = hand.split(&table, PartName::Store);
-    let mut held = HeldStore::new(own, store, book);
+    let held = HeldStore::new(own, store, book);
     let mut lent = hand.split(&table, PartName::File(0));
-    let told = turns_straight(&table, &mut held, &mut lent, &mut pool, share);
+    let (told, held) = turns_straight(&table, held, &mut lent, &mut pool, share);
     let (own, store) = held.into_parts();
     drop(store);
     hand.join(&table, lent);
@@ -181,14 +181,14 @@ fn run_locked<N: Naming, D: Door + Drop, L: Ledger, R: Wait>(
     Ended { tickets, told }
 }
 
-// The turns by the way that borrows the store,
-fn turns_straight<'a, N: Naming, D: Door, L: Ledger>(
-    table: &'a HandTable<N>,
-    held: &'a mut HeldStore<N, D, L>,
+// The turns by the way that has the store,
+fn turns_straight<N: Naming, D: Door, L: Ledger>(
+    table: &HandTable<N>,
+    held: HeldStore<N, D, L>,
     hand: &mut Hand<N>,
     pool: &mut Pool,
     share: Share<L>,
-) -> Told
+) -> (Told, HeldStore<N, D, L>)
     requires part { 0 < share.parts }
     requires lent { (name : ℕ) × LendsPool name pool.old hand.old }
     requires files { hand.old.files ≡ [] }
@@ -198,7 +198,8 @@ fn turns_straight<'a, N: Naming, D: Door, L: Ledger>(
     ensures pool { (name : ℕ) → LendsPool name pool.old hand.old → LendsPool name pool.new hand.new }
 {
     let mut door = Direct { table, held, share };
-    take_turns(&mut door, hand, pool)
+    let told = take_turns(&mut door, hand, pool);
+    (told, door.held)
 }
 
 // and by the one behind a lock.

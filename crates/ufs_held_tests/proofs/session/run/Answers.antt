@@ -97,11 +97,11 @@ close-tickets-requires-clause-all g c =
     let turned = c.straight-turned in
     let t = g.D.Door.store c.into_parts-own.result.1 in
     let own = c.into_parts-own.result.0 in
-    let part = answered (syncing n s r) turned.result.entry in
-    let back : IsGuest 0 part 3 no_blocks turned.result.guest = turned.ensures.guest (syncing n s r) 3 no_blocks (subst (IsGuest 0 (syncing n s r) 3 no_blocks) (sym came) (guest_is n s r)) in
+    let part = answered (syncing n s r) turned.result.0.entry in
+    let back : IsGuest 0 part 3 no_blocks turned.result.0.guest = turned.ensures.guest (syncing n s r) 3 no_blocks (subst (IsGuest 0 (syncing n s r) 3 no_blocks) (sym came) (guest_is n s r)) in
     let same = turned.ensures.held ∙ ap (λ (q : NamesCell). q.value.held) named in
     let stored = subst (λ (k : Start). IsHeldStore k g.D.Door.visible g.D.Door.keeps own t) c.requires.start c.into_parts-own.ensures.home in
     subst (λ (x : Start × View). HoldsAll x.0 x.1)
     (λ j. (sym c.requires.start j, sym (c.join-4.ensures ∙ ap (λ (q : View). both_of q own) (c.join-3.ensures ∙ ap (λ (q : View). both_of q c.into_parts-right.result.1) c.join-2.ensures)) j))
-    (all_there n s r c.requires.part g.D.Door.visible g.D.Door.keeps turned.new.hand turned.result.guest c.into_parts-right.result.1 own part t turned.new.names turned.ensures.bare back c.into_parts-right.ensures.hand same
+    (all_there n s r c.requires.part g.D.Door.visible g.D.Door.keeps turned.new.hand turned.result.0.guest c.into_parts-right.result.1 own part t turned.new.names turned.ensures.bare back c.into_parts-right.ensures.hand same
     (turned.ensures.clients ∙ ap (λ (q : View). q.clients) kept) (turned.ensures.pools ∙ ap (λ (q : View). q.pools) kept) stored)
