@@ -6,7 +6,7 @@ use Rattle.ufs_script.specs.declared.draft.Draft.{Draft}
 use Rattle.ufs_script.specs.declared.fault.ScriptFault.{ScriptFault}
 use Rattle.ufs_script.specs.declared.request.Flags.{Flags}
 use Rattle.ufs_script.specs.Requests.{with_flag}
-use Rattle.ufs_script.specs.Script.{after_line, draft_of, no_lines, finished, passed, script_of, max_script, IsFaultOf}
+use Rattle.ufs_script.specs.Script.{after_line, draft_of, no_lines, finished, passed, placed_of, max_script, IsFaultOf}
 use Rattle.ufs_script.specs.Lines.{ended_lines, lines_in}
 use Rattle.ufs_script.specs.Reading.{LongerIsAlike}
 use Rattle.std.proofs.lemmas.Bool.{lt-leb}
@@ -42,7 +42,7 @@ break_before lines more f (inr here) = inr (fold-append after_line (Ok no_lines)
 
 -- ---- texts that are too long
 
-passed_alike : (text : List ℕ) → max_script < length text → script_of text ≡ passed (draft_of (ended_lines (take max_script text)))
+passed_alike : (text : List ℕ) → max_script < length text → placed_of text ≡ passed (draft_of (ended_lines (take max_script text)))
 passed_alike text long = ap (λ b. cond b (finished (draft_of (lines_in text))) (passed (draft_of (ended_lines (take max_script text))))) (lt-leb (length text) max_script long)
 
 -- only the bytes within the greatest length count

@@ -4,6 +4,8 @@ pub mod FoldLemmas
 pub mod NumberLemmas
 pub mod InsideLemmas
 pub mod SpellingLemmas
+pub mod TurnLemmas
+pub mod KnownLemmas
 pub mod PrintedLemmas
 pub mod Rows
 pub mod ReadLemmas

@@ -1,10 +1,10 @@
 -- What is printed of a script is read as that script.
-use Rattle.std.proofs.Common.{◌≡◌, ℕ, ◌<◌, ◌≤◌, ◌+◌, ◌-◌, ◌^◌, List, [], ◌∷◌, ◌++◌, append_assoc, length, length-append, map, refl, false, not, Option, Some, None, Result, Ok, cond, take, eq-eqb, ◌∙◌, sym, ap, subst, inl, inr, arith}
-use Rattle.std.specs.Prelude.{◌==◌, codes}
+use Rattle.std.proofs.Common.{◌≡◌, ℕ, ◌<◌, ◌≤◌, ◌+◌, ◌-◌, ◌^◌, List, [], ◌∷◌, ◌++◌, append_assoc, length, length-append, map, refl, Bool, true, false, not, Option, Some, None, Result, Ok, Err, cond, take, eq-eqb, ◌∙◌, sym, ap, subst, inl, inr, arith}
+use Rattle.std.specs.Prelude.{◌==◌, ◌&&◌, codes}
 use Rattle.std.specs.Fmt.{decimal}
 use Rattle.std.specs.Option.{option_to_list}
 use Rattle.std.specs.List.{fold, filter, slice_split, AllByRecursion}
-use Rattle.std.proofs.lemmas.Bool.{le-leb, lt-ltb}
+use Rattle.std.proofs.lemmas.Bool.{and_parts, eqb-true, le-leb, lt-ltb}
 use Rattle.std.proofs.lemmas.Bool.Decides.{eqb_tells}
 use Rattle.std.proofs.lemmas.List.{append-nil, map-append}
 use Rattle.std.proofs.lemmas.List.Elements.{All-append, All-cons, All-nil}
@@ -14,16 +14,23 @@ use Rattle.ufs_model.specs.Bounds.{IsBounded}
 use Rattle.ufs_model.specs.declared.data.Op.{Op}
 use Rattle.ufs_model.specs.declared.data.Op.TheVariants as op
 use Rattle.ufs_script.specs.declared.draft.Draft.{Draft}
+use Rattle.ufs_script.specs.declared.draft.Schedule.{Schedule}
+use Rattle.ufs_script.specs.declared.fault.Cause.TheVariants as cause
 use Rattle.ufs_script.specs.declared.fault.ScriptFault.{ScriptFault}
+use Rattle.ufs_script.specs.declared.lists.ScheduleWord.{ScheduleWord}
+use Rattle.ufs_script.specs.declared.script.Script.{Script}
+use Rattle.ufs_script.specs.declared.lists.ScheduleWord.TheVariants as turn
 use Rattle.ufs_script.specs.Words.{is_blank, words_of}
 use Rattle.ufs_script.specs.Requests.{and_then}
 use Rattle.ufs_script.specs.Lines.{without_return, all_ended, all_unended, ended_lines, unended_line, lines_in}
-use Rattle.ufs_script.specs.Script.{no_lines, counted, with_request, after_words, after_line, draft_of, plain_script, finished}
-use Rattle.ufs_script.specs.Spelling.{is_inside, request_words, client_lines, script_lines, words_text, lines_text, script_text, IsSpellable, IsClient, PrintedIsRead}
+use Rattle.ufs_script.specs.Script.{no_lines, counted, with_request, with_turns, after_words, after_line, draft_of, finished, unplaced}
+use Rattle.ufs_script.specs.Schedule.{IsScheduled, IsTurn, limited, plan_line, turn_of}
+use Rattle.ufs_script.specs.Spelling.{is_inside, request_words, client_lines, schedule_lines, script_lines, turn_lines, turn_text, words_text, lines_text, script_text, HasPath, IsSpellable, IsClient, PrintedIsRead}
 use Rattle.ufs_script.proofs.NumberLemmas.{number_back}
 use Rattle.ufs_script.proofs.LineLemmas.{ended_more, unended_more, some_piece}
 use Rattle.ufs_script.proofs.InsideLemmas.{AreWords, literal, free_of, Free, word_free, decimal_word}
 use Rattle.ufs_script.proofs.SpellingLemmas as spelled
+use Rattle.ufs_script.proofs.TurnLemmas.{turn_back, turn_word}
 
 -- ---- the words of a line
 
@@ -100,7 +107,7 @@ lines_back lines all =
 -- ---- one line after the others
 
 abbrev so_far : ℕ → List (List Op) → Option (List Op) → Draft
-so_far lines before current = record { lines = lines; before = before; current = current; ended = false }
+so_far lines before current = record { lines = lines; before = before; current = current; schedule = None; ended = false }
 
 -- a request's words come to what the request comes to
 request_step : (n : ℕ) (before : List (List Op)) (requests : List Op) (request : Op) → IsBounded request → IsSpellable request
@@ -182,23 +189,146 @@ requests_are : (requests : List Op) (rest : List (List (List ℕ))) → AllByRec
 requests_are [] rest bounded spelled' all = all
 requests_are (request ∷ requests) rest bounded spelled' all = (spelled.request_are request bounded.0 spelled'.0, requests_are requests rest bounded.1 spelled'.1 all)
 
-clients_are : (clients : List (List Op)) (k : ℕ) → AllByRecursion IsClient clients → k + length clients ≤ 16 → AreLines (client_lines k clients ++ (codes "end" ∷ []) ∷ [])
-clients_are [] k all few = ((literal (codes "end") refl refl, tt), tt)
-clients_are (requests ∷ clients) k all few =
-    let rest = clients_are clients (k + 1) all.1 (omega arith) in (
-      (literal (codes "client") refl refl, (decimal_word k (omega arith), tt)),
-      subst AreLines (sym (append_assoc (map request_words requests) (client_lines (k + 1) clients) ((codes "end" ∷ []) ∷ []))) (requests_are requests _ all.0.0 all.0.1 rest),
+-- ---- the schedule
+
+nil_of : (words : List ScheduleWord) → length words ≡ 0 → words ≡ []
+nil_of [] e = refl
+nil_of (word ∷ words) e = absurd (omega (arith, e))
+
+abbrev scheduled : ℕ → List (List Op) → Option (List Op) → Schedule → Draft
+scheduled lines before current schedule = record { lines = lines; before = before; current = current; schedule = Some schedule; ended = false }
+
+abbrev with_all : ℕ → ℕ → List ScheduleWord → Option ℕ → Schedule
+with_all line workers words plan = record { line = line; workers = workers; words = words; plan = plan }
+
+abbrev script_with : List (List Op) → ℕ → List ScheduleWord → Script
+script_with clients workers words = record { clients = clients; workers = workers; words = words }
+
+schedule_line_step : (n : ℕ) (before : List (List Op)) (current : Option (List Op)) (workers : ℕ) → 1 ≤ workers → workers ≤ 8
+    → after_line (Ok (so_far n before current)) (joined (codes "schedule" ∷ decimal workers ∷ [])) ≡ Ok (scheduled (n + 1) before current (with_all (n + 1) workers [] None))
+schedule_line_step n before current workers some few =
+    let short : workers < 10 ^ 18 = omega arith in
+    ap (λ words. counted (n + 1) (after_words (so_far n before current) words)) (words_back (codes "schedule" ∷ decimal workers ∷ []) (literal (codes "schedule") refl refl, (decimal_word workers short, tt)))
+    ∙ rw (number_back workers short, le-leb 1 workers some, lt-ltb workers 9 (omega arith)) refl
+
+module _ (before : List (List Op)) (current : Option (List Op)) where
+  -- a schedule word's line is looked at as one
+  turn_step : (n : ℕ) (s : Schedule) (word : ScheduleWord)
+      → after_words (scheduled n before current s) (turn_text word ∷ [])
+      ≡ and_then (with_turns (length (before ++ option_to_list current)) (n + 1) s (turn_text word ∷ [])) (λ new. Ok (scheduled n before current new))
+  turn_step n s (turn.Client k) = refl
+  turn_step n s (turn.Worker k) = refl
+  turn_step n s turn.Primary = refl
+  turn_step n s (turn.Ticks k) = refl
+  turn_step n s (turn.Move path to) = refl
+  turn_step n s turn.Plan = refl
+
+  abbrev with_more : ℕ → Schedule → ScheduleWord → List ScheduleWord → Schedule
+  with_more n s word turns = record s { words = turns; plan = plan_line s.plan (n + 1) (turn_text word ∷ []) }
+
+  more_turns : (n : ℕ) (s : Schedule) (word : ScheduleWord) → turn_of (length (before ++ option_to_list current)) s.workers (turn_text word) ≡ Ok word → length s.words < 1000000
+      → with_turns (length (before ++ option_to_list current)) (n + 1) s (turn_text word ∷ []) ≡ Ok (with_more n s word (s.words ++ word ∷ []))
+  more_turns n s word is room =
+      let count : length (s.words ++ word ∷ []) ≤ 1000000 = omega (arith, length-append s.words (word ∷ []), room) in
+      ap (λ r. and_then (limited (and_then r (λ t. Ok (s.words ++ t ∷ [])))) (λ turns. Ok (with_more n s word turns))) is
+      ∙ ap (λ b. and_then (cond b (Ok (s.words ++ word ∷ [])) (Err cause.TooMany)) (λ turns. Ok (with_more n s word turns))) (le-leb (length (s.words ++ word ∷ [])) 1000000 count)
+
+  turn_line_step : (n : ℕ) (s : Schedule) (word : ScheduleWord) → IsTurn (length (before ++ option_to_list current)) s.workers word → HasPath word → length (before ++ option_to_list current) ≤ 16 → s.workers ≤ 8 → length s.words < 1000000
+      → after_line (Ok (scheduled n before current s)) (joined (turn_text word ∷ [])) ≡ Ok (scheduled (n + 1) before current (with_more n s word (s.words ++ word ∷ [])))
+  turn_line_step n s word h path few most room =
+      ap (λ words. counted (n + 1) (after_words (scheduled n before current s) words)) (words_back (turn_text word ∷ []) (turn_word (length (before ++ option_to_list current)) s.workers word h path few most, tt))
+      ∙ ap (counted (n + 1)) (turn_step n s word)
+      ∙ ap (λ r. counted (n + 1) (and_then r (λ new. Ok (scheduled n before current new)))) (more_turns n s word (turn_back (length (before ++ option_to_list current)) s.workers word h path few most) room)
+
+  -- behind a schedule's words, whichever line had the first plan
+  record Runs (given : Result Draft ScriptFault) (line workers : ℕ) (words : List ScheduleWord) : Type 0 where
+    lines : ℕ
+    plan : Option ℕ
+    is : given ≡ Ok (scheduled lines before current (with_all line workers words plan))
+
+  turns_run : (more : List ScheduleWord) (n line workers : ℕ) (words : List ScheduleWord) (plan : Option ℕ) → AllByRecursion (IsTurn (length (before ++ option_to_list current)) workers) more → AllByRecursion HasPath more
+      → length (before ++ option_to_list current) ≤ 16 → workers ≤ 8 → length words + length more ≤ 1000000
+      → Runs (fold after_line (Ok (scheduled n before current (with_all line workers words plan))) (map joined (turn_lines more))) line workers (words ++ more)
+  turns_run [] n line workers words plan turns paths few most room = record { lines = n; plan = plan; is = ap (λ all. Ok (scheduled n before current (with_all line workers all plan))) (sym (append-nil words)) }
+  turns_run (word ∷ more) n line workers words plan turns paths few most room =
+      let next = turns_run more (n + 1) line workers (words ++ word ∷ []) (plan_line plan (n + 1) (turn_text word ∷ [])) turns.1 paths.1 few most (simp length-append (omega arith)) in
+      record {
+        lines = next.lines;
+        plan = next.plan;
+        is =
+            ap (λ r. fold after_line r (map joined (turn_lines more))) (turn_line_step n (with_all line workers words plan) word turns.0 paths.0 few most (omega (arith, room)))
+            ∙ next.is
+            ∙ ap (λ all. Ok (scheduled next.lines before current (with_all line workers all next.plan))) (append_assoc words (word ∷ []) more);
+      }
+
+  -- the schedule and the line `end`
+  schedule_back : (n workers : ℕ) (words : List ScheduleWord) → 1 ≤ workers → workers ≤ 8 → length words ≤ 1000000 → length (before ++ option_to_list current) ≤ 16
+      → AllByRecursion (IsTurn (length (before ++ option_to_list current)) workers) words → AllByRecursion HasPath words
+      → unplaced (finished (fold after_line (Ok (so_far n before current)) (map joined (schedule_lines workers words ++ (codes "end" ∷ []) ∷ []))))
+      ≡ Ok (script_with (before ++ option_to_list current) workers words)
+  schedule_back n workers words some most room few turns paths = at ((workers == 1) && (length words == 0)) refl
+    where
+      at : (b : Bool) → ((workers == 1) && (length words == 0)) ≡ b
+          → unplaced (finished (fold after_line (Ok (so_far n before current)) (map joined (cond b [] ((codes "schedule" ∷ decimal workers ∷ []) ∷ turn_lines words) ++ (codes "end" ∷ []) ∷ []))))
+          ≡ Ok (script_with (before ++ option_to_list current) workers words)
+      at true is =
+          let both = and_parts (workers == 1) (length words == 0) is in
+          let one : workers ≡ 1 = eqb-true workers 1 both.0 in
+          let none : words ≡ [] = nil_of words (eqb-true (length words) 0 both.1) in
+          ap (λ all. Ok (script_with (before ++ option_to_list current) 1 all)) (sym none)
+          ∙ ap (λ count. Ok (script_with (before ++ option_to_list current) count words)) (sym one)
+      at false is =
+          let run = turns_run words (n + 1) (n + 1) workers [] None turns paths few most (omega (arith, room)) in
+          ap (λ r. unplaced (finished (fold after_line r (map joined (turn_lines words ++ (codes "end" ∷ []) ∷ []))))) (schedule_line_step n before current workers some most)
+          ∙ ap (λ lines. unplaced (finished (fold after_line (Ok (scheduled (n + 1) before current (with_all (n + 1) workers [] None))) lines))) (map-append joined (turn_lines words) ((codes "end" ∷ []) ∷ []))
+          ∙ ap (λ r. unplaced (finished r)) (fold-append after_line (Ok (scheduled (n + 1) before current (with_all (n + 1) workers [] None))) (map joined (turn_lines words)) (map joined ((codes "end" ∷ []) ∷ [])))
+          ∙ ap (λ r. unplaced (finished (fold after_line r (map joined ((codes "end" ∷ []) ∷ []))))) run.is
+
+-- ---- the lines are such
+
+turns_are : (count workers : ℕ) (words : List ScheduleWord) (rest : List (List (List ℕ))) → AllByRecursion (IsTurn count workers) words → AllByRecursion HasPath words → count ≤ 16 → workers ≤ 8 → AreLines rest → AreLines (turn_lines words ++ rest)
+turns_are count workers [] rest turns paths few most all = all
+turns_are count workers (word ∷ words) rest turns paths few most all = ((turn_word count workers word turns.0 paths.0 few most, tt), turns_are count workers words rest turns.1 paths.1 few most all)
+
+schedule_are : (count workers : ℕ) (words : List ScheduleWord) → AllByRecursion (IsTurn count workers) words → AllByRecursion HasPath words → count ≤ 16 → workers ≤ 8 → AreLines (schedule_lines workers words ++ (codes "end" ∷ []) ∷ [])
+schedule_are count workers words turns paths few most = at ((workers == 1) && (length words == 0))
+  where
+    at : (b : Bool) → AreLines (cond b [] ((codes "schedule" ∷ decimal workers ∷ []) ∷ turn_lines words) ++ (codes "end" ∷ []) ∷ [])
+    at true = ((literal (codes "end") refl refl, tt), tt)
+    at false = (
+      (literal (codes "schedule") refl refl, (decimal_word workers (omega arith), tt)),
+      turns_are count workers words ((codes "end" ∷ []) ∷ []) turns paths few most ((literal (codes "end") refl refl, tt), tt),
     )
+
+clients_are : (clients : List (List Op)) (k : ℕ) (rest : List (List (List ℕ))) → AllByRecursion IsClient clients → k + length clients ≤ 16 → AreLines rest → AreLines (client_lines k clients ++ rest)
+clients_are [] k rest all few are = are
+clients_are (requests ∷ clients) k rest all few are = (
+  (literal (codes "client") refl refl, (decimal_word k (omega arith), tt)),
+  subst AreLines (sym (append_assoc (map request_words requests) (client_lines (k + 1) clients) rest))
+      (requests_are requests _ all.0.0 all.0.1 (clients_are clients (k + 1) rest all.1 (omega arith) are)),
+)
+
+-- of clients that are a script's
+schedule_for : (before : List (List Op)) (current : Option (List Op)) (n : ℕ) (script : Script) → before ++ option_to_list current ≡ script.clients → length script.clients ≤ 16 → IsScheduled script → AllByRecursion HasPath script.words
+    → unplaced (finished (fold after_line (Ok (so_far n before current)) (map joined (schedule_lines script.workers script.words ++ (codes "end" ∷ []) ∷ []))))
+    ≡ Ok (script_with (before ++ option_to_list current) script.workers script.words)
+schedule_for before current n script is few s paths =
+    schedule_back before current n script.workers script.words s.some s.workers s.few
+    (subst (λ (l : List (List Op)). length l ≤ 16) (sym is) few)
+    (subst (λ (l : List (List Op)). AllByRecursion (IsTurn (length l) script.workers) script.words) (sym is) s.turns)
+    paths
 
 -- a printed script is read
 pub script_back : PrintedIsRead
-script_back clients all few short =
-    let end = (codes "end" ∷ []) ∷ [] in
-    let count : 0 + length clients ≤ 16 = omega arith in
-    let run = clients_run clients 0 [] None 0 all refl count in
-    rw (le-leb (length (script_text clients)) 16777216 short)
-    (ap (λ lines. finished (draft_of lines)) (lines_back (script_lines clients) (clients_are clients 0 all count))
-    ∙ ap (λ lines. finished (draft_of lines)) (map-append joined (client_lines 0 clients) end)
-    ∙ ap finished (fold-append after_line (Ok no_lines) (map joined (client_lines 0 clients)) (map joined end))
-    ∙ ap (λ r. finished (fold after_line r (map joined end))) run.is
-    ∙ ap (λ those. Ok (plain_script those)) run.all)
+script_back script all few s paths short =
+    let rest = schedule_lines script.workers script.words ++ (codes "end" ∷ []) ∷ [] in
+    let count : 0 + length script.clients ≤ 16 = omega arith in
+    let run = clients_run script.clients 0 [] None 0 all refl count in
+    let are = clients_are script.clients 0 rest all count (schedule_are (length script.clients) script.workers script.words s.turns paths few s.workers) in
+    rw (le-leb (length (script_text script)) 16777216 short)
+    (ap (λ lines. unplaced (finished (draft_of lines))) (lines_back (script_lines script) are)
+    ∙ ap (λ lines. unplaced (finished (draft_of lines))) (map-append joined (client_lines 0 script.clients) rest)
+    ∙ ap (λ r. unplaced (finished r)) (fold-append after_line (Ok no_lines) (map joined (client_lines 0 script.clients)) (map joined rest))
+    ∙ ap (λ r. unplaced (finished (fold after_line r (map joined rest)))) run.is
+    ∙ schedule_for run.before run.current run.lines script run.all few s paths
+    ∙ ap (λ clients. Ok (script_with clients script.workers script.words)) run.all)

@@ -1,5 +1,5 @@
 -- A few scripts and lines, worked by computation.
-use Rattle.std.proofs.Common.{◌≡◌, [], ◌∷◌, Ok, Err, true, false, refl}
+use Rattle.std.proofs.Common.{◌≡◌, [], ◌∷◌, Some, Ok, Err, true, false, refl}
 use Rattle.std.specs.Prelude.{codes, negsuc, pos}
 use Rattle.std.specs.Fmt.{digits}
 use Rattle.hex.specs.Hex.{encode_with}
@@ -10,7 +10,8 @@ use Rattle.ufs_model.specs.declared.data.Reply.TheVariants as reply
 use Rattle.ufs_model.specs.declared.data.Excuse.TheVariants as excuse
 use Rattle.ufs_model.specs.declared.data.Actor.TheVariants as actor
 use Rattle.ufs_script.specs.declared.fault.ScriptFault.TheVariants as fault
-use Rattle.ufs_script.specs.Script.{script_of, plain_script}
+use Rattle.ufs_script.specs.declared.lists.ScheduleWord.TheVariants as turn
+use Rattle.ufs_script.specs.Script.{placed_of, script_of, plain_script}
 use Rattle.ufs_script.specs.Output.{line_text, trace_text}
 
 no_client : script_of (codes "end") ≡ Ok (plain_script [])
@@ -57,8 +58,54 @@ another_client = refl
 behind_the_end : script_of (codes "end\n# a\n\nfrob\n") ≡ Err (fault.AfterEnd 4)
 behind_the_end = refl
 
-a_schedule : script_of (codes "client 0\nschedule 1\nend\n") ≡ Err (fault.NotBuilt 2)
+-- ---- schedules
+
+-- two clients and two workers; a file goes to worker 2 and then to worker 1
+a_schedule : script_of (codes "client 0\nclient 1\nschedule 2\nc0 p c0 c0 p c0 m2:/f w2 c1 p c1\n\tc01 m1:/f w2 p w1 w2 c1 p c1 w1 c1\nend\n")
+    ≡ Ok (record {
+      clients = [] ∷ [] ∷ [];
+      workers = 2;
+      words =
+          turn.Client 0 ∷ turn.Primary ∷ turn.Client 0 ∷ turn.Client 0 ∷ turn.Primary ∷ turn.Client 0 ∷ turn.Move (codes "/f") 2 ∷ turn.Worker 2 ∷ turn.Client 1 ∷ turn.Primary ∷ turn.Client 1
+          ∷ turn.Client 1 ∷ turn.Move (codes "/f") 1 ∷ turn.Worker 2 ∷ turn.Primary ∷ turn.Worker 1 ∷ turn.Worker 2 ∷ turn.Client 1 ∷ turn.Primary ∷ turn.Client 1 ∷ turn.Worker 1 ∷ turn.Client 1 ∷ [];
+    })
 a_schedule = refl
+
+orders_and_ticks : script_of (codes "schedule 8\nm8:/a:b m0:\"\" m1: t65535 l\nend")
+    ≡ Ok (record { clients = []; workers = 8; words = turn.Move (codes "/a:b") 8 ∷ turn.Move [] 0 ∷ turn.Move [] 1 ∷ turn.Ticks 65535 ∷ turn.Plan ∷ [] })
+orders_and_ticks = refl
+
+an_empty_schedule : script_of (codes "schedule 01\nend") ≡ Ok (plain_script [])
+an_empty_schedule = refl
+
+its_places : placed_of (codes "\nschedule 1\np\nl p l\nl\nend")
+    ≡ Ok (record { script = record { clients = []; workers = 1; words = turn.Primary ∷ turn.Plan ∷ turn.Primary ∷ turn.Plan ∷ turn.Plan ∷ [] }; schedule = Some 2; plan = Some 4 })
+its_places = refl
+
+too_many_workers : script_of (codes "schedule 9\nend\n") ≡ Err (fault.BadNumber 1)
+too_many_workers = refl
+
+no_workers : script_of (codes "client 0\nschedule\nend\n") ≡ Err (fault.BadWord 2)
+no_workers = refl
+
+no_such_client : script_of (codes "client 0\nschedule 1\np c1 x\nend\n") ≡ Err (fault.BadNumber 3)
+no_such_client = refl
+
+-- behind `schedule` no line is a client's
+a_client_behind_it : script_of (codes "client 0\nschedule 1\nclient 1\nend\n") ≡ Err (fault.BadNumber 3)
+a_client_behind_it = refl
+
+no_such_worker : script_of (codes "schedule 2\nw3\nend\n") ≡ Err (fault.BadNumber 2)
+no_such_worker = refl
+
+no_colon : script_of (codes "schedule 2\nm9\nend\n") ≡ Err (fault.BadWord 2)
+no_colon = refl
+
+no_number_before_the_colon : script_of (codes "schedule 2\nm:/f\nend\n") ≡ Err (fault.BadNumber 2)
+no_number_before_the_colon = refl
+
+more_than_a_letter : script_of (codes "schedule 2\np p1\nend\n") ≡ Err (fault.BadWord 2)
+more_than_a_letter = refl
 
 -- the last line has no line end before which a byte 0x0d could stand
 a_return_at_the_end : script_of (codes "client 0\r\nend\r") ≡ Err (fault.BadWord 2)

@@ -27,7 +27,7 @@ not_true : (b : Bool) → not b ≡ true → b ≡ false
 not_true true h = cc
 not_true false h = refl
 
-path_back : (path : List ℕ) → is_path path ≡ true → path_of (path_text path) ≡ path
+pub path_back : (path : List ℕ) → is_path path ≡ true → path_of (path_text path) ≡ path
 path_back [] h = refl
 path_back (b ∷ path) h =
     ap (λ t. cond t [] (b ∷ path)) (not_true (bytes_eq (b ∷ path) (codes "\"\"")) (and_parts (list_all is_inside (b ∷ path)) _ h).1)

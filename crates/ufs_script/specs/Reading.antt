@@ -1,8 +1,9 @@
 -- What a reading of a script took of its source, and what it read.
 use Rattle.std.specs.Prelude.{ℕ, ◌+◌, ◌-◌, ◌≡◌, ◌<◌, ◌≤◌, ⊤, ◌⊎◌, List, ◌++◌, length, Option, Some, None, Ok, Err}
 use Rattle.std.specs.Io.KnownBytes.{Consumes, IsAtEnd}
-use Rattle.ufs_script.specs.Script.{script_of, max_script}
+use Rattle.ufs_script.specs.Script.{placed_of, script_of, max_script}
 use Rattle.ufs_script.specs.declared.script.Script.{Script}
+use Rattle.ufs_script.specs.declared.script.PlacedScript.{PlacedScript}
 use Rattle.ufs_script.specs.declared.fault.ScriptFault.{ScriptFault}
 
 -- this text was read, to the source's end or past the greatest length
@@ -36,10 +37,14 @@ ReadsEachOnce (Some before) (Some now) made made' = MadeAtMost (length before - 
 abbrev pub ReadsScript : Option (List ℕ) → Option (List ℕ) → Script → Type 0
 ReadsScript old new script = (text : List ℕ) × HasRead old new text × (script_of text ≡ Ok script)
 
+-- the same, with the places of its schedule
+abbrev pub ReadsPlaced : Option (List ℕ) → Option (List ℕ) → PlacedScript → Type 0
+ReadsPlaced old new placed = (text : List ℕ) × HasRead old new text × (placed_of text ≡ Ok placed)
+
 -- the same, and its bytes break so
 abbrev pub ReadsBreak : Option (List ℕ) → Option (List ℕ) → ScriptFault → Type 0
 ReadsBreak old new fault = (text : List ℕ) × HasRead old new text × (script_of text ≡ Err fault)
 
 -- whatever follows a text that is too long, the answer is the same
 abbrev pub LongerIsAlike : Type 0
-LongerIsAlike = (text more : List ℕ) → max_script < length text → script_of (text ++ more) ≡ script_of text
+LongerIsAlike = (text more : List ℕ) → max_script < length text → placed_of (text ++ more) ≡ placed_of text

@@ -11,7 +11,11 @@ use Rattle.ufs_model.specs.declared.data.Whence.TheVariants as whence
 use Rattle.ufs_model.specs.declared.data.Op.{Op}
 use Rattle.ufs_model.specs.declared.data.Op.TheVariants as op
 use Rattle.ufs_script.specs.Words.{is_blank}
-use Rattle.ufs_script.specs.Script.{script_of, plain_script, max_script}
+use Rattle.ufs_script.specs.Schedule.{IsScheduled}
+use Rattle.ufs_script.specs.Script.{script_of, max_script}
+use Rattle.ufs_script.specs.declared.lists.ScheduleWord.{ScheduleWord}
+use Rattle.ufs_script.specs.declared.lists.ScheduleWord.TheVariants as turn
+use Rattle.ufs_script.specs.declared.script.Script.{Script}
 
 -- ---- words
 
@@ -71,8 +75,26 @@ abbrev pub client_lines : ℕ → List (List Op) → List (List (List ℕ))
 client_lines client [] = []
 client_lines client (requests ∷ clients) = (codes "client" ∷ decimal client ∷ []) ∷ (map request_words requests ++ client_lines (client + 1) clients)
 
-abbrev pub script_lines : List (List Op) → List (List (List ℕ))
-script_lines clients = client_lines 0 clients ++ (codes "end" ∷ []) ∷ []
+-- a schedule word
+abbrev pub turn_text : ScheduleWord → List ℕ
+turn_text (turn.Client k) = 99 ∷ decimal k
+turn_text (turn.Worker k) = 119 ∷ decimal k
+turn_text turn.Primary = codes "p"
+turn_text (turn.Ticks n) = 116 ∷ decimal n
+turn_text (turn.Move path to) = 109 ∷ (decimal to ++ 58 ∷ path_text path)
+turn_text turn.Plan = codes "l"
+
+-- one schedule word a line
+abbrev pub turn_lines : List ScheduleWord → List (List (List ℕ))
+turn_lines words = map (λ word. turn_text word ∷ []) words
+
+-- the schedule, where it isn't the one of a script that has none
+abbrev pub schedule_lines : ℕ → List ScheduleWord → List (List (List ℕ))
+schedule_lines workers words =
+    if (workers == 1) && (length words == 0) then [] else (codes "schedule" ∷ decimal workers ∷ []) ∷ turn_lines words
+
+abbrev pub script_lines : Script → List (List (List ℕ))
+script_lines script = client_lines 0 script.clients ++ (schedule_lines script.workers script.words ++ (codes "end" ∷ []) ∷ [])
 
 -- ---- text
 
@@ -86,8 +108,8 @@ abbrev pub lines_text : List (List (List ℕ)) → List ℕ
 lines_text [] = []
 lines_text (words ∷ lines) = words_text words ++ lines_text lines
 
-abbrev pub script_text : List (List Op) → List ℕ
-script_text clients = lines_text (script_lines clients)
+abbrev pub script_text : Script → List ℕ
+script_text script = lines_text (script_lines script)
 
 -- ---- what can be spelled
 
@@ -126,8 +148,14 @@ IsSpellable (op.List path) = IsTrue (is_path path)
 abbrev pub IsClient : List Op → Type 0
 IsClient requests = AllByRecursion IsBounded requests × AllByRecursion IsSpellable requests × (length requests ≤ MAX_REQUESTS)
 
--- clients that are printed and read stay the same
+-- a schedule word whose path can be spelled
+abbrev pub HasPath : ScheduleWord → Type 0
+HasPath (turn.Move path to) = IsTrue (is_path path)
+HasPath _ = Unit {0}
+
+-- a script that is printed and read stays the same
 abbrev pub PrintedIsRead : Type 0
-PrintedIsRead = (clients : List (List Op)) → AllByRecursion IsClient clients → length clients ≤ MAX_CLIENTS
-    → length (script_text clients) ≤ max_script
-    → script_of (script_text clients) ≡ Ok (plain_script clients)
+PrintedIsRead = (script : Script) → AllByRecursion IsClient script.clients → length script.clients ≤ MAX_CLIENTS
+    → IsScheduled script → AllByRecursion HasPath script.words
+    → length (script_text script) ≤ max_script
+    → script_of (script_text script) ≡ Ok script

@@ -13,11 +13,11 @@ pub enum ScriptFault {
     NoClient { line: u32 },
     /// An unknown word, a missing one, one too many, or a flag twice.
     BadWord { line: u32 },
-    /// A number's form or range, or a client that isn't the next one.
+    /// A number's form or range, a client that isn't the next one, or a turn of a client or a worker that isn't there.
     BadNumber { line: u32 },
     /// The form or length of a request's data.
     BadData { line: u32 },
-    /// The 17th client, or a client's 65,537th request.
+    /// The 17th client, a client's 65,537th request, or the 1,000,001st schedule word.
     TooMany { line: u32 },
     /// The line in which the script passes 16,777,216 bytes.
     TooLong { line: u32 },
@@ -25,7 +25,7 @@ pub enum ScriptFault {
     NoEnd { line: u32 },
     /// Something stands after the line `end`.
     AfterEnd { line: u32 },
-    /// A line that isn't read yet: `schedule`.
+    /// A line that is read and isn't played yet. No reader answers it: it is for who plays a script.
     NotBuilt { line: u32 },
     /// The source failed.
     Source,
@@ -42,7 +42,6 @@ pub enum Cause {
     BadData,
     TooMany,
     AfterEnd,
-    NotBuilt,
     Memory(Memory),
 }
 
@@ -59,7 +58,6 @@ impl Cause {
             Cause::BadData => ScriptFault::BadData { line },
             Cause::TooMany => ScriptFault::TooMany { line },
             Cause::AfterEnd => ScriptFault::AfterEnd { line },
-            Cause::NotBuilt => ScriptFault::NotBuilt { line },
             Cause::Memory(memory) => ScriptFault::Memory(memory),
         }
     }

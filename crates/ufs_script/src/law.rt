@@ -2,8 +2,8 @@
 ghost use Rattle.ufs_script.specs.Spelling.{PrintedIsRead};
 ghost use Rattle.ufs_script.specs.Reading.{LongerIsAlike};
 
-/// A law on scripts, which costs nothing: clients that are printed in the canonical spelling and
-/// read again stay the same.
+/// A law on scripts, which costs nothing: a script that is printed in the canonical spelling and
+/// read again stays the same, its schedule too.
 pub fn printing_and_reading()
     ensures { PrintedIsRead }
 {}

@@ -173,6 +173,18 @@ impl Model for WordList {
 }
 
 impl WordList {
+    /// The greatest length in a script that is read.
+    pub const MAX: usize = 1_000_000;
+
+    /// No word. Takes no memory.
+    pub fn new(alloc: Global) -> Self
+        ensures { result ≡ [] }
+    {
+        WordList {
+            words: Vec::new(alloc),
+        }
+    }
+
     pub fn from_vec(words: Vec<ScheduleWord>) -> Self
         ensures { result ≡ words.items }
     {
@@ -189,5 +201,14 @@ impl WordList {
         ensures { result.now ≡ self.now }
     {
         self.words.as_slice()
+    }
+
+    /// Adds a word behind the others.
+    pub fn push(&mut self, word: ScheduleWord) -> Result<(), AllocError>
+        ensures ok { OnOk result (self.new ≡ self.old ++ word ∷ []) }
+        ensures err { OnErr result (self.new ≡ self.old) }
+    {
+        self.words.push(word)?;
+        Ok(())
     }
 }

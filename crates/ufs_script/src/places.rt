@@ -9,7 +9,8 @@ use crate::words;
 use std::alloc::Global;
 use ufs_model::{Bytes, Whence};
 
-fn word_at<'a>(words: &[&'a [u8]], place: usize) -> Result<&'a [u8], Cause>
+/// A word, which has to be there.
+pub fn word_at<'a>(words: &[&'a [u8]], place: usize) -> Result<&'a [u8], Cause>
     ensures ok { IfOk result (λ word. specs.word_at (map (λ w. w.now) words.now) place ≡ Ok word.now) }
     ensures err { IfErr result (λ c. specs.word_at (map (λ w. w.now) words.now) place ≡ Err c) }
 {

@@ -1,12 +1,13 @@
 // The reading of a script from a source.
-ghost use Rattle.std.specs.Prelude.{◌≡◌, ◌≢◌, ◌≤◌, [], IfOk, IfErr, length};
+ghost use Rattle.std.specs.Prelude.{◌≡◌, ◌≢◌, ◌≤◌, IfOk, IfErr, length};
 ghost use Rattle.ufs_base.specs.Faults.{raised};
-ghost use Rattle.ufs_script.specs.Script.{IsOutside};
+ghost use Rattle.ufs_script.specs.Schedule.{IsScheduled};
+ghost use Rattle.ufs_script.specs.Script.{IsOutside, IsPlaced};
 ghost use Rattle.ufs_script.specs.declared.fault.ScriptFault.{ScriptFault};
-ghost use Rattle.ufs_script.specs.Reading.{HasRead, ReadsScript, ReadsBreak, TakesAtMost, ReadsEachOnce};
+ghost use Rattle.ufs_script.specs.Reading.{HasRead, ReadsPlaced, ReadsScript, ReadsBreak, TakesAtMost, ReadsEachOnce};
 
 use crate::fault::ScriptFault;
-use crate::script::{MAX_SCRIPT, Script, parse};
+use crate::script::{MAX_SCRIPT, PlacedScript, Script, parse};
 use std::alloc::Global;
 use ufs_base::MAX_CLIENTS;
 use ufs_io::Source;
@@ -49,9 +50,31 @@ fn read_all<S: Source>(alloc: Global, source: &mut S) -> Result<Vec<u8>, ScriptF
 }
 
 /// Reads a script, to the source's end or past the greatest length of a script, 16,777,216 bytes,
-/// by at most 16,777,218 reads.
+/// by at most 16,777,218 reads, and tells where its schedule begins.
 ///
 /// An error that is neither `Source` nor `Memory` is the text's first break.
+pub fn read_placed<S: Source>(alloc: Global, source: &mut S) -> Result<PlacedScript, ScriptFault>
+    ensures cause { result ≡ Err ScriptFault.Source →
+        S.faults source.new ≡ raised (S.faults source.old) }
+    ensures counted { result ≢ Err ScriptFault.Source →
+        S.faults source.new ≡ S.faults source.old }
+    ensures placed { IfOk result (ReadsPlaced (S.left source.old) (S.left source.new)) }
+    ensures broken { (fault : ScriptFault) → result ≡ Err fault → ¬ IsOutside fault →
+        ReadsBreak (S.left source.old) (S.left source.new) fault }
+    ensures most { TakesAtMost (S.left source.old) (S.left source.new) }
+    ensures once { ReadsEachOnce (S.left source.old) (S.left source.new)
+        (S.reads source.old) (S.reads source.new) }
+    ensures clients { IfOk result (λ placed. length placed.script.clients ≤ MAX_CLIENTS) }
+    ensures known { IfOk result IsPlaced }
+{
+    let text = read_all(alloc, source)?;
+    let placed = parse(alloc, text.as_slice())?;
+    // For the prover alone.
+    let _clients = placed.script.clients.as_slice();
+    Ok(placed)
+}
+
+/// Reads a script, as `read_placed` does.
 pub fn read_script<S: Source>(alloc: Global, source: &mut S) -> Result<Script, ScriptFault>
     ensures cause { result ≡ Err ScriptFault.Source →
         S.faults source.new ≡ raised (S.faults source.old) }
@@ -64,12 +87,8 @@ pub fn read_script<S: Source>(alloc: Global, source: &mut S) -> Result<Script, S
     ensures once { ReadsEachOnce (S.left source.old) (S.left source.new)
         (S.reads source.old) (S.reads source.new) }
     ensures clients { IfOk result (λ script. length script.clients ≤ MAX_CLIENTS) }
-    ensures workers { IfOk result (λ script. script.workers ≡ 1) }
-    ensures words { IfOk result (λ script. script.words ≡ []) }
+    ensures scheduled { IfOk result IsScheduled }
 {
-    let text = read_all(alloc, source)?;
-    let script = parse(alloc, text.as_slice())?;
-    // For the prover alone.
-    let _clients = script.clients.as_slice();
-    Ok(script)
+    let placed = read_placed(alloc, source)?;
+    Ok(placed.script)
 }

@@ -1,9 +1,9 @@
 // A whole script, from its text.
 ghost use Rattle.std.specs.Prelude.{◌≡◌, ◌≢◌, ◌≤◌, ◌<◌, ◌+◌, ◌^◌, [], ◌∷◌, Ok, IfOk, IfErr, map, length, fold, take};
 ghost use Rattle.ufs_script.specs.Lines.{ended_lines, unended_line, all_unended, lines_in};
-ghost use Rattle.ufs_script.specs.Script.{IsFaultOf, IsFew, draft_of, script_of, finished};
+ghost use Rattle.ufs_script.specs.Script.{IsFaultOf, IsFew, draft_of, finished, placed_of, placed_script};
 
-use crate::draft::{Draft, after_line, all_clients, no_lines};
+use crate::draft::{Draft, Schedule, after_line, all_clients, no_lines};
 use crate::fault::ScriptFault;
 use crate::lines::first_line;
 use crate::lists::{OpLists, WordList};
@@ -15,10 +15,20 @@ use std::alloc::Global;
 pub struct Script {
     /// By their numbers, from 0.
     pub clients: OpLists,
-    /// 1 in a script that was read, since `schedule` isn't read yet.
+    /// 1 to 8 in a script that was read, and 1 where it has no line `schedule`.
     pub workers: u8,
-    /// None in a script that was read, since `schedule` isn't read yet.
+    /// At most 1,000,000 in a script that was read, each of a client or a worker that it has.
     pub words: WordList,
+}
+
+/// A script, with the places of what isn't played everywhere.
+#[derive(Drop)]
+pub struct PlacedScript {
+    pub script: Script,
+    /// The number of the line `schedule`, if there is one. Where there is none, the script has one worker and no schedule word.
+    pub schedule: Option<u32>,
+    /// The number of the line with the first plan, if there is one.
+    pub plan: Option<u32>,
 }
 
 /// The greatest length of a script, in bytes.
@@ -74,40 +84,66 @@ fn front(text: &[u8], size: usize) -> &[u8]
     &text[..size]
 }
 
+// The script of some clients and their schedule.
+fn placed(alloc: Global, clients: OpLists, schedule: Option<Schedule>) -> PlacedScript
+    ensures { result ≡ placed_script clients schedule }
+{
+    match schedule {
+        Some(
+            Schedule {
+                line,
+                workers,
+                words,
+                plan,
+            },
+        ) => PlacedScript {
+            script: Script {
+                clients,
+                workers,
+                words,
+            },
+            schedule: Some(line),
+            plan,
+        },
+        None => PlacedScript {
+            script: Script {
+                clients,
+                workers: 1,
+                words: WordList::new(alloc),
+            },
+            schedule: None,
+            plan: None,
+        },
+    }
+}
+
 // The script of a text's lines, of which one has to be `end`.
-fn finish(alloc: Global, draft: Draft) -> Result<Script, ScriptFault>
+fn finish(alloc: Global, draft: Draft) -> Result<PlacedScript, ScriptFault>
     requires { IsFew draft }
-    ensures ok { IfOk result (λ script. finished (Ok draft) ≡ Ok script) }
+    ensures ok { IfOk result (λ placed. finished (Ok draft) ≡ Ok placed) }
     ensures err { IfErr result (IsFaultOf (finished (Ok draft))) }
-    ensures workers { IfOk result (λ script. script.workers ≡ 1) }
-    ensures words { IfOk result (λ script. script.words ≡ []) }
     ensures never { result ≢ Err ScriptFault.Source }
 {
     let Draft {
         lines,
         before,
         current,
+        schedule,
         ended,
     } = draft;
     if !ended {
         return Err(ScriptFault::NoEnd { line: lines });
     }
     match all_clients(before, current) {
-        Ok(clients) => Ok(Script {
-            clients,
-            workers: 1,
-            words: WordList::from_vec(Vec::new(alloc)),
-        }),
+        Ok(clients) => Ok(placed(alloc, clients, schedule)),
         Err(cause) => Err(cause.at(lines)),
     }
 }
 
 /// The script that a text is, or its first break.
-pub fn parse(alloc: Global, text: &[u8]) -> Result<Script, ScriptFault>
-    ensures ok { IfOk result (λ script. script_of text.now ≡ Ok script) }
-    ensures err { IfErr result (IsFaultOf (script_of text.now)) }
-    ensures workers { IfOk result (λ script. script.workers ≡ 1) }
-    ensures words { IfOk result (λ script. script.words ≡ []) }
+pub fn parse(alloc: Global, text: &[u8]) -> Result<PlacedScript, ScriptFault>
+    ensures ok { IfOk result (λ placed. placed_of text.now ≡ Ok placed) }
+    ensures err { IfErr result (IsFaultOf (placed_of text.now)) }
     ensures never { result ≢ Err ScriptFault.Source }
 {
     if text.len() > MAX_SCRIPT {
