@@ -8,4 +8,6 @@ mod lines;
 #[cfg(test)]
 mod requests;
 #[cfg(test)]
+mod schedules;
+#[cfg(test)]
 mod scripts;

@@ -23,7 +23,7 @@ pub fn script_of<R: Abort + AllocGlobal>(rt: &R, text: &str) -> Script {
 }
 
 // The fault of a text; a script counts as `Source`, which no plain source answers.
-fn fault_in<R: Abort + AllocGlobal>(rt: &R, text: Vec<u8>) -> ScriptFault {
+pub fn fault_in<R: Abort + AllocGlobal>(rt: &R, text: Vec<u8>) -> ScriptFault {
     answer_to(rt, text).err().unwrap_or(ScriptFault::Source)
 }
 
@@ -50,7 +50,7 @@ fn clients_have_their_requests(rt: HostRuntime) {
     same(&rt, "words", script.words.into_vec().len(), 0);
 }
 
-const BREAKS: [(&str, ScriptFault); 23] = [
+const BREAKS: [(&str, ScriptFault); 21] = [
     // the lines that there were
     ("", ScriptFault::NoEnd { line: 0 }),
     ("\n", ScriptFault::NoEnd { line: 1 }),
@@ -75,12 +75,6 @@ const BREAKS: [(&str, ScriptFault); 23] = [
     ("end\nend\n", ScriptFault::AfterEnd { line: 2 }),
     ("end\n# a\n\nfrob\n", ScriptFault::AfterEnd { line: 4 }),
     ("end\nschedule 1\n", ScriptFault::AfterEnd { line: 2 }),
-    // what isn't read yet
-    ("schedule\n", ScriptFault::NotBuilt { line: 1 }),
-    (
-        "client 0\nschedule 1\nfrob\n",
-        ScriptFault::NotBuilt { line: 2 },
-    ),
     (
         "client 0\nfrob\nschedule 1\n",
         ScriptFault::BadWord { line: 2 },
@@ -107,7 +101,7 @@ fn largest_script<R: Abort + AllocGlobal>(rt: &R) -> Vec<u8> {
     text
 }
 
-fn put<R: Abort>(rt: &R, text: &mut Vec<u8>, more: &str) {
+pub fn put<R: Abort>(rt: &R, text: &mut Vec<u8>, more: &str) {
     text.extend_from_slice(more.as_bytes()).expect(rt, "memory");
 }
 
