@@ -11,7 +11,7 @@ use Rattle.ufs_audit.specs.declared.verdict.Verdict.{Verdict}
 use Rattle.std.proofs.lemmas.List.{length-append, append_assoc, append-nil, append_cancel_left}
 use Rattle.ufs_model.proofs.Facts.Histories.{all-push}
 use Rattle.ufs_base.specs.declared.memory.Memory.{Memory}
-use Rattle.ufs_script.specs.Script.{script_of, passed, draft_of, max_script, IsOutside}
+use Rattle.ufs_script.specs.Script.{script_of, passed, unplaced, draft_of, max_script, IsOutside}
 use Rattle.ufs_script.specs.Lines.{ended_lines}
 use Rattle.ufs_script.specs.Reading.{HasRead, ReadsScript, ReadsBreak, LongerIsAlike}
 use Rattle.ufs_script.specs.declared.draft.Draft.{Draft}
@@ -144,7 +144,7 @@ head_long a b ahead head h long = record {
 
 -- ---- the script of what was read
 
-no_passed : (d : Result Draft ScriptFault) (s : Script) → passed d ≡ Ok s → ⊥
+no_passed : (d : Result Draft ScriptFault) (s : Script) → unplaced (passed d) ≡ Ok s → ⊥
 no_passed (Ok draft) s e = cc
 no_passed (Err f) s e = cc
 
@@ -154,7 +154,7 @@ long_breaks text s long is = at (nat_le (length text) max_script) refl is
     at : (B : Bool) → nat_le (length text) max_script ≡ B → script_of text ≡ Ok s → ⊥
     at true e is = let l = leb-true (length text) max_script e in omega (arith, l, long)
     at false e is = no_passed (draft_of (ended_lines (Rattle.std.specs.Prelude.take max_script text))) s
-        (sym (ap (λ (b : Bool). cond b (Rattle.ufs_script.specs.Script.finished (draft_of (Rattle.ufs_script.specs.Lines.lines_in text))) (passed (draft_of (ended_lines (Rattle.std.specs.Prelude.take max_script text))))) e) ∙ is)
+        (sym (ap (λ (b : Bool). unplaced (cond b (Rattle.ufs_script.specs.Script.finished (draft_of (Rattle.ufs_script.specs.Lines.lines_in text))) (passed (draft_of (ended_lines (Rattle.std.specs.Prelude.take max_script text)))))) e) ∙ is)
 
 short_script : (text : List ℕ) (s : Script) → script_of text ≡ Ok s → length text ≤ max_script
 short_script text s is = elim (cases_lt max_script (length text)) [
@@ -180,7 +180,7 @@ read_err longer text left f r = at r.1.ended
   where
     at : (IsAtEnd (Some left) ⊎ (max_script < length r.0)) → script_of text ≡ Err f
     at (inl none) = ap script_of (all_read text r.0 left r.1.taken none) ∙ r.2
-    at (inr long) = ap script_of r.1.taken ∙ longer r.0 left long ∙ r.2
+    at (inr long) = ap script_of r.1.taken ∙ ap unplaced (longer r.0 left long) ∙ r.2
 
 -- a fault that is neither the source's nor want of memory is the text's
 pub inside : (f : ScriptFault) → ((m : Memory) → f ≡ script_fault.Memory m → ⊥) → (f ≡ script_fault.Source → ⊥) → IsOutside f → ⊥
