@@ -3,7 +3,6 @@ use Rattle.std.proofs.Common.{◌≡◌, inl, inr, ℕ, List, ◌++◌, Option, 
 use Rattle.std.specs.Io.KnownBytes.{Appends}
 use Rattle.ufs_base.specs.Wanting.{wanting}
 use Rattle.ufs_base.specs.Faults.{raised}
-use Rattle.ufs_script.specs.Reading.{ReadsBreak}
 use Rattle.ufs_script.specs.Script.{IsOutside}
 use Rattle.ufs_script.specs.declared.fault.ScriptFault.{ScriptFault}
 use Rattle.ufs_script.specs.declared.fault.ScriptFault.TheVariants as fault
@@ -11,6 +10,7 @@ use Rattle.ufs_command.specs.declared.ending.Ending.{Ending}
 use Rattle.ufs_command.specs.declared.ending.Ending.TheVariants.{OutOfMemory}
 use Rattle.ufs_command.specs.Seen.{Reading, Writing}
 use Rattle.ufs_command.specs.Endings.{IsAnswer, IsLine, IsFixed, IsBreakLine, TellsFault, EndsUnread}
+use Rattle.ufs_command.specs.Unscheduled.{BreaksUnscheduled}
 use Rattle.ufs_print.proofs.WriteLemmas.{appends_both, front_behind}
 
 -- what is allowed there is allowed here
@@ -52,7 +52,7 @@ pub no_memory : (r : Reading) (ending : Ending) (text : List ℕ) → IsFixed Ou
 no_memory r ending text e = subst (λ (x : Ending). EndsUnread r x text) (sym e.0) e.1
 
 -- a break is told, or there was no memory for its line
-pub break_told : (r : Reading) (f : ScriptFault) → ReadsBreak r.left r.rest f → (¬ IsOutside f) → (ending : Ending) (text : List ℕ) → IsBreakLine f ending text → EndsUnread r ending text
+pub break_told : (r : Reading) (f : ScriptFault) → BreaksUnscheduled r.left r.rest f → (¬ IsOutside f) → (ending : Ending) (text : List ℕ) → IsBreakLine f ending text → EndsUnread r ending text
 break_told r f read inside ending text (inl e) = subst (λ (x : Ending). EndsUnread r x text) (sym e.0) (f, read, inside, e.1)
 break_told r f read inside ending text (inr e) = no_memory r ending text e
 
@@ -71,7 +71,7 @@ inside fault.Source m s = absurd (s refl)
 inside (fault.Memory _) m s = absurd (m refl)
 
 -- why there is no script is told
-pub fault_told : (r : Reading) (f : ScriptFault) → (f ≡ fault.Source → r.now ≡ raised r.before) → ((¬ IsOutside f) → ReadsBreak r.left r.rest f) → (ending : Ending) (text : List ℕ) → TellsFault f ending text → EndsUnread r ending text
+pub fault_told : (r : Reading) (f : ScriptFault) → (f ≡ fault.Source → r.now ≡ raised r.before) → ((¬ IsOutside f) → BreaksUnscheduled r.left r.rest f) → (ending : Ending) (text : List ℕ) → TellsFault f ending text → EndsUnread r ending text
 fault_told r f rose read ending text (inl e) = no_memory r ending text e.1
 fault_told r f rose read ending text (inr (inl e)) = subst (λ (x : Ending). EndsUnread r x text) (sym e.1.0) (rose e.0, e.1.1)
 fault_told r f rose read ending text (inr (inr e)) = break_told r f (read e.0) e.0 ending text e.1

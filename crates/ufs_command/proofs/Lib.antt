@@ -1,5 +1,6 @@
 mod TranscriptLemmas
 pub mod AnswerLemmas
+pub mod UnscheduledLemmas
 pub mod StatusLemmas
 pub mod ServingLemmas
 pub mod LeavingLemmas

@@ -13,8 +13,8 @@ use Rattle.ufs_session.specs.Told.{HasRisen}
 use Rattle.ufs_engine.proofs.EndLemmas.{rose_past}
 use Rattle.ufs_image.specs.Proper.{IsProperImage}
 use Rattle.ufs_image.specs.Volume as image
-use Rattle.ufs_script.specs.Reading.{HasRead, LongerIsAlike, ReadsBreak, ReadsScript}
-use Rattle.ufs_script.specs.Script.{IsOutside, script_of, max_script}
+use Rattle.ufs_script.specs.Reading.{HasRead, LongerIsAlike}
+use Rattle.ufs_script.specs.Script.{IsOutside, max_script}
 use Rattle.ufs_script.specs.declared.script.Script.{Script}
 use Rattle.ufs_script.specs.declared.fault.ScriptFault.{ScriptFault}
 use Rattle.ufs_start.specs.declared.fault.StartFault.{StartFault}
@@ -27,34 +27,35 @@ use Rattle.ufs_command.specs.Seen.{Formatting, Reading, Writing}
 use Rattle.ufs_command.specs.Texts.{break_line, device_line}
 use Rattle.ufs_command.specs.Endings.{EndsPlay, EndsServing, EndsUnread, IsAnswer, TellsNoStart, sink_status, start_ending, status_of}
 use Rattle.ufs_command.specs.Told.{TellsPlay}
+use Rattle.ufs_command.specs.Unscheduled.{BreaksUnscheduled, ReadsUnscheduled, unscheduled, unscheduled_of}
 use Rattle.ufs_command.proofs.ProperLemmas.{proper_opens}
 
 -- ---- the text that was read, of a visible source
 
-by_rest : LongerIsAlike → (text read rest : List ℕ) → text ≡ read ++ rest → (rest ≡ []) ⊎ (max_script < length read) → script_of read ≡ script_of text
-by_rest alike text read rest is (inl none) = ap script_of (sym (append-nil read) ∙ ap (λ l. read ++ l) (sym none) ∙ sym is)
-by_rest alike text read rest is (inr long) = sym (alike read rest long) ∙ ap script_of (sym is)
+by_rest : LongerIsAlike → (text read rest : List ℕ) → text ≡ read ++ rest → (rest ≡ []) ⊎ (max_script < length read) → unscheduled_of read ≡ unscheduled_of text
+by_rest alike text read rest is (inl none) = ap unscheduled_of (sym (append-nil read) ∙ ap (λ l. read ++ l) (sym none) ∙ sym is)
+by_rest alike text read rest is (inr long) = ap unscheduled (sym (alike read rest long)) ∙ ap unscheduled_of (sym is)
 
 -- a text that was read to its end or past the greatest length answers as the whole text does
-pub read_alike : LongerIsAlike → (text read : List ℕ) (new : Option (List ℕ)) → HasRead (Some text) new read → script_of read ≡ script_of text
+pub read_alike : LongerIsAlike → (text read : List ℕ) (new : Option (List ℕ)) → HasRead (Some text) new read → unscheduled_of read ≡ unscheduled_of text
 read_alike alike text read None has = absurd has.taken
 read_alike alike text read (Some rest) has = by_rest alike text read rest has.taken has.ended
 
 -- ---- by the status
 
 abbrev IsWhole : Bool → Reading → Formatting → List (List Entry) → List ℕ → Type 0
-IsWhole trace r d told text = (script : Script) × ReadsScript r.left r.rest script × IsSessionOf d script told × EndsSession d told (Ok tt) × (text ≡ session_lines trace (joined told))
+IsWhole trace r d told text = (script : Script) × ReadsUnscheduled r.left r.rest script × IsSessionOf d script told × EndsSession d told (Ok tt) × (text ≡ session_lines trace (joined told))
 
 abbrev IsStopped : Bool → Reading → Formatting → List (List Entry) → List ℕ → Type 0
 IsStopped trace r d told text = ((told ≡ []) × (d.now ≡ raised d.before) × (text ≡ device_line d.now))
-    ⊎ ((script : Script) × ReadsScript r.left r.rest script × IsSessionOf d script told × (fault : ℕ) × TellsEnd d told fault × (text ≡ session_lines trace (joined told) ++ device_line fault))
+    ⊎ ((script : Script) × ReadsUnscheduled r.left r.rest script × IsSessionOf d script told × (fault : ℕ) × TellsEnd d told fault × (text ≡ session_lines trace (joined told) ++ device_line fault))
 
 abbrev IsBroken : Reading → List ℕ → Type 0
-IsBroken r text = (f : ScriptFault) × ReadsBreak r.left r.rest f × (¬ IsOutside f) × (text ≡ break_line f)
+IsBroken r text = (f : ScriptFault) × BreaksUnscheduled r.left r.rest f × (¬ IsOutside f) × (text ≡ break_line f)
 
 -- there is a script
 abbrev IsRead : Reading → Type 0
-IsRead r = (script : Script) × ReadsScript r.left r.rest script
+IsRead r = (script : Script) × ReadsUnscheduled r.left r.rest script
 
 -- each status with what it says of the text
 data ByStatus (trace : Bool) (r : Reading) (d : Formatting) (told : List (List Entry)) (status : ℕ) (text : List ℕ) : Type 0 where
@@ -80,11 +81,11 @@ module _ (trace : Bool) (r : Reading) (d : Formatting) (told : List (List Entry)
   unread_by none Damaged text is e = absurd e
   unread_by none Illegal text is e = absurd e
 
-  stopped_by : (script : Script) → ReadsScript r.left r.rest script → (text : List ℕ) → EndsServing trace d script told DeviceFault text → IsStopped trace r d told text
+  stopped_by : (script : Script) → ReadsUnscheduled r.left r.rest script → (text : List ℕ) → EndsServing trace d script told DeviceFault text → IsStopped trace r d told text
   stopped_by script read text (inl e) = inl e
   stopped_by script read text (inr e) = inr (script, read, e.0, e.1, e.2, e.3)
 
-  served_by : (script : Script) → ReadsScript r.left r.rest script → (ending : Ending) (text : List ℕ) → status ≡ status_of ending → EndsServing trace d script told ending text → ByStatus trace r d told status text
+  served_by : (script : Script) → ReadsUnscheduled r.left r.rest script → (ending : Ending) (text : List ℕ) → status ≡ status_of ending → EndsServing trace d script told ending text → ByStatus trace r d told status text
   served_by script read Done text is e = whole is (script, read, e.0, e.1, e.2)
   served_by script read Usage text is e = absurd e
   served_by script read (BadGeometry bad) text is e = absurd e
@@ -147,17 +148,17 @@ never_stopped trace r d told text quiet (inr e) = quiet e.3 (end_risen d told e.
 -- ---- of a visible source
 
 module _ (trace : Bool) (alike : LongerIsAlike) (text : List ℕ) (r : Reading) (left : r.left ≡ Some text) (calm : r.now ≡ raised r.before → ⊥) (d : Formatting) (told : List (List Entry)) (status : ℕ) where
-  alike_read : (read : List ℕ) → HasRead r.left r.rest read → script_of read ≡ script_of text
+  alike_read : (read : List ℕ) → HasRead r.left r.rest read → unscheduled_of read ≡ unscheduled_of text
   alike_read read has = read_alike alike text read r.rest (subst (λ (o : Option (List ℕ)). HasRead o r.rest read) left has)
 
-  not_broken : (script : Script) (out : List ℕ) → script_of text ≡ Ok script → IsBroken r out → ⊥
+  not_broken : (script : Script) (out : List ℕ) → unscheduled_of text ≡ Ok script → IsBroken r out → ⊥
   not_broken script out is e = let both : Ok script ≡ Err e.0 = sym is ∙ sym (alike_read e.1.0 e.1.1) ∙ e.1.2 in cc
 
-  not_read : (f : ScriptFault) → script_of text ≡ Err f → IsRead r → ⊥
+  not_read : (f : ScriptFault) → unscheduled_of text ≡ Err f → IsRead r → ⊥
   not_read f is e = let both : Ok e.0 ≡ Err f = sym e.1.2 ∙ alike_read e.1.0 e.1.1 ∙ is in cc
 
   -- a script is served, or no session begins, or memory runs out
-  complete_by : (script : Script) → script_of text ≡ Ok script → ((fault : ℕ) → HasRisen d.before d.now fault → ⊥) → (out : List ℕ) → ByStatus trace r d told status out → (status ≡ 0) ⊎ ((status ≡ 3) ⊎ (status ≡ 5))
+  complete_by : (script : Script) → unscheduled_of text ≡ Ok script → ((fault : ℕ) → HasRisen d.before d.now fault → ⊥) → (out : List ℕ) → ByStatus trace r d told status out → (status ≡ 0) ⊎ ((status ≡ 3) ⊎ (status ≡ 5))
   complete_by script is quiet out (whole at e) = inl at
   complete_by script is quiet out (unbegun at read none e) = inr (inl at)
   complete_by script is quiet out (stopped at read e) = absurd (never_stopped trace r d told out quiet e)
@@ -166,7 +167,7 @@ module _ (trace : Bool) (alike : LongerIsAlike) (text : List ℕ) (r : Reading) 
   complete_by script is quiet out (unread at e) = absurd (calm e)
 
   -- a text that is no script is told with its first break, or memory runs out
-  broken_by : (f : ScriptFault) → script_of text ≡ Err f → (held holds : Option (List ℕ)) (out : List ℕ) → Appends held holds out → ByStatus trace r d told status out
+  broken_by : (f : ScriptFault) → unscheduled_of text ≡ Err f → (held holds : Option (List ℕ)) (out : List ℕ) → Appends held holds out → ByStatus trace r d told status out
       → ((status ≡ 2) × (told ≡ []) × Appends held holds (break_line f)) ⊎ (status ≡ 5)
   broken_by f is held holds out a (whole at e) = absurd (not_read f is (e.0, e.1))
   broken_by f is held holds out a (unbegun at read none e) = absurd (not_read f is read)
@@ -201,7 +202,7 @@ module _ (trace : Bool) (r : Reading) (d : Formatting) (told : List (List Entry)
 
   stopped_got : (text : List ℕ) → Appends w.held w.holds text → IsStopped trace r d told text
       → ((told ≡ []) × (d.now ≡ raised d.before) × Appends w.held w.holds (device_line d.now))
-      ⊎ ((script : Script) × ReadsScript r.left r.rest script × IsSessionOf d script told × (fault : ℕ) × TellsEnd d told fault × Appends w.held w.holds (session_text trace script (joined told) ++ device_line fault))
+      ⊎ ((script : Script) × ReadsUnscheduled r.left r.rest script × IsSessionOf d script told × (fault : ℕ) × TellsEnd d told fault × Appends w.held w.holds (session_text trace script (joined told) ++ device_line fault))
   stopped_got text got (inl e) = inl (e.0, e.1, subst (Appends w.held w.holds) e.2 got)
   stopped_got text got (inr e) = inr (e.0, e.1, e.2, e.3, e.4, subst (Appends w.held w.holds) (e.5 ∙ ap (λ (l : List ℕ). (l ++ trace_part trace (joined told)) ++ device_line e.3) e.2.lines) got)
 

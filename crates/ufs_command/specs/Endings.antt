@@ -21,7 +21,6 @@ use Rattle.ufs_image.specs.Volume as image
 use Rattle.ufs_metadata.specs.declared.fault.RecoverFault.{RecoverFault}
 use Rattle.ufs_metadata.specs.declared.fault.RecoverFault.TheVariants as recover
 use Rattle.ufs_recovery.specs.Recovered.{log_of}
-use Rattle.ufs_script.specs.Reading.{ReadsBreak, ReadsScript}
 use Rattle.ufs_script.specs.declared.script.Script.{Script}
 use Rattle.ufs_script.specs.declared.fault.ScriptFault.{ScriptFault}
 use Rattle.ufs_script.specs.declared.fault.ScriptFault.TheVariants as fault
@@ -35,6 +34,7 @@ use Rattle.ufs_print.specs.TreeLines.{tree_lines, refusal_line}
 use Rattle.ufs_command.specs.Seen.{Reading, Writing, Formatting}
 use Rattle.ufs_print.specs.Printed.{session_lines}
 use Rattle.ufs_command.specs.Served.{EndsSession, IsCutSessionOf, IsSessionOf, TellsEnd}
+use Rattle.ufs_command.specs.Unscheduled.{BreaksUnscheduled, ReadsUnscheduled}
 
 abbrev pub status_of : Ending → ℕ
 status_of Done = 0
@@ -240,7 +240,7 @@ EndsServing trace d script told ending text = EndsServed (IsSessionOf d script t
 
 -- What is seen of the source allows this ending with this text where there is no script.
 abbrev pub EndsUnread : Reading → Ending → List ℕ → Type 0
-EndsUnread r BadScript text = (f : ScriptFault) × ReadsBreak r.left r.rest f × (¬ IsOutside f) × (text ≡ break_line f)
+EndsUnread r BadScript text = (f : ScriptFault) × BreaksUnscheduled r.left r.rest f × (¬ IsOutside f) × (text ≡ break_line f)
 EndsUnread r SourceFault text = (r.now ≡ raised r.before) × (text ≡ source_line)
 EndsUnread r OutOfMemory text = text ≡ memory_line
 EndsUnread r _ text = ⊥
@@ -248,7 +248,7 @@ EndsUnread r _ text = ⊥
 -- What is seen of the source and the disk and was told allows `play` this ending with this text: there is no script and
 -- nothing was told, or the source was read to its end, its bytes are a script, and it was served.
 abbrev pub EndsPlay : Bool → Reading → Formatting → List (List Entry) → Ending → List ℕ → Type 0
-EndsPlay trace r d told ending text = ((told ≡ []) × EndsUnread r ending text) ⊎ ((script : Script) × ReadsScript r.left r.rest script × EndsServing trace d script told ending text)
+EndsPlay trace r d told ending text = ((told ≡ []) × EndsUnread r ending text) ⊎ ((script : Script) × ReadsUnscheduled r.left r.rest script × EndsServing trace d script told ending text)
 
 -- ---- answers
 

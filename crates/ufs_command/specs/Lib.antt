@@ -2,6 +2,7 @@ pub mod Texts
 pub mod Commands
 pub mod Served
 pub mod Seen
+pub mod Unscheduled
 pub mod Endings
 pub mod Bench
 pub mod Audits

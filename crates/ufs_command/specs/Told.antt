@@ -21,8 +21,6 @@ use Rattle.ufs_model.specs.declared.data.Op.{Op}
 use Rattle.ufs_engine.specs.Plays.{AreFaultsOf, MayPlay}
 use Rattle.ufs_session.specs.Told.{HasRisen}
 use Rattle.ufs_recovery.specs.Recovered.{log_of}
-use Rattle.ufs_script.specs.Reading.{ReadsScript}
-use Rattle.ufs_script.specs.Script.{script_of}
 use Rattle.ufs_script.specs.declared.fault.ScriptFault.{ScriptFault}
 use Rattle.ufs_script.specs.declared.script.Script.{Script}
 use Rattle.ufs_command.specs.declared.words.Command.{Command}
@@ -35,6 +33,7 @@ use Rattle.ufs_print.specs.DamageLines.{clean_line, damage_lines}
 use Rattle.ufs_command.specs.Endings.{TellsNoStart}
 use Rattle.ufs_command.specs.Served.{EndsSession, IsSessionOf, TellsEnd, session_text}
 use Rattle.ufs_command.specs.Seen.{Reading, Writing, Formatting}
+use Rattle.ufs_command.specs.Unscheduled.{ReadsUnscheduled, unscheduled_of}
 
 -- No count of the disk and the sink rose.
 pub record AreCalm (d : Formatting) (w : Writing) : Type 0 where
@@ -48,13 +47,13 @@ pub record AreCalmThroughout (d : Formatting) (w : Writing) : Type 0 where
 
 -- `play`, with a trace or without, of which the transcripts are these
 pub record TellsPlay (trace : Bool) (r : Reading) (d : Formatting) (told : List (List Entry)) (w : Writing) (status : ℕ) : Type 0 where
-  -- Status 0: the source was read to its end, and its bytes are a script. There is one history, in which one POSIX tree,
+  -- Status 0: the source was read to its end, and its bytes are a script without a schedule. There is one history, in which one POSIX tree,
   -- that begins as the tree of the disk's image, gives every reply or the reply is an excuse that fits, and which holds
   -- each request of the script once in its client's order. The sink got the lines of that history's replies, behind them,
   -- where a trace is asked for, those of that history's entries by their tickets, 0, 1, 2 and so on, and nothing else. Replies
   -- may tell faults of reads, and none tells that the store stopped, nor a fault to a request that asks for a commit; where none
   -- tells a fault, the disk's count of faults is as it was, or stands at its type's end.
-  pub done : status ≡ 0 → (script : Script) × ReadsScript r.left r.rest script × IsSessionOf d script told × EndsSession d told (Ok tt) × Appends w.held w.holds (session_text trace script (joined told))
+  pub done : status ≡ 0 → (script : Script) × ReadsUnscheduled r.left r.rest script × IsSessionOf d script told × EndsSession d told (Ok tt) × Appends w.held w.holds (session_text trace script (joined told))
   -- Status 3: no session begins with the image, and the sink got the line of the cause, and nothing else.
   pub no_start : status ≡ 3 → (told ≡ []) × ((text : List ℕ) × TellsNoStart d text × Appends w.held w.holds text)
   -- The image of a visible disk that is proper is never refused.
@@ -63,18 +62,18 @@ pub record TellsPlay (trace : Bool) (r : Reading) (d : Formatting) (told : List 
   -- answered, and it got the same lines as with status 0, and behind them that of the fault of the closing, or of the one
   -- at which the store stopped. The fault of the closing is the disk's last, and no reply tells it.
   pub closing : status ≡ 4 → ((told ≡ []) × (d.now ≡ raised d.before) × Appends w.held w.holds (device_line d.now))
-      ⊎ ((script : Script) × ReadsScript r.left r.rest script × IsSessionOf d script told × (fault : ℕ) × TellsEnd d told fault × Appends w.held w.holds (session_text trace script (joined told) ++ device_line fault))
+      ⊎ ((script : Script) × ReadsUnscheduled r.left r.rest script × IsSessionOf d script told × (fault : ℕ) × TellsEnd d told fault × Appends w.held w.holds (session_text trace script (joined told) ++ device_line fault))
   -- Each fault of the disk that a reply tells is one to which its count rose in this call, and no two replies tell one: along the
   -- history their numbers rise. There may be several, as a read that fails stops nothing. A request is told one only where it may
   -- have a turn of the store. The replies that tell where the store stopped all tell one fault, of this call too, and no read's.
   -- They answer requests that ask for a commit, and from the first one on each such request that isn't refused is told it.
   pub faults : AreFaultsOf d.before d.now (joined told)
-  -- Over a visible source, a script has status 0 or 5, or 3 and then no session begins with the image, unless a count of faults
+  -- Over a visible source, a script without a schedule has status 0 or 5, or 3 and then no session begins with the image, unless a count of faults
   -- rises, or the disk's stands at its type's end.
-  pub complete : (text : List ℕ) (script : Script) → r.left ≡ Some text → script_of text ≡ Ok script → r.now ≢ raised r.before → AreCalmThroughout d w
+  pub complete : (text : List ℕ) (script : Script) → r.left ≡ Some text → unscheduled_of text ≡ Ok script → r.now ≢ raised r.before → AreCalmThroughout d w
       → (status ≡ 0) ⊎ ((status ≡ 3) ⊎ (status ≡ 5))
-  -- A text that is no script is told with the line and the cause of its first break.
-  pub broken : (text : List ℕ) (fault : ScriptFault) → r.left ≡ Some text → script_of text ≡ Err fault → r.now ≢ raised r.before → w.now ≢ raised w.before
+  -- A text that is no script is told with the line and the cause of its first break, and one that has a schedule with its line.
+  pub broken : (text : List ℕ) (fault : ScriptFault) → r.left ≡ Some text → unscheduled_of text ≡ Err fault → r.now ≢ raised r.before → w.now ≢ raised w.before
       → ((status ≡ 2) × (told ≡ []) × Appends w.held w.holds (break_line fault)) ⊎ (status ≡ 5)
 
 -- `mkfs` of this geometry

@@ -1,12 +1,17 @@
 // Serving a script over a disk's image.
-ghost use Rattle.std.specs.Prelude.{◌≡◌, ◌≢◌, []};
+ghost use Rattle.std.specs.Prelude.{◌≡◌, ◌≢◌, [], Err, IfOk};
+ghost use Rattle.ufs_base.specs.Faults.{raised};
 ghost use Rattle.ufs_model.specs.History.{joined};
 ghost use Rattle.ufs_engine.specs.Plays.{AreFaultsOf};
 ghost use Rattle.ufs_session.specs.Told.{IsCountStill, devices_in};
 ghost use Rattle.ufs_command.specs.Seen.{course, formatting, reading, writing};
 ghost use Rattle.ufs_command.specs.Endings.{EndsBehind, EndsPlay, EndsPlayed, EndsPrinting, EndsServing, IsAnswer, TellsFault};
 ghost use Rattle.ufs_command.specs.Left.{Plays};
+ghost use Rattle.ufs_command.specs.Unscheduled.{BreaksUnscheduled, ReadsUnscheduled};
 ghost use Rattle.ufs_print.specs.Printed.{session_lines};
+ghost use Rattle.ufs_script.specs.Script.{IsOutside};
+ghost use Rattle.ufs_script.specs.declared.fault.ScriptFault.{ScriptFault};
+ghost use Rattle.ufs_script.specs.declared.fault.ScriptFault.TheVariants as script_fault;
 
 use crate::broken::tell_fault;
 use crate::ending::Ending;
@@ -21,7 +26,7 @@ use ufs_disk::Disk;
 use ufs_engine::{PlayFault, play};
 use ufs_io::{Sink, Source};
 use ufs_print::{PrintFault, print};
-use ufs_script::{Script, ScriptFault, read_script};
+use ufs_script::{Script, ScriptFault, read_placed};
 
 // Writes the lines of the clients' transcripts, and then ends.
 fn print_told<K: Sink>(alloc: Global, sink: &mut K, told: &ToldLists, trace: bool) -> u8
@@ -113,6 +118,22 @@ fn leave_unread<K: Sink, D: Disk>(
     }
 }
 
+// Reads a script. One with a schedule is refused, since schedules aren't played yet.
+fn read_unscheduled<S: Source>(alloc: Global, source: &mut S) -> Result<Script, ScriptFault>
+    ensures cause { result ≡ Err script_fault.Source → S.faults source.new ≡ raised (S.faults source.old) }
+    ensures counted { result ≢ Err script_fault.Source → S.faults source.new ≡ S.faults source.old }
+    ensures script { IfOk result (ReadsUnscheduled (S.left source.old) (S.left source.new)) }
+    ensures broken { (f : ScriptFault) → result ≡ Err f → ¬ IsOutside f → BreaksUnscheduled (S.left source.old) (S.left source.new) f }
+{
+    match read_placed(alloc, source) {
+        Ok(placed) => match placed.schedule {
+            None => Ok(placed.script),
+            Some(line) => Err(ScriptFault::NotBuilt { line }),
+        },
+        Err(fault) => Err(fault),
+    }
+}
+
 /// Reads a script, serves it over the disk's image, and writes its reply lines, and its trace where that is asked for. The
 /// script is read whole before the disk is touched.
 pub fn read_and_serve<S: Source, K: Sink, D: Disk>(
@@ -130,7 +151,7 @@ pub fn read_and_serve<S: Source, K: Sink, D: Disk>(
     ensures disk_told { result.status ≢ 4 → result.status ≢ 7 → result.status ≢ 5 → devices_in (joined result.told) ≡ [] → IsCountStill (D.faults disk) (D.faults result.disk) }
     ensures source_told { result.status ≢ 6 → result.status ≢ 7 → S.faults source.new ≡ S.faults source.old }
 {
-    match read_script(alloc, source) {
+    match read_unscheduled(alloc, source) {
         Ok(script) => serve_script(alloc, sink, script, trace, disk),
         Err(fault) => leave_unread(alloc, sink, fault, disk),
     }

@@ -8,7 +8,7 @@ use Rattle.ufs_command.proofs.serving.read_and_serve.Goals as goal
 
 pub returns-in-Ok-clause-answer : goal.returns-in-Ok-clause-answer
 returns-in-Ok-clause-answer g c =
-    let r = reading g.S.Source.left g.S.Source.faults c.args.source.now c.read_script.new.source in
+    let r = reading g.S.Source.left g.S.Source.faults c.args.source.now c.read_unscheduled.new.source in
     let d = formatting g.D.Disk.visible g.D.Disk.size g.D.Disk.moments g.D.Disk.faults c.args.disk c.serve_script.result.disk in
     let told = c.serve_script.result.told in
     answer_map (EndsServing c.args.trace d c.in-Ok.script told) (EndsPlay c.args.trace r d told) (writing g.K.Sink.held g.K.Sink.faults c.args.sink.now c.serve_script.new.sink) c.serve_script.result.status
@@ -16,7 +16,7 @@ returns-in-Ok-clause-answer g c =
 
 pub returns-in-Err-clause-answer : goal.returns-in-Err-clause-answer
 returns-in-Err-clause-answer g c =
-    let r = reading g.S.Source.left g.S.Source.faults c.args.source.now c.read_script.new.source in
+    let r = reading g.S.Source.left g.S.Source.faults c.args.source.now c.read_unscheduled.new.source in
     let d = formatting g.D.Disk.visible g.D.Disk.size g.D.Disk.moments g.D.Disk.faults c.args.disk c.leave_unread.result.disk in
     let told = c.leave_unread.result.told in
     let f = c.in-Err.fault in
