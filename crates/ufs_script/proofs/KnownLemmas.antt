@@ -1,6 +1,6 @@
 -- What is known of each script that a text is: its schedule is for its own clients and workers.
-use Rattle.std.proofs.Common.{◌≡◌, ◌≢◌, ℕ, ◌<◌, ◌≤◌, ◌+◌, List, [], ◌∷◌, ◌++◌, length, refl, Bool, true, false, Option, Some, None, Result, Ok, Err, cond, take, ◌∙◌, sym, ap, subst, arith}
-use Rattle.std.specs.Prelude.{codes, nat_le, nat_lt, ◌==◌}
+use Rattle.std.proofs.Common.{◌≡◌, ℕ, ◌<◌, ◌≤◌, ◌+◌, List, [], ◌∷◌, ◌++◌, length, refl, Bool, true, false, Option, Some, None, Result, Ok, Err, cond, take, ◌∙◌, sym, subst, arith}
+use Rattle.std.specs.Prelude.{codes, nat_le, nat_lt}
 use Rattle.std.specs.List.{AllByRecursion, fold, list_any}
 use Rattle.std.specs.Str.{bytes_eq}
 use Rattle.std.proofs.lemmas.Bool.{cond_both}
@@ -10,14 +10,13 @@ use Rattle.ufs_script.specs.declared.draft.Schedule.{Schedule}
 use Rattle.ufs_script.specs.declared.fault.Cause.{Cause}
 use Rattle.ufs_script.specs.declared.fault.Cause.TheVariants as cause
 use Rattle.ufs_script.specs.declared.fault.ScriptFault.{ScriptFault}
-use Rattle.ufs_script.specs.declared.fault.ScriptFault.TheVariants as fault
 use Rattle.ufs_script.specs.declared.lists.ScheduleWord.{ScheduleWord}
 use Rattle.ufs_script.specs.declared.script.PlacedScript.{PlacedScript}
 use Rattle.ufs_script.specs.declared.verb.Verb.{Verb}
 use Rattle.ufs_script.specs.Lines.{ended_lines, lines_in}
 use Rattle.ufs_script.specs.Words.{words_of}
 use Rattle.ufs_script.specs.Requests.{and_then, exactly, number_at, request_of, verb_of, word_at}
-use Rattle.ufs_script.specs.Schedule.{HasNoPlan, IsScheduled, IsTurn, limited, max_words, max_workers, number_within, plan_line, turns_of}
+use Rattle.ufs_script.specs.Schedule.{HasNoPlan, IsTurn, limited, max_words, max_workers, number_within, plan_line, turns_of}
 use Rattle.ufs_script.specs.Script.{IsPlaced, after_line, after_words, client_line, client_part, clients_of, counted, draft_of, finished, is_comment, is_next, max_script, no_lines, part_line, passed, placed_of, placed_script, request_line, schedule_line, verb_line, with_client, with_request, with_turns}
 use Rattle.ufs_script.proofs.FoldLemmas.{fault_stays}
 use Rattle.ufs_script.proofs.TurnLemmas.{and_then_ok, limited_ok, turns_given, within_ok}
@@ -71,7 +70,7 @@ module _ (draft : Draft) (none : draft.schedule ≡ None) where
       unless (nat_lt z.0 16) cause.TooMany (record draft { before = clients_of draft; current = Some [] }) (unscheduled (record draft { before = clients_of draft; current = Some [] }) none) new z.2
 
   request_kept : (requests : Option (List Op)) (verb : Verb) (words : List (List ℕ)) → Keeps (request_line draft requests verb words)
-  request_kept None verb words = refused cause.NoClient
+  request_kept None verb words new e = cc
   request_kept (Some requests) verb words new e =
       let x = and_then_ok (request_of verb words) (with_request draft requests) new e in
       let more : Option (List Op) = Some (requests ++ x.0 ∷ []) in
@@ -124,7 +123,7 @@ turns_kept clients number s new words h e =
     })
 
 line_kept : (draft : Draft) (schedule : Option Schedule) → draft.schedule ≡ schedule → Fits (length (clients_of draft)) schedule → (first : List ℕ) (words : List (List ℕ)) → Keeps (part_line draft schedule first words)
-line_kept draft None is kept first words = part_kept draft is first words
+line_kept draft None is kept first words new e = part_kept draft is first words new e
 line_kept draft (Some s) is kept first words new e =
     let x = and_then_ok (with_turns (length (clients_of draft)) (draft.lines + 1) s (first ∷ words)) (λ more. Ok (record draft { schedule = Some more })) new e in
     let whole = turns_kept (length (clients_of draft)) (draft.lines + 1) s x.0 (first ∷ words) kept x.1 in
@@ -179,7 +178,7 @@ finished_known : (lines : List (List ℕ)) → IsKnown (finished (draft_of lines
 finished_known lines = at (draft_of lines) refl
   where
     at : (r : Result Draft ScriptFault) → draft_of lines ≡ r → IsKnown (finished r)
-    at (Err f) is placed e = cc
+    at (Err f) is = λ placed e. cc
     at (Ok draft) is =
         cond_both draft.ended _ _ IsKnown
         (λ on placed e.

@@ -5,6 +5,7 @@ pub mod NumberLemmas
 pub mod InsideLemmas
 pub mod SpellingLemmas
 pub mod TurnLemmas
+pub mod PartLemmas
 pub mod KnownLemmas
 pub mod PrintedLemmas
 pub mod Rows

@@ -1,6 +1,6 @@
 -- Schedule words: what is printed of one is read as that word, and what is read is a turn that the script has.
 use Rattle.std.proofs.Common.{◌≡◌, ◌≢◌, ℕ, ◌<◌, ◌≤◌, ◌+◌, ◌-◌, ◌^◌, List, [], ◌∷◌, ◌++◌, length, length-append, take, drop, get_or, drop-cons, suc, map, refl, Bool, true, false, Bor, Option, Some, None, Result, Ok, Err, cond, ◌∙◌, sym, ap, subst, inl, inr, arith}
-use Rattle.std.specs.Prelude.{◌==◌, ◌&&◌, ◌||◌, IfErr, IfOk, codes, nat_le, nat_lt}
+use Rattle.std.specs.Prelude.{◌==◌, ◌&&◌, ◌||◌, IfErr, IfOk, codes, nat_le, nat_lt, slice_index}
 use Rattle.std.specs.Fmt.{decimal}
 use Rattle.std.specs.Option.{ok_or}
 use Rattle.std.specs.Str.{bytes_eq}
@@ -90,6 +90,11 @@ turn_back clients workers (turn.Move path' to) h path few most =
     ∙ ap (λ p. Ok (turn.Move p to)) (path_back path' path)
 turn_back clients workers turn.Plan h path few most = refl
 
+-- a word that begins with `m`
+pub move_by : (clients workers : ℕ) (word : List ℕ) → 1 ≤ length word → slice_index word 0 ≡ 109 → turn_by clients workers word ≡ move_of workers (drop 1 word) (position (λ b. b == 58) (drop 1 word))
+move_by clients workers [] some is = absurd (omega arith)
+move_by clients workers (b ∷ text) some is = ap (λ (letter : ℕ). turn_by clients workers (letter ∷ text)) is
+
 -- ---- what a word gives
 
 pub and_then_ok : {A B : Type 0} (r : Result A Cause) (next : A → Result B Cause) (y : B) → and_then r next ≡ Ok y → (x : A) × (r ≡ Ok x) × (next x ≡ Ok y)
@@ -116,8 +121,8 @@ module _ (clients workers : ℕ) where
   abbrev IsGiven : Bool → Result ScheduleWord Cause → Type 0
   IsGiven plan r = (t : ScheduleWord) → r ≡ Ok t → IsTurn clients workers t × (plan ≡ false → t ≢ turn.Plan)
 
-  given : (plan : Bool) (word t : ScheduleWord) → IsTurn clients workers word → (plan ≡ false → word ≢ turn.Plan) → Ok word ≡ Ok t → IsTurn clients workers t × (plan ≡ false → t ≢ turn.Plan)
-  given plan word t h other e =
+  given : (plan : Bool) (word : ScheduleWord) → IsTurn clients workers word → (plan ≡ false → word ≢ turn.Plan) → IsGiven plan (Ok word)
+  given plan word h other t e =
       let same : word ≡ t = cc in
       subst (λ (w : ScheduleWord). IsTurn clients workers w × (plan ≡ false → w ≢ turn.Plan)) same (h, other)
 
@@ -125,11 +130,11 @@ module _ (clients workers : ℕ) where
   refused plan c t e = cc
 
   move_given : (plan : Bool) (text : List ℕ) (o : Option ℕ) → IsGiven plan (move_of workers text o)
-  move_given plan text None = refused plan cause.BadWord
+  move_given plan text None t e = cc
   move_given plan text (Some colon) t e =
       let x = and_then_ok (number_within 0 (workers + 1) (take colon text)) (λ to. Ok (turn.Move (path_of (drop (colon + 1) text)) to)) t e in
       let below : x.0 < workers + 1 = (within_ok 0 (workers + 1) (take colon text) x.0 x.1).1 in
-      given plan (turn.Move (path_of (drop (colon + 1) text)) x.0) t (omega arith) (λ off is. cc) x.2
+      given plan (turn.Move (path_of (drop (colon + 1) text)) x.0) (omega arith) (λ off is. cc) t x.2
 
   letter_given : (plan : Bool) (word : List ℕ) → IsGiven plan (turn_by clients workers word)
   letter_given plan [] = refused plan cause.BadWord
@@ -137,19 +142,19 @@ module _ (clients workers : ℕ) where
       cond_both (letter == 99) _ _ (IsGiven plan)
       (λ is t e.
       let x = and_then_ok (number_within 0 clients text) (λ k. Ok (turn.Client k)) t e in
-      given plan (turn.Client x.0) t (within_ok 0 clients text x.0 x.1).1 (λ off is. cc) x.2)
+      given plan (turn.Client x.0) (within_ok 0 clients text x.0 x.1).1 (λ off is. cc) t x.2)
       (λ is. cond_both (letter == 119) _ _ (IsGiven plan)
       (λ is t e.
       let x = and_then_ok (number_within 1 (workers + 1) text) (λ k. Ok (turn.Worker k)) t e in
       let both = within_ok 1 (workers + 1) text x.0 x.1 in
       let below : x.0 < workers + 1 = both.1 in
-      given plan (turn.Worker x.0) t (both.0, omega arith) (λ off is. cc) x.2)
+      given plan (turn.Worker x.0) (both.0, omega arith) (λ off is. cc) t x.2)
       (λ is. cond_both (letter == 116) _ _ (IsGiven plan)
       (λ is t e.
       let x = and_then_ok (number_within 1 65536 text) (λ n. Ok (turn.Ticks n)) t e in
       let both = within_ok 1 65536 text x.0 x.1 in
       let below : x.0 < 65536 = both.1 in
-      given plan (turn.Ticks x.0) t (both.0, omega arith) (λ off is. cc) x.2)
+      given plan (turn.Ticks x.0) (both.0, omega arith) (λ off is. cc) t x.2)
       (λ is. cond_both (letter == 109) _ _ (IsGiven plan)
       (λ is. move_given plan text (position (λ b. b == 58) text))
       (λ is. refused plan cause.BadWord))))
@@ -157,9 +162,9 @@ module _ (clients workers : ℕ) where
   word_given : (word : List ℕ) → IsGiven (bytes_eq word (codes "l")) (turn_of clients workers word)
   word_given word =
       cond_both (bytes_eq word (codes "p")) _ _ (IsGiven (bytes_eq word (codes "l")))
-      (λ is t e. given (bytes_eq word (codes "l")) turn.Primary t tt (λ off is. cc) e)
+      (λ is. given (bytes_eq word (codes "l")) turn.Primary tt (λ off same. cc))
       (λ is. cond_both (bytes_eq word (codes "l")) _ _ (IsGiven (bytes_eq word (codes "l")))
-      (λ is t e. given (bytes_eq word (codes "l")) turn.Plan t tt (λ off same. let no : true ≡ false = sym is ∙ off in cc) e)
+      (λ is. given (bytes_eq word (codes "l")) turn.Plan tt (λ off same. let no : true ≡ false = sym is ∙ off in cc))
       (λ is. letter_given (bytes_eq word (codes "l")) word))
 
   -- ---- the words of a line
@@ -209,12 +214,15 @@ module _ (clients workers : ℕ) where
                 next.1 both.1 (all-push (λ w. w ≢ turn.Plan) turns t before (here.1 both.0)),
           )
 
--- no more than there may be
-pub limited_ok : (r : Result (List ScheduleWord) Cause) (all : List ScheduleWord) → limited r ≡ Ok all → (r ≡ Ok all) × (length all ≤ max_words)
+-- these turns, and no more than there may be
+abbrev AreFew : Result (List ScheduleWord) Cause → List ScheduleWord → Type 0
+AreFew r all = (r ≡ Ok all) × (length all ≤ max_words)
+
+pub limited_ok : (r : Result (List ScheduleWord) Cause) (all : List ScheduleWord) → limited r ≡ Ok all → AreFew r all
 limited_ok (Err c) all e = cc
 limited_ok (Ok turns) all e = by (nat_le (length turns) max_words) refl e
   where
-    by : (b : Bool) → nat_le (length turns) max_words ≡ b → cond b (Ok turns) (Err cause.TooMany) ≡ Ok all → (Ok turns ≡ Ok all) × (length all ≤ max_words)
+    by : (b : Bool) → nat_le (length turns) max_words ≡ b → cond b (Ok turns) (Err cause.TooMany) ≡ Ok all → AreFew (Ok turns) all
     by true is e = let same : turns ≡ all = cc in (e, subst (λ (l : List ScheduleWord). length l ≤ max_words) same (leb-true (length turns) max_words is))
     by false is e = cc
 

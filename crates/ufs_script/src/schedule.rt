@@ -138,14 +138,14 @@ pub fn turns_behind(
 }
 
 // Whether one of a line's words asks for a plan.
-#[tactic(auto, using(crate::proofs::TurnLemmas::plans_alike))]
 fn asks_plan(words: &[&[u8]]) -> bool
-    ensures { result ≡ list_any (λ w. bytes_eq w (codes "l")) (map (λ w. w.now) words.now) }
+    ensures { result ≡ list_any (λ w. bytes_eq w.now (codes "l")) words.now }
 {
     words.iter().any(|word| *word == b"l".as_slice())
 }
 
 /// The line of the first plan, behind a line of schedule words.
+#[tactic(auto, using(crate::proofs::TurnLemmas::plans_alike))]
 pub fn plan_line(before: Option<u32>, now: u32, words: &[&[u8]]) -> Option<u32>
     ensures { result ≡ specs.plan_line before now (map (λ w. w.now) words.now) }
 {

@@ -1,4 +1,4 @@
-use Rattle.std.proofs.Common.{arith, subst}
+use Rattle.std.proofs.Common.{subst}
 use Rattle.std.proofs.lemmas.Result.{err_from_is_err_and}
 use Rattle.ufs_script.specs.Requests.{IsCauseOf}
 use Rattle.ufs_script.proofs.TurnLemmas.{first_cause}

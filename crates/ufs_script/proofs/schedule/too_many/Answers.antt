@@ -1,4 +1,4 @@
-use Rattle.std.proofs.Common.{◌≡◌, ◌≤◌, ◌∷◌, ◌++◌, [], ◌∙◌, length, length-append, refl, subst, sym, inr, arith}
+use Rattle.std.proofs.Common.{◌≤◌, ◌∷◌, ◌++◌, [], ◌∙◌, length, length-append, refl, subst, sym, inr, arith}
 use Rattle.ufs_script.specs.Requests.{IsCauseOf}
 use Rattle.ufs_script.proofs.TurnLemmas.{first_cause, limited_cause, limited_many, word_read, words_end}
 use Rattle.ufs_script.proofs.schedule.too_many.Goals as goal
