@@ -45,9 +45,15 @@ const ROWS: [(&str, &str); 9] = [
 ];
 
 // Scripts that break, and the lines that tell it.
-const BROKEN: [(&str, &str); 9] = [
+const BROKEN: [(&str, &str); 12] = [
     ("client 0\nfrob\n", "ufs: line 2: BadWord\n"),
     ("client 0\nschedule 1\nend\n", "ufs: line 2: NotBuilt\n"),
+    (
+        "client 0\n\nschedule 2\nc0 w1 p l m2:/f t9\nend\n",
+        "ufs: line 3: NotBuilt\n",
+    ),
+    ("schedule 9\nend\n", "ufs: line 1: BadNumber\n"),
+    ("schedule 1\nc0\nend\n", "ufs: line 2: BadNumber\n"),
     ("sync\n", "ufs: line 1: NoClient\n"),
     ("client 1\n", "ufs: line 1: BadNumber\n"),
     ("client 0\nwrite 3 6\n", "ufs: line 2: BadData\n"),
