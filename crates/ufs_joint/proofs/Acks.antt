@@ -7,7 +7,7 @@ use Rattle.ufs_store.specs.State.{geometry_of_store}
 use Rattle.ufs_promise_laws.specs.Laws.{leaves_tree}
 use Rattle.ufs_joint.specs.Acks.{DirsAreAcknowledged, FilesAreAcknowledged}
 use Rattle.ufs_joint.proofs.Covering.{dir_acked, file_acked}
-use Rattle.ufs_joint.proofs.Drawing.{still, tree_stays}
+use Rattle.ufs_joint.proofs.Drawn.{still, tree_stays}
 
 pub file_acknowledged : KeepsTrees → FsyncsAcknowledge → FilesAreAcknowledged
 file_acknowledged trees acks s start history entry p known fd file legal is named it =

@@ -40,7 +40,7 @@ use Rattle.ufs_joint.proofs.Lent.{lent_served}
 use Rattle.ufs_joint.specs.KnownDraws.{BesideStaysKept, ExcusesStayKept, FileRequestsStayKept, NameRequestsStayKept, StillStaysKept}
 use Rattle.ufs_promise_laws.specs.Known.{IsDiskKept, IsKeptGoing}
 use Rattle.ufs_promise_laws.proofs.Births.{born_before}
-use Rattle.ufs_joint.proofs.Drawing.{beside, going_on, still, stopped_on, tree_stays}
+use Rattle.ufs_joint.proofs.Drawn.{beside, going_on, still, stopped_on, tree_stays}
 
 pub excuses : KeepsTrees → OthersAcknowledgeNothing → ExcusesStayKept
 excuses trees others s start history entry p known legal is =

@@ -31,7 +31,7 @@ use Rattle.ufs_promise_laws.specs.Parts.{Parts}
 use Rattle.ufs_promise_laws.specs.Stored.{ArePartsOf, IsStored}
 use Rattle.ufs_joint.specs.Acks.{AllIsAcknowledged}
 use Rattle.ufs_promise_laws.specs.Known.{Covers, IsAllKnown, IsDiskKept, IsKeptGoing, IsKeptStopped, Known}
-use Rattle.ufs_joint.proofs.Drawing.{still_going, still_stopped, tree_stays}
+use Rattle.ufs_joint.proofs.Drawn.{still_going, still_stopped, tree_stays}
 
 -- a file that isn't born yet has no changes
 unborn_none : KeepsTrees → (ticket : ℕ) (t : PosixTree) → IsTree t → (history : List Entry) → IsLegalFrom ticket t history → (file : ℕ) → (tree_after t history).next ≤ file → changes_of file t history ≡ []

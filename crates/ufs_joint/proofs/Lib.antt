@@ -36,7 +36,7 @@ pub mod Moving
 pub mod Telling
 pub mod Ruling
 pub mod Covering
-pub mod Drawing
+pub mod Drawn
 mod Everything
 mod Acks
 mod Draws
