@@ -1,17 +1,24 @@
 #!/usr/bin/env python3
-"""Quotes the source in each crate's CALLING.md: its public contracts, and callers.
+"""Quotes the source in each crate's CALLING.md: who uses the crate, its public contracts, and callers.
 
     python3 tools/calling.py            writes the pages
-    python3 tools/calling.py --check    says which pages are behind or missing, and ends with status 1 if one is
+    python3 tools/calling.py --check    says which pages are behind or missing, and which crate stands on one that it
+                                        doesn't cite, and ends with status 1 if there is such; shows first that it can
 
-What is below the line `## Contracts` is written here. Above it a page keeps its words, but the block of code
-behind a line that ends with "`crates/NAME/src/FILE.rt`, `fn NAME`:" is that function, without its clauses.
+What is below the line `## Who uses it`, or `## Contracts`, is written here. Above it a page keeps its words, but
+the block of code behind a line that ends with "`crates/NAME/src/FILE.rt`, `fn NAME`:" is that function, without its
+clauses.
 """
 import pathlib
 import re
 import sys
 
 HEAD = "## Contracts\n"
+USERS = "## Who uses it\n"
+WRITTEN = re.compile(f"^(?:{USERS}|{HEAD})", re.M)
+TESTS = ("_tests", "_broken", "_mirrored")
+# More names than these aren't spelled out.
+MOST = 20
 CALLER = re.compile(r"(`(crates/\w+/src/[\w/]+\.rt)`, `fn (\w+)`:\n\n```rust\n)(?:.*?)(```\n)", re.S)
 TOP = pathlib.Path(__file__).resolve().parent.parent
 ITEM = re.compile(r"^(\s*)(?:pub )?(?:const |ghost )?(fn|struct|enum|trait|type|const|static) (\w+)")
@@ -19,10 +26,47 @@ IMPL = re.compile(r"^impl\b(?:<.*?>)?\s+(?:([\w:]+)(?:<.*>)?\s+for\s+)?(\w+)")
 
 
 def listed():
-    """The crates of crates.txt but those of tests, in its order."""
+    """The crates of crates.txt in its order, each with those of its own that it stands on."""
     lines = (TOP / "crates.txt").read_text().splitlines()
-    crates = [line.split(":")[0] for line in lines if line and not line.startswith("#")]
-    return [crate for crate in crates if not crate.endswith(("_tests", "_broken", "_mirrored"))]
+    lines = [line for line in lines if line and not line.startswith("#")]
+    found = {line.split(":")[0]: line.split(":")[1].split() for line in lines}
+    return {crate: [below for below in found[crate] if below in found] for crate in found}
+
+
+def cited(texts):
+    """The crates that files cite: those whose code theirs uses, and those of which they name definitions or lemmas."""
+    code, words = set(), set()
+    for text in texts:
+        text = re.sub(r"^\s*(?://|--).*", "", text, flags=re.M)
+        code.update(re.findall(r"\b(\w+)::", text))
+        words.update(re.findall(r"\bRattle\.(\w+)\.", text))
+    return code, words
+
+
+def texts_of(crate):
+    """The files of a crate that cite others."""
+    files = [path for part in ("src", "specs", "proofs") for path in (TOP / "crates" / crate / part).rglob("*")]
+    return [path.read_text() for path in files if path.suffix in (".rt", ".antt")]
+
+
+def names(crates):
+    """Some crates, spelled out where they are few."""
+    return f"{len(crates)} crates" if len(crates) > MOST else ", ".join(f"`{crate}`" for crate in crates)
+
+
+def using(crate, below, cites):
+    """Who stands on a crate: by its code, by definitions and lemmas alone, and in tests. Nothing where nobody does."""
+    above = [user for user in below if crate in below[user]]
+    tests = [user for user in above if user.endswith(TESTS)]
+    code = [user for user in above if user not in tests and crate in cites[user][0]]
+    words = [user for user in above if user not in tests + code]
+    lines = (("Code", code), ("Contracts, definitions or proofs alone", words), ("Tests", tests))
+    return "".join(f"- {kind}: {names(crates)}\n" for kind, crates in lines if crates)
+
+
+def uncited(below, cites):
+    """What crates stand on and don't cite."""
+    return [f"{crate}: {name}" for crate in below for name in below[crate] if name not in set().union(*cites[crate])]
 
 
 def exported(root):
@@ -165,25 +209,56 @@ def caller(found):
     sys.exit(f"{found.group(2)} has no function {found.group(3)}, which a page quotes")
 
 
-def page_of(crate, old):
+def laid(above, used, quoted):
+    """A page: its words, who uses the crate, and what is quoted of it."""
+    return above + (f"\n{USERS}\n{used}" if used else "") + (f"\n{HEAD}{quoted}" if quoted else "")
+
+
+def page_of(crate, old, below, cites):
     """The page of a crate with what it quotes."""
-    quoted = contracts(crate)
-    above = CALLER.sub(caller, old.split(HEAD)[0].rstrip() + "\n")
-    return above + (f"\n{HEAD}{quoted}" if quoted else "")
+    above = CALLER.sub(caller, WRITTEN.split(old)[0].rstrip() + "\n")
+    return laid(above, using(crate, below, cites), contracts(crate))
+
+
+def shows_that_it_can_fail():
+    """Whether a crate is told that is used, by whom and how, one that isn't cited, and a page that is behind."""
+    below = {"low": [], "code": ["low"], "laws": ["low"], "idle": ["low"], "low_tests": ["low"]}
+    texts = {"laws": "use Rattle.low.specs.A.{a}", "idle": "// low::a\n-- Rattle.low.specs.A.a"}
+    cites = {crate: cited([texts.get(crate, "use low::a;")]) for crate in below}
+    told = "- Code: `code`\n- Contracts, definitions or proofs alone: `laws`, `idle`\n- Tests: `low_tests`\n"
+    page = laid("# `low`\n", told, "\nquoted\n")
+    return (
+        using("low", below, cites) == told
+        and using("code", below, cites) == ""
+        and uncited(below, cites) == ["idle: low"]
+        and names(["a"] * (MOST + 1)) == f"{MOST + 1} crates"
+        and WRITTEN.split(page)[0].rstrip() + "\n" == "# `low`\n"
+        and WRITTEN.split(laid("# `low`\n", "", "\nquoted\n"))[0] == "# `low`\n\n"
+        and laid("# `low`\n", told.replace("`laws`, ", ""), "\nquoted\n") != page
+    )
 
 
 def main():
-    behind = []
-    for crate in listed():
+    if not shows_that_it_can_fail():
+        sys.exit("this check can't fail: mend it")
+    below, behind = listed(), []
+    cites = {crate: cited(texts_of(crate)) for crate in below}
+    for crate in below:
+        if crate.endswith(TESTS):
+            continue
         page = TOP / "crates" / crate / "CALLING.md"
         old = page.read_text() if page.exists() else ""
-        new = page_of(crate, old or f"# `{crate}`\n")
+        new = page_of(crate, old or f"# `{crate}`\n", below, cites)
         if new != old:
             behind.append(str(page.relative_to(TOP)))
             if "--check" not in sys.argv:
                 page.write_text(new)
+    idle = uncited(below, cites)
+    if idle:
+        print("in crates.txt, and not cited:", *idle, sep="\n    ")
     if "--check" in sys.argv and behind:
         print("behind their source:", *behind, sep="\n    ")
+    if "--check" in sys.argv and (behind or idle):
         sys.exit(1)
 
 
