@@ -30,7 +30,6 @@ MAY = {
     "ufs_ilog/src/name_notes.rt": {"Lack::AtEnd": 1, ".lose": 1},
     "ufs_ilog/src/names_log.rt": {"Lack::AtEnd": 1},
     # a stop of which the store doesn't know
-    "ufs_gathered/src/finishing.rt": {"Lack::Unsound": 1},
     "ufs_image_paths/src/opened.rt": {"Lack::AtEnd": 1},
     "ufs_links/src/links.rt": {"Lack::AtEnd": 1},
     "ufs_owner/src/table.rt": {"Lack::AtEnd": 1},
