@@ -38,20 +38,20 @@ use Rattle.ufs_owner.specs.declared.owner.Owner.{Owner}
 use Rattle.ufs_owner.specs.declared.owner.Owner.TheVariants.{Primary, Worker, Coming, Going}
 use Rattle.ufs_owner.specs.declared.owner.Standing.{Standing}
 use Rattle.ufs_crash_laws.specs.Changes.{asks_commit}
-use Rattle.ufs_primary.specs.All.{IsAllSynced, numbers_in}
-use Rattle.ufs_primary.specs.Dirs.{IsDirDone}
-use Rattle.ufs_primary.specs.Here.{IsDoneHere}
+use Rattle.ufs_at_primary.specs.All.{IsAllSynced, numbers_in}
+use Rattle.ufs_at_primary.specs.Dirs.{IsDirDone}
+use Rattle.ufs_at_primary.specs.Here.{IsDoneHere}
 use Rattle.ufs_primary.specs.Letters.{IsFrontDone, IsLetterDone, IsNextDone, IsSettled}
-use Rattle.ufs_primary.specs.Named.{IsDoneByNames}
-use Rattle.ufs_primary.specs.Orders.{IsFileOrdered, IsNoFile, IsObeyed, IsReadied}
+use Rattle.ufs_at_primary.specs.Named.{IsDoneByNames}
+use Rattle.ufs_at_primary.specs.Orders.{IsFileOrdered, IsNoFile, IsObeyed, IsReadied}
 use Rattle.ufs_primary.specs.Primary.{AreHere, StockState}
-use Rattle.ufs_primary.specs.Served.{All, ByNames, IsServed, IsTried, Lacked, OnFile, OnNone, Unnoted, back_in, emptied, lent_with, made_in, places_then}
+use Rattle.ufs_at_primary.specs.Served.{All, ByNames, IsServed, IsTried, Lacked, OnFile, OnNone, Unnoted, back_in, emptied, lent_with, made_in, places_then}
 use Rattle.ufs_primary.specs.Turns.{unwaited, unwaited_of}
 use Rattle.ufs_primary.specs.Waiting.{IsPutOff, IsUnnoted, Waits}
-use Rattle.ufs_primary.specs.declared.ordered.Ordered.{Ordered}
-use Rattle.ufs_primary.specs.declared.ordered.Ordered.TheVariants as ordered
-use Rattle.ufs_primary.specs.declared.tried.Tried.{Tried}
-use Rattle.ufs_primary.specs.declared.tried.Tried.TheVariants as tried
+use Rattle.ufs_at_primary.specs.declared.ordered.Ordered.{Ordered}
+use Rattle.ufs_at_primary.specs.declared.ordered.Ordered.TheVariants as ordered
+use Rattle.ufs_at_primary.specs.declared.tried.Tried.{Tried}
+use Rattle.ufs_at_primary.specs.declared.tried.Tried.TheVariants as tried
 use Rattle.ufs_primary.specs.declared.turn.PrimaryTurn.{PrimaryTurn}
 use Rattle.ufs_primary.specs.declared.turn.PrimaryTurn.TheVariants as turn
 use Rattle.ufs_primary.specs.declared.waiting.Awaited.{Awaited}

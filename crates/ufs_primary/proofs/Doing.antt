@@ -7,9 +7,9 @@ use Rattle.ufs_msg.specs.Answers.{Told}
 use Rattle.ufs_msg.specs.Requests.{Asked}
 use Rattle.ufs_msg.specs.declared.answer.Answer.{Answer}
 use Rattle.ufs_serving.specs.Posts.{AnswersGo, Said, said}
-use Rattle.ufs_primary.specs.Excused.{IsExcusedHere}
+use Rattle.ufs_at_primary.specs.Excused.{IsExcusedHere}
 use Rattle.ufs_primary.specs.Primary.{StockState, primary_of}
-use Rattle.ufs_primary.specs.Served.{IsAway, IsLackFor, IsSentOn, IsServed, IsStill, Lacked, Unnoted}
+use Rattle.ufs_at_primary.specs.Served.{IsAway, IsLackFor, IsSentOn, IsServed, IsStill, Lacked, Unnoted}
 use Rattle.ufs_primary.specs.Turns.{IsFront, IsIdle, IsOldest, IsRequestDone, IsTakenUp}
 use Rattle.ufs_primary.specs.Waiting.{AllWait, IsPutOff, IsUnnoted, Waits}
 use Rattle.ufs_primary.specs.declared.turn.PrimaryTurn.{PrimaryTurn}

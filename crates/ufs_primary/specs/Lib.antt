@@ -1,12 +1,4 @@
 pub mod Letters
-pub mod Here
-pub mod Named
-pub mod Excused
 pub mod Waiting
-pub mod Dirs
-pub mod All
-pub mod Kinds
 pub mod Primary
-pub mod Served
 pub mod Turns
-pub mod Orders

@@ -1,49 +1,11 @@
--- What the primary has.
-use Rattle.std.specs.Prelude.{ℕ, ◌≡◌, ◌≤◌, IsSome, List, Option, refl}
-use Rattle.std.specs.Coded.{Coded, code_by, coded×, coded_list, coded_option, coded_ℕ}
-use Rattle.std.specs.FinMap as fin
-use Rattle.std.specs.FinSet as set
-use Rattle.ufs_bitmap.specs.Blocks.{BlockSet}
-use Rattle.ufs_joint.specs.FirstHand.{HasPoolAlone, pool_of}
-use Rattle.ufs_home.specs.Home.{HomeState, home_code}
-use Rattle.ufs_home.specs.Places.{file_here}
-use Rattle.ufs_joint.specs.Cells.{FileCell, NamesCell, Start, View}
-use Rattle.ufs_joint.specs.Codes.{file_code, names_code}
-use Rattle.ufs_layout.specs.Areas.{IsGeometry}
-use Rattle.ufs_layout.specs.declared.geometry.Geometry.{Geometry}
-use Rattle.ufs_owner.specs.Owners.{owner_at}
-use Rattle.ufs_owner.specs.declared.owner.Owner.TheVariants as owner
-use Rattle.ufs_serving.specs.Pools.{most_at_rest}
+-- The primary: what it serves with, and what it keeps.
+use Rattle.std.specs.Prelude.{ℕ, ◌≡◌, ◌≤◌, List, Option, refl}
+use Rattle.std.specs.Coded.{Coded, code_by, coded×, coded_list, coded_option}
+use Rattle.ufs_joint.specs.Cells.{FileCell}
+use Rattle.ufs_joint.specs.Codes.{file_code}
 use Rattle.ufs_serving.specs.Posts.{Said, said_code}
+use Rattle.ufs_at_primary.specs.Stock.{StockState, stock_code}
 use Rattle.ufs_primary.specs.Waiting.{Waits, waits_code}
-
--- ---- what it serves with
-
-pub record StockState : Type 0 where
-  pub names : NamesCell
-  -- the files that are here, who has each other one, and letters that are kept
-  pub home : HomeState
-  pub pool : BlockSet
-
-abbrev pub stock_of : NamesCell → HomeState → BlockSet → StockState
-stock_of names home pool = record { names = names; home = home; pool = pool }
-
-abbrev pub stock_code : Coded StockState
-stock_code = code_by (NamesCell × (HomeState × BlockSet)) (coded× names_code (coded× home_code (set.code coded_ℕ))) (λ h. (h.names, (h.home, h.pool))) (λ p. stock_of p.0 p.1.0 p.1.1) (λ _. refl)
-
--- Each live file that the table has at the primary is here.
-abbrev pub AreHere : NamesCell → HomeState → Type 0
-AreHere names home = (file : ℕ) → IsSome (fin.get names.value.held file) → owner_at home.owners file ≡ owner.Primary → IsSome (file_here home.places file)
-
--- Its hand has its pool, which is at rest; it has the session's form; and the files that are at it are here.
-pub record AreHeld (k : Start) (geometry : Geometry) (names : NamesCell) (home : HomeState) (pool : BlockSet) (v : View) : Type 0 where
-  pub formed : IsGeometry geometry
-  pub its : geometry ≡ k.geometry
-  pub hand : HasPoolAlone (pool_of 0) pool v
-  pub few : set.len pool ≤ most_at_rest
-  pub here : AreHere names home
-
--- ---- the primary
 
 pub record PrimaryState : Type 0 where
   pub stock : StockState
@@ -60,3 +22,8 @@ primary_of stock coming answers waiting = record { stock = stock; coming = comin
 abbrev pub primary_code : Coded PrimaryState
 primary_code = code_by (StockState × (Option FileCell × (List Said × List Waits))) (coded× stock_code (coded× (coded_option file_code) (coded× (coded_list said_code) (coded_list waits_code))))
     (λ s. (s.stock, (s.coming, (s.answers, s.waiting)))) (λ p. primary_of p.0 p.1.0 p.1.1.0 p.1.1.1) (λ _. refl)
+
+-- So many are kept, and there is room for one of each client.
+pub record HasRoom (clients kept room : ℕ) : Type 0 where
+  pub within : kept ≤ room
+  pub each : clients ≤ room

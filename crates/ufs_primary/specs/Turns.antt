@@ -1,9 +1,6 @@
 -- One turn of the primary.
-use Rattle.std.specs.Prelude.{ℕ, ◌≡◌, ◌⊎◌, ◌++◌, Bool, true, List, [], ◌∷◌, Option, Some, None, filter}
+use Rattle.std.specs.Prelude.{ℕ, ◌≡◌, ◌≤◌, ◌⊎◌, ◌++◌, Bool, true, List, [], ◌∷◌, length, Option, Some, None}
 use Rattle.std.proofs.Common.{inl, inr}
-use Rattle.ufs_base.specs.declared.lack.Lack.TheVariants as lack
-use Rattle.ufs_base.specs.declared.memory.Memory.{Memory}
-use Rattle.ufs_home.specs.Home.{HomeState}
 use Rattle.ufs_home.specs.Letters.{Mailed, RingsGo}
 use Rattle.ufs_home.specs.Places.{file_here}
 use Rattle.ufs_joint.specs.Cells.{FileCell, View}
@@ -13,19 +10,19 @@ use Rattle.ufs_msg.specs.Requests.{Asked}
 use Rattle.ufs_msg.specs.There.{is_by_hint}
 use Rattle.ufs_msg.specs.declared.answer.Answer.{Answer}
 use Rattle.ufs_msg.specs.declared.letter.Letter.{Letter}
-use Rattle.ufs_owner.specs.Clients.{is_another}
-use Rattle.ufs_owner.specs.Owners.{owner_at, waiting_at, with_waiting}
+use Rattle.ufs_owner.specs.Owners.{owner_at}
 use Rattle.ufs_owner.specs.declared.owner.Owner.TheVariants as owner
 use Rattle.ufs_serving.specs.Posts.{AnswersGo}
-use Rattle.ufs_primary.specs.Kinds.{IsOnFile}
+use Rattle.ufs_at_primary.specs.Excused.{IsExcusedHere}
+use Rattle.ufs_at_primary.specs.Kinds.{IsOnFile}
+use Rattle.ufs_at_primary.specs.Noted.{IsUnnoted, unwaited}
+use Rattle.ufs_at_primary.specs.Served.{IsAway, IsServed, IsStill}
+use Rattle.ufs_at_primary.specs.Stock.{StockState}
 use Rattle.ufs_primary.specs.Letters.{IsFrontDone}
-use Rattle.ufs_primary.specs.Primary.{StockState, PrimaryState}
-use Rattle.ufs_primary.specs.Served.{IsAway, IsServed, IsStill}
+use Rattle.ufs_primary.specs.Primary.{PrimaryState}
 use Rattle.ufs_primary.specs.Waiting.{AllWait, IsPutOff, TakesOldest, Waits}
 use Rattle.ufs_primary.specs.declared.turn.PrimaryTurn.{PrimaryTurn}
 use Rattle.ufs_primary.specs.declared.turn.PrimaryTurn.TheVariants as turn
-use Rattle.ufs_primary.specs.declared.waiting.Awaited.{Awaited}
-use Rattle.ufs_primary.specs.declared.waiting.Awaited.TheVariants as awaited
 
 -- ---- what is kept goes
 
@@ -48,26 +45,27 @@ module _ {Q : Type 0} (same : Q → Q → Type 0) (gets : Q → Letter FileCell 
 
 -- ---- a request
 
--- the client waits for the file no more, if it did
-abbrev pub unwaited_of : Awaited → ℕ → HomeState → HomeState
-unwaited_of (awaited.File file) client h = record h { owners = with_waiting h.owners file (filter (is_another client) (waiting_at h.owners file)) }
-unwaited_of _ client h = h
-
-abbrev pub unwaited : HomeState → Waits → HomeState
-unwaited h w = unwaited_of w.awaited w.request.ask.client h
-
 -- It is the oldest of those that wait and whose files have come, and its client waits for its file no more.
 pub record IsTakenUp (s t : StockState) (old new : List Waits) (r : Asked) : Type 0 where
   pub one : Waits
   pub is : one.request ≡ r
   pub taken : TakesOldest s.home.owners old new one
-  pub rest : t ≡ record s { home = unwaited s.home one }
+  pub rest : t ≡ record s { home = unwaited s.home one.file r.ask.client }
+
+-- It wants a file that is out, and is excused for want of memory to note that it waits: the file may have been asked for.
+pub record IsUnnotedHere (before after : Option View) (s t : StockState) (r : Asked) (told : Told) : Type 0 where
+  pub file : ℕ
+  pub cause : IsAway s r.ask file
+  pub home : IsUnnoted s.home t.home file
+  pub excused : IsExcusedHere t.home.owners r.ask told
+  pub rest : t ≡ record s { home = t.home }
+  pub store : after ≡ before
 
 module _ {N Q : Type 0} (answers : Q → ℕ → Answer N → Q → Type 0) (same : Q → Q → Type 0) (full : Q → ℕ → Type 0) (visible : Bool) (before after : Option View) where
   -- It is served or excused, and its answer goes behind those that are kept.
   pub record IsServedNow (s t : PrimaryState) (r : Asked) (p q : Q) : Type 0 where
     pub told : Told
-    pub served : IsServed visible before after s.stock t.stock r.ask told
+    pub served : IsServed visible before after s.stock t.stock r.ask told ⊎ IsUnnotedHere before after s.stock t.stock r told
     pub answer : AnswersGo answers same full (s.answers ++ inl told ∷ []) t.answers p q
     pub rest : t ≡ record s { stock = t.stock; answers = t.answers }
 
@@ -81,12 +79,12 @@ module _ {N Q : Type 0} (answers : Q → ℕ → Answer N → Q → Type 0) (sam
     pub answer : AnswersGo answers same full (s.answers ++ inr (record { request = r; to = actor.Worker worker }) ∷ []) t.answers p q
     pub rest : t ≡ record s { answers = t.answers }
 
-  -- A file that it wants isn't here: it waits, and the file is asked for.
+  -- A file that it wants is out: it waits, and the file is asked for.
   pub record IsMadeWait (s t : PrimaryState) (r : Asked) (file : ℕ) (p q : Q) : Type 0 where
     pub cause : IsAway s.stock r.ask file
     pub asked : Asked
     pub still : IsStill r asked
-    pub put : IsPutOff s.stock.home t.stock.home s.waiting t.waiting asked (awaited.File file) file
+    pub put : IsPutOff s.stock.home t.stock.home s.waiting t.waiting asked file
     pub nothing : q ≡ p
     pub rest : t ≡ record s { stock = record s.stock { home = t.stock.home }; waiting = t.waiting }
 
@@ -104,7 +102,7 @@ module _ {N Q : Type 0} (answers : Q → ℕ → Answer N → Q → Type 0) (sam
     pub taken : IsTakenUp s.stock then s.waiting left request
     pub done : IsRequestDone (record s { stock = then; waiting = left }) t request p q o
 
-  module _ (gets : Q → Asked → Q → Type 0) (none : Q → Type 0) where
+  module _ (clients : ℕ) (gets : Q → Asked → Q → Type 0) (none : Q → Type 0) where
     -- There is none, and the front request of the ring is done.
     pub record IsFront (s t : PrimaryState) (p q : Q) (o : PrimaryTurn) : Type 0 where
       pub wait : AllWait s.stock.home.owners s.waiting
@@ -121,15 +119,16 @@ module _ {N Q : Type 0} (answers : Q → ℕ → Answer N → Q → Type 0) (sam
       pub says : o ≡ turn.Idle
       pub rest : t ≡ s
 
-    -- Room for an answer, or for one that waits, is wanting: none is taken.
-    pub record HasNoRoom (s t : PrimaryState) (p q : Q) (o : PrimaryTurn) : Type 0 where
-      pub memory : Memory
-      pub says : o ≡ turn.Lack (lack.Memory memory)
+    -- As many answers are kept as there are clients, or as many requests wait and no file of theirs has come: none is taken up. A client has
+    -- one request under way, so then no other one is; but what a hand knows of itself doesn't tell that.
+    pub record IsFull (s t : PrimaryState) (p q : Q) (o : PrimaryTurn) : Type 0 where
+      pub full : (clients ≤ length s.answers) ⊎ ((clients ≤ length s.waiting) × AllWait s.stock.home.owners s.waiting)
       pub nothing : q ≡ p
+      pub says : o ≡ turn.Idle
       pub rest : t ≡ s
 
     abbrev pub IsWorkDone : PrimaryState → PrimaryState → Q → Q → PrimaryTurn → Type 0
-    IsWorkDone s t p q o = IsOldest s t p q o ⊎ (IsFront s t p q o ⊎ (IsIdle s t p q o ⊎ HasNoRoom s t p q o))
+    IsWorkDone s t p q o = IsOldest s t p q o ⊎ (IsFront s t p q o ⊎ (IsIdle s t p q o ⊎ IsFull s t p q o))
 
 -- ---- the turn
 
@@ -138,7 +137,7 @@ abbrev pub IsThen : {Q : Type 0} → Option PrimaryTurn → PrimaryTurn → Prim
 IsThen (Some made) o s t p q work = (o ≡ made) × (t ≡ s) × (q ≡ p)
 IsThen None o s t p q work = work
 
-module _ {N Q : Type 0} (sends : ℕ → Q → Mailed → Q → Type 0) (letters_full : Q → ℕ → Type 0) (answers : Q → ℕ → Answer N → Q → Type 0) (answers_full : Q → ℕ → Type 0) (same : Q → Q → Type 0) (workers : ℕ) (gets_letter : Q → Letter FileCell → Q → Type 0) (no_letter : Q → Type 0) (gets_ask : Q → Asked → Q → Type 0) (no_ask : Q → Type 0) (visible : Bool) (before after : Option View) where
+module _ {N Q : Type 0} (sends : ℕ → Q → Mailed → Q → Type 0) (letters_full : Q → ℕ → Type 0) (answers : Q → ℕ → Answer N → Q → Type 0) (answers_full : Q → ℕ → Type 0) (same : Q → Q → Type 0) (workers clients : ℕ) (gets_letter : Q → Letter FileCell → Q → Type 0) (no_letter : Q → Type 0) (gets_ask : Q → Asked → Q → Type 0) (no_ask : Q → Type 0) (visible : Bool) (before after : Option View) where
   -- What is kept goes; then the front letter is done; and where that made no turn, a request.
   pub record IsTurn (s t : PrimaryState) (p q : Q) (o : PrimaryTurn) : Type 0 where
     pub sent : PrimaryState
@@ -148,4 +147,4 @@ module _ {N Q : Type 0} (sends : ℕ → Q → Mailed → Q → Type 0) (letters
     pub lettered_by : Q
     pub made : Option PrimaryTurn
     pub letter : IsLetterTried same gets_letter no_letter sent lettered sent_by lettered_by made
-    pub work : IsThen made o lettered t lettered_by q (IsWorkDone answers same answers_full visible before after gets_ask no_ask lettered t lettered_by q o)
+    pub work : IsThen made o lettered t lettered_by q (IsWorkDone answers same answers_full visible before after clients gets_ask no_ask lettered t lettered_by q o)

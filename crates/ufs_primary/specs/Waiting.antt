@@ -1,54 +1,41 @@
 -- Requests that wait at the primary, the oldest first.
-use Rattle.std.specs.Prelude.{ℕ, ◌≡◌, ◌⊎◌, ◌<◌, ◌++◌, Bool, true, false, List, [], ◌∷◌, Some, refl, slice_get}
+use Rattle.std.specs.Prelude.{ℕ, ◌≡◌, ◌<◌, ◌++◌, Bool, true, false, List, [], ◌∷◌, Some, refl, slice_get}
 use Rattle.std.specs.List.{remove}
-use Rattle.std.specs.Coded.{Coded, code_by, coded×}
+use Rattle.std.specs.Coded.{Coded, code_by, coded×, coded_ℕ}
 use Rattle.ufs_home.specs.Home.{HomeState, called_for}
 use Rattle.ufs_msg.specs.Requests.{Asked, asked_code}
-use Rattle.ufs_owner.specs.Owners.{Files, is_primary, owner_at, waiting_at, with_waiting}
-use Rattle.ufs_primary.specs.contracts.waiting.Awaited as awaited'
-use Rattle.ufs_primary.specs.declared.waiting.Awaited.{Awaited}
-use Rattle.ufs_primary.specs.declared.waiting.Awaited.TheVariants.{Room, File}
+use Rattle.ufs_owner.specs.Owners.{Files, is_primary, owner_at}
+use Rattle.ufs_at_primary.specs.Noted.{waited_for}
 
--- a request, and what it waits for
+-- a request, and the file that it waits for
 pub record Waits : Type 0 where
   pub request : Asked
-  pub awaited : Awaited
+  pub file : ℕ
 
 abbrev pub waits_code : Coded Waits
-waits_code = code_by (Asked × Awaited) (coded× asked_code awaited'.the_row.coded) (λ w. (w.request, w.awaited)) (λ p. record { request = p.0; awaited = p.1 }) (λ _. refl)
+waits_code = code_by (Asked × ℕ) (coded× asked_code coded_ℕ) (λ w. (w.request, w.file)) (λ p. record { request = p.0; file = p.1 }) (λ _. refl)
 
--- What is waited for has come.
-abbrev pub has_come : Files → Awaited → Bool
-has_come owners Room = true
-has_come owners (File file) = is_primary (owner_at owners file)
+-- Its file has come.
+abbrev pub has_come : Files → Waits → Bool
+has_come owners w = is_primary (owner_at owners w.file)
 
--- The oldest one of which that is so stands there.
-pub record IsOldest (owners : Files) (items : List Waits) (place : ℕ) : Type 0 where
-  pub one : Waits
+-- The oldest one whose file has come stands there.
+pub record IsOldestAt (owners : Files) (items : List Waits) (place : ℕ) (one : Waits) : Type 0 where
   pub at : slice_get items place ≡ Some one
-  pub come : has_come owners one.awaited ≡ true
-  pub older : (i : ℕ) (w : Waits) → i < place → slice_get items i ≡ Some w → has_come owners w.awaited ≡ false
+  pub come : has_come owners one ≡ true
+  pub older : (i : ℕ) (w : Waits) → i < place → slice_get items i ≡ Some w → has_come owners w ≡ false
 
--- It was the oldest one of which that is so.
+-- It was the oldest one whose file has come.
 pub record TakesOldest (owners : Files) (old new : List Waits) (one : Waits) : Type 0 where
   pub place : ℕ
-  pub at : slice_get old place ≡ Some one
-  pub come : has_come owners one.awaited ≡ true
-  pub older : (i : ℕ) (w : Waits) → i < place → slice_get old i ≡ Some w → has_come owners w.awaited ≡ false
+  pub oldest : IsOldestAt owners old place one
   pub rest : new ≡ remove old place
 
 -- There is none.
 abbrev pub AllWait : Files → List Waits → Type 0
-AllWait owners old = (i : ℕ) (w : Waits) → slice_get old i ≡ Some w → has_come owners w.awaited ≡ false
-
--- the client waits for the file, behind those that do already
-abbrev pub waited_for : HomeState → ℕ → ℕ → HomeState
-waited_for h file client = record h { owners = with_waiting h.owners file (waiting_at h.owners file ++ client ∷ []) }
+AllWait owners old = (i : ℕ) (w : Waits) → slice_get old i ≡ Some w → has_come owners w ≡ false
 
 -- The file is asked for, and the request waits, behind all others.
-abbrev pub IsPutOff : HomeState → HomeState → List Waits → List Waits → Asked → Awaited → ℕ → Type 0
-IsPutOff h g old new r awaited file = (g ≡ waited_for (called_for h file) file r.ask.client) × (new ≡ old ++ record { request = r; awaited = awaited } ∷ [])
-
--- There was no memory to note that; the file may have been asked for.
-abbrev pub IsUnnoted : HomeState → HomeState → ℕ → Type 0
-IsUnnoted h g file = (g ≡ h) ⊎ (g ≡ called_for h file)
+pub record IsPutOff (h g : HomeState) (old new : List Waits) (r : Asked) (file : ℕ) : Type 0 where
+  pub home : g ≡ waited_for (called_for h file) file r.ask.client
+  pub waiting : new ≡ old ++ record { request = r; file = file } ∷ []

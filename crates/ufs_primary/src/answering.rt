@@ -2,17 +2,16 @@
 ghost use Rattle.std.specs.Prelude.{◌≡◌, ◌≢◌, ◌<◌, ◌≤◌, ◌++◌, [], ◌∷◌, Option};
 ghost use Rattle.std.specs.VecDeque.{deque_capacity, deque_len};
 ghost use Rattle.ufs_joint.specs.Cells.{FileCell};
+ghost use Rattle.ufs_msg.specs.There.{client_count};
 ghost use Rattle.ufs_serving.specs.Posts.{AnswersGo, all_said, said};
-ghost use Rattle.ufs_primary.specs.Primary.{primary_of};
+ghost use Rattle.ufs_primary.specs.Primary.{HasRoom, primary_of};
 ghost use Rattle.ufs_primary.specs.Turns.{IsRequestDone, IsWorkDone};
 ghost use Rattle.ufs_primary.specs.declared.turn.PrimaryTurn.TheVariants as turn;
 
-use crate::stock::Stock;
-use crate::tried::Tried;
 use crate::turn::PrimaryTurn;
-use crate::waiting::Waiting;
+use crate::waiting::{Waiting, put_off, take_waiting};
 use std::collections::VecDeque;
-use ufs_base::Lack;
+use ufs_at_primary::{Stock, Tried};
 use ufs_held::Parcel;
 use ufs_joint::{HandTable, Naming};
 use ufs_msg::{Answer, Letter, Request, ServerPost};
@@ -27,7 +26,8 @@ fn say<N: Naming, Q: ServerPost<N, Letter<Parcel<N>>>>(
 )
     requires room { deque_len answers.old < deque_capacity answers.old }
     ensures goes { AnswersGo Q.answers Q.same Q.answers_full (all_said answers.old.items ++ said answer ∷ []) (all_said answers.new.items) post.old post.new }
-    ensures room { deque_len answers.new ≤ deque_capacity answers.new }
+    ensures within { deque_len answers.new ≤ deque_capacity answers.new }
+    ensures capacity { deque_capacity answers.new ≡ deque_capacity answers.old }
     ensures me { Q.me post.new ≡ Q.me post.old }
 {
     answers.push_back_reserved(answer);
@@ -50,7 +50,9 @@ fn do_request<N: Naming, Q: ServerPost<N, Letter<Parcel<N>>>, T: Turns<N>>(
         (primary_of stock.old coming (all_said answers.old.items) waiting.old.items) (primary_of stock.new coming (all_said answers.new.items) waiting.new.items) request post.old post.new result }
     ensures store { result ≢ turn.Served → T.tells door.new ≡ T.tells door.old }
     ensures answers { deque_len answers.new ≤ deque_capacity answers.new }
+    ensures room { deque_capacity answers.new ≡ deque_capacity answers.old }
     ensures waiting { deque_len waiting.new ≤ deque_capacity waiting.new }
+    ensures places { deque_capacity waiting.new ≡ deque_capacity waiting.old }
     ensures me { Q.me post.new ≡ Q.me post.old }
 {
     match stock.serve(table, request, door) {
@@ -62,24 +64,19 @@ fn do_request<N: Naming, Q: ServerPost<N, Letter<Parcel<N>>>, T: Turns<N>>(
             say(answers, answer, post);
             PrimaryTurn::Redirected { file }
         }
-        Tried::Away { request, file } => match stock.put_off(waiting, request, file) {
+        Tried::Away { request, file } => match put_off(stock, waiting, request, file) {
             Ok(()) => PrimaryTurn::Waiting { file },
             Err((memory, back)) => {
-                let answer = stock.excuse(table, back, Lack::from(memory));
+                let answer = stock.excuse(table, back, memory);
                 say(answers, answer, post);
                 PrimaryTurn::Served
             }
         },
-        Tried::Lacks { request, lack } => {
-            let answer = stock.excuse(table, request, lack);
-            say(answers, answer, post);
-            PrimaryTurn::Served
-        }
     }
 }
 
-/// The oldest request that waits and whose files have come is done, or else the front one of the ring. Room for its answer, and for its
-/// waiting, is taken first.
+/// The oldest request that waits and whose files have come is done, or else the front one of the ring. None is taken up where there is no
+/// room for its answer, or for its waiting.
 pub(crate) fn serve_next<N: Naming, Q: ServerPost<N, Letter<Parcel<N>>>, T: Turns<N>>(
     table: &HandTable<N>,
     stock: &mut Stock<N>,
@@ -88,23 +85,23 @@ pub(crate) fn serve_next<N: Naming, Q: ServerPost<N, Letter<Parcel<N>>>, T: Turn
     post: &mut Q,
     door: &mut T,
 ) -> PrimaryTurn
-    requires answers { deque_len answers.old ≤ deque_capacity answers.old }
-    requires waiting { deque_len waiting.old ≤ deque_capacity waiting.old }
-    ensures done { (coming : Option FileCell) → IsWorkDone Q.answers Q.same Q.answers_full N.start.is_visible (T.tells door.old) (T.tells door.new) Q.gets_ask Q.asks_empty
+    requires answers { HasRoom (client_count N.start) (deque_len answers.old) (deque_capacity answers.old) }
+    requires waiting { HasRoom (client_count N.start) (deque_len waiting.old) (deque_capacity waiting.old) }
+    ensures done { (coming : Option FileCell) → IsWorkDone Q.answers Q.same Q.answers_full N.start.is_visible (T.tells door.old) (T.tells door.new) (client_count N.start) Q.gets_ask Q.asks_empty
         (primary_of stock.old coming (all_said answers.old.items) waiting.old.items) (primary_of stock.new coming (all_said answers.new.items) waiting.new.items) post.old post.new result }
     ensures store { result ≢ turn.Served → T.tells door.new ≡ T.tells door.old }
-    ensures answers { deque_len answers.new ≤ deque_capacity answers.new }
-    ensures waiting { deque_len waiting.new ≤ deque_capacity waiting.new }
+    ensures answers { HasRoom (client_count N.start) (deque_len answers.new) (deque_capacity answers.new) }
+    ensures waiting { HasRoom (client_count N.start) (deque_len waiting.new) (deque_capacity waiting.new) }
     ensures me { Q.me post.new ≡ Q.me post.old }
 {
-    if let Err(refused) = answers.reserve(1) {
-        return PrimaryTurn::Lack(Lack::from(refused));
+    if answers.len() >= answers.capacity() {
+        return PrimaryTurn::Idle;
     }
-    if let Err(refused) = waiting.reserve(1) {
-        return PrimaryTurn::Lack(Lack::from(refused));
-    }
-    if let Some(request) = stock.take_waiting(waiting) {
+    if let Some(request) = take_waiting(stock, waiting) {
         return do_request(table, stock, answers, waiting, request, post, door);
+    }
+    if waiting.len() >= waiting.capacity() {
+        return PrimaryTurn::Idle;
     }
     let Some(request) = post.take_ask() else {
         return PrimaryTurn::Idle;

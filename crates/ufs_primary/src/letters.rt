@@ -3,52 +3,55 @@ ghost use Rattle.std.specs.Prelude.{◌≡◌, None};
 ghost use Rattle.ufs_primary.specs.Letters.{IsFrontDone, IsLetterDone, IsNextDone, IsSettled};
 
 use crate::turn::PrimaryTurn;
+use ufs_at_primary::Stock;
 use ufs_held::Parcel;
-use ufs_home::Home;
 use ufs_joint::Naming;
 use ufs_msg::{Letter, ServerPost};
 
 /// A file that came and waits for room is tried first; else the front letter of the ring is done, if there is one: a file that was coming
 /// is here, or goes on. There is no turn where there was no letter, or it asked nothing.
-pub fn take_letter<N: Naming, Q: ServerPost<N, Letter<Parcel<N>>>>(
-    home: &mut Home<N>,
+pub(crate) fn take_letter<N: Naming, Q: ServerPost<N, Letter<Parcel<N>>>>(
+    stock: &mut Stock<N>,
     coming: &mut Option<Parcel<N>>,
     post: &mut Q,
 ) -> Option<PrimaryTurn>
-    ensures letter { IsFrontDone Q.same Q.gets_letter Q.letters_empty coming.old home.old home.new coming.new post.old post.new result }
-    ensures mine { Q.me post.new ≡ Q.me post.old }
+    ensures front { IsFrontDone Q.same Q.gets_letter Q.letters_empty coming.old stock.old.home stock.new.home coming.new post.old post.new result }
+    ensures rest { stock.new ≡ record stock.old { home = stock.new.home } }
+    ensures me { Q.me post.new ≡ Q.me post.old }
 {
     match coming.take() {
-        Some(parcel) => settle(home, coming, parcel),
-        None => take_next(home, coming, post),
+        Some(parcel) => settle(stock, coming, parcel),
+        None => take_next(stock, coming, post),
     }
 }
 
 // The front letter of the ring is done, if there is one.
 fn take_next<N: Naming, Q: ServerPost<N, Letter<Parcel<N>>>>(
-    home: &mut Home<N>,
+    stock: &mut Stock<N>,
     coming: &mut Option<Parcel<N>>,
     post: &mut Q,
 ) -> Option<PrimaryTurn>
     requires { coming.old ≡ None }
-    ensures next { IsNextDone Q.same Q.gets_letter Q.letters_empty home.old home.new coming.new post.old post.new result }
-    ensures mine { Q.me post.new ≡ Q.me post.old }
+    ensures next { IsNextDone Q.same Q.gets_letter Q.letters_empty stock.old.home stock.new.home coming.new post.old post.new result }
+    ensures rest { stock.new ≡ record stock.old { home = stock.new.home } }
+    ensures me { Q.me post.new ≡ Q.me post.old }
 {
     let came = post.take_letter()?;
-    read_letter(home, coming, came)
+    read_letter(stock, coming, came)
 }
 
 // What the letter is for is done. A recall isn't for the primary.
 fn read_letter<N: Naming>(
-    home: &mut Home<N>,
+    stock: &mut Stock<N>,
     coming: &mut Option<Parcel<N>>,
     came: Letter<Parcel<N>>,
 ) -> Option<PrimaryTurn>
     requires { coming.old ≡ None }
-    ensures { IsLetterDone home.old home.new coming.new came result }
+    ensures done { IsLetterDone stock.old.home stock.new.home coming.new came result }
+    ensures rest { stock.new ≡ record stock.old { home = stock.new.home } }
 {
     match came {
-        Letter::Parcel(parcel) => settle(home, coming, parcel),
+        Letter::Parcel(parcel) => settle(stock, coming, parcel),
         Letter::Recall { .. } => None,
         Letter::Report { .. } => Some(PrimaryTurn::Noted),
     }
@@ -56,15 +59,16 @@ fn read_letter<N: Naming>(
 
 // A file came. It waits where there is no room for it; as it would where it wasn't coming, or its number is here, which never is.
 fn settle<N: Naming>(
-    home: &mut Home<N>,
+    stock: &mut Stock<N>,
     coming: &mut Option<Parcel<N>>,
     parcel: Parcel<N>,
 ) -> Option<PrimaryTurn>
     requires { coming.old ≡ None }
-    ensures { IsSettled home.old home.new coming.new parcel result }
+    ensures settled { IsSettled stock.old.home stock.new.home coming.new parcel result }
+    ensures rest { stock.new ≡ record stock.old { home = stock.new.home } }
 {
-    match home.come(parcel) {
-        Ok(_to) => Some(PrimaryTurn::Settled),
+    match stock.come(parcel) {
+        Ok(()) => Some(PrimaryTurn::Settled),
         Err((lack, back)) => {
             *coming = Some(back);
             match lack {

@@ -1,12 +1,12 @@
 // The primary and its turn.
 use crate::answering::serve_next;
-use crate::ordered::Ordered;
-use crate::stock::Stock;
+use crate::letters::take_letter;
+use crate::room::Room;
 use crate::turn::PrimaryTurn;
 use crate::waiting::Waiting;
-use std::alloc::Global;
 use std::collections::VecDeque;
 use std::marker::Model;
+use ufs_at_primary::{Ordered, Stock};
 use ufs_bitmap::Pool;
 use ufs_held::Parcel;
 use ufs_held_names::HeldNames;
@@ -17,8 +17,8 @@ use ufs_msg::{Answer, Letter, ServerPost};
 use ufs_serving::send_answers;
 use ufs_turns::Turns;
 
-/// The primary of session `N`: the names, the files that are at it, its pool, each with its hand; a file that came and found no room;
-/// answers that found no room in a ring; and requests that wait.
+/// The primary of session `N`: what is at it, which it serves with; a file that came and found no room; answers that found no room in a
+/// ring; and requests that wait.
 #[derive(Drop)]
 pub struct Primary<N: Naming> {
     stock: Stock<N>,
@@ -30,7 +30,8 @@ pub struct Primary<N: Naming> {
 impl<N: Naming> Model for Primary<N> {
     ghost use Rattle.std.specs.Prelude.{◌≤◌};
     ghost use Rattle.std.specs.VecDeque.{deque_capacity, deque_len};
-    ghost use Rattle.ufs_primary.specs.Primary.{PrimaryState, primary_code, primary_of};
+    ghost use Rattle.ufs_msg.specs.There.{client_count};
+    ghost use Rattle.ufs_primary.specs.Primary.{HasRoom, PrimaryState, primary_code, primary_of};
     ghost use Rattle.ufs_serving.specs.Posts.{all_said};
 
     ghost Value = { PrimaryState };
@@ -39,7 +40,7 @@ impl<N: Naming> Model for Primary<N> {
 
     ghost view = { λ p. primary_of p.stock p.coming (all_said p.answers.items) p.waiting.items };
 
-    ghost invariant = { λ p. (deque_len p.answers ≤ deque_capacity p.answers) × (deque_len p.waiting ≤ deque_capacity p.waiting) };
+    ghost invariant = { λ p. HasRoom (client_count N.start) (deque_len p.answers) (deque_capacity p.answers) × HasRoom (client_count N.start) (deque_len p.waiting) (deque_capacity p.waiting) };
 }
 
 impl<N: Naming> Primary<N> {
@@ -49,18 +50,20 @@ impl<N: Naming> Primary<N> {
     ghost use Rattle.ufs_home.specs.Letters.{letter_of};
     ghost use Rattle.ufs_layout.specs.Areas.{IsGeometry};
     ghost use Rattle.ufs_model.specs.declared.data.Actor.TheVariants.{Primary as primary, Worker};
-    ghost use Rattle.ufs_msg.specs.There.{worker_count};
+    ghost use Rattle.ufs_msg.specs.There.{client_count, worker_count};
     ghost use Rattle.ufs_owner.specs.Owners.{count_out};
-    ghost use Rattle.ufs_primary.specs.Orders.{IsFileOrdered, dropped_by};
-    ghost use Rattle.ufs_primary.specs.Primary.{AreHere, stock_of, primary_of};
+    ghost use Rattle.ufs_at_primary.specs.Orders.{IsFileOrdered, dropped_by};
+    ghost use Rattle.ufs_at_primary.specs.Stock.{AreHere, HasNumbers, stock_of};
+    ghost use Rattle.ufs_primary.specs.Primary.{primary_of};
     ghost use Rattle.ufs_primary.specs.Turns.{IsTurn};
     ghost use Rattle.ufs_primary.specs.declared.turn.PrimaryTurn.TheVariants as turn;
     ghost use Rattle.ufs_serving.specs.Pools.{most_at_rest};
     ghost use Rattle.ufs_turns.specs.Lent.{AreTold, StopsByFault};
 
-    /// A primary that keeps nothing, with the hand of its pool's cell. Takes no memory.
+    /// A primary that keeps nothing, with the hand of its pool's cell. So few files were made before the session that each one made in it
+    /// has a number.
     pub fn make(
-        alloc: Global,
+        room: Room<N>,
         geometry: Geometry,
         names: HeldNames<N>,
         home: Home<N>,
@@ -69,16 +72,18 @@ impl<N: Naming> Primary<N> {
     ) -> Primary<N>
         requires formed { IsGeometry geometry }
         requires its { geometry ≡ N.start.geometry }
+        requires numbers { HasNumbers N.start }
         requires hand { HasPoolAlone (pool_of 0) pool right }
         requires few { set.len pool ≤ most_at_rest }
         requires here { AreHere names home }
         ensures { result ≡ primary_of (stock_of names home pool) None [] [] }
     {
+        let (answers, waiting) = room.into_queues();
         Primary {
             stock: Stock::new(geometry, names, home, pool, right),
             coming: None,
-            answers: VecDeque::new(alloc),
-            waiting: VecDeque::new(alloc),
+            answers,
+            waiting,
         }
     }
 
@@ -110,14 +115,14 @@ impl<N: Naming> Primary<N> {
     ) -> PrimaryTurn
         requires mine { Q.me post.old ≡ primary }
         ensures mine { Q.me post.new ≡ Q.me post.old }
-        ensures turn { IsTurn (λ w p m q. Q.sends p (Worker w) (letter_of m) q) (λ p w. Q.letters_full p (Worker w)) Q.answers Q.answers_full Q.same (worker_count N.start) Q.gets_letter Q.letters_empty Q.gets_ask Q.asks_empty
+        ensures turn { IsTurn (λ w p m q. Q.sends p (Worker w) (letter_of m) q) (λ p w. Q.letters_full p (Worker w)) Q.answers Q.answers_full Q.same (worker_count N.start) (client_count N.start) Q.gets_letter Q.letters_empty Q.gets_ask Q.asks_empty
             N.start.is_visible (T.tells door.old) (T.tells door.new) self.old self.new post.old post.new result }
         // no other turn comes to the store
         ensures store { result ≢ turn.Served → T.tells door.new ≡ T.tells door.old }
     {
         self.stock.send_letters(post);
         send_answers(&mut self.answers, post);
-        if let Some(turn) = self.stock.take_letter(&mut self.coming, post) {
+        if let Some(turn) = take_letter(&mut self.stock, &mut self.coming, post) {
             return turn;
         }
         serve_next(

@@ -13,8 +13,8 @@ pub enum PrimaryTurn {
     Redirected { file: u32 },
     /// A request waits for the file, which is elsewhere or on its way, and was asked for.
     Waiting { file: u32 },
-    /// There was nothing to do.
+    /// There was nothing to do; or each client's answer or request is kept, and no request is taken up till one of these goes.
     Idle,
-    /// There was no room for what the turn needs: it is tried again in each later turn.
+    /// There was no room for a file that came: it is tried again in each later turn.
     Lack(Lack),
 }

@@ -1,31 +1,22 @@
 // Requests that wait at the primary.
-ghost use Rattle.std.specs.Prelude.{◌≡◌, ◌<◌, ◌≤◌, ◌+◌, IfErr, MatchOption, OnErr, OnOk};
+ghost use Rattle.std.specs.Prelude.{◌≡◌, ◌<◌, ◌≤◌, ◌+◌, IfErr, MatchOption, OnErr, OnOk, OnSome};
 ghost use Rattle.std.specs.VecDeque.{deque_capacity, deque_len};
-ghost use Rattle.ufs_home.specs.Home.{called_for};
-ghost use Rattle.ufs_primary.specs.Waiting.{AllWait, IsOldest, IsPutOff, IsUnnoted, TakesOldest, has_come, waited_for};
+ghost use Rattle.ufs_at_primary.specs.Noted.{IsUnnoted};
+ghost use Rattle.ufs_primary.specs.Turns.{IsTakenUp};
+ghost use Rattle.ufs_primary.specs.Waiting.{AllWait, IsOldestAt, IsPutOff, TakesOldest};
 
 use std::collections::VecDeque;
 use std::marker::Model;
+use ufs_at_primary::Stock;
 use ufs_base::Memory;
-use ufs_home::Home;
 use ufs_joint::Naming;
 use ufs_msg::Request;
-use ufs_owner::Owner;
 
-/// What a request waits for.
-#[derive(Clone, Copy, PartialEq, Eq, Debug)]
-pub enum Awaited {
-    /// There was no room for its waiting: it is to be looked at again.
-    Room,
-    /// This file.
-    File(u32),
-}
-
-/// A request that waits.
+/// A request that waits for a file.
 #[derive(Drop)]
 pub struct Waiting<N: Naming> {
     request: Request<N>,
-    awaited: Awaited,
+    file: u32,
 }
 
 impl<N: Naming> Model for Waiting<N> {
@@ -35,55 +26,39 @@ impl<N: Naming> Model for Waiting<N> {
 
     ghost coded = { waits_code };
 
-    ghost view = { λ w. record { request = w.request; awaited = w.awaited } };
+    ghost view = { λ w. record { request = w.request; file = w.file } };
 }
 
 impl<N: Naming> Waiting<N> {
     ghost use Rattle.std.specs.Prelude.{◌≡◌};
 
-    pub fn new(request: Request<N>, awaited: Awaited) -> Waiting<N>
-        ensures { result ≡ record { request = request; awaited = awaited } }
+    pub fn new(request: Request<N>, file: u32) -> Waiting<N>
+        ensures { result ≡ record { request = request; file = file } }
     {
-        Waiting { request, awaited }
+        Waiting { request, file }
     }
 
-    pub fn awaited(&self) -> Awaited
-        ensures { result ≡ self.now.awaited }
+    /// The file that it waits for.
+    pub fn file(&self) -> u32
+        ensures { result ≡ self.now.file }
     {
-        self.awaited
+        self.file
     }
 
     pub fn into_request(self) -> Request<N>
         ensures { result ≡ self.request }
     {
-        let Waiting {
-            request,
-            awaited: _,
-        } = self;
-        request
-    }
-}
-
-// Whether what is waited for has come.
-fn has_come<N: Naming>(home: &Home<N>, awaited: Awaited) -> bool
-    ensures { result ≡ has_come home.now.owners awaited }
-{
-    match awaited {
-        Awaited::Room => true,
-        Awaited::File(file) => match home.owner_of(file) {
-            Owner::Primary => true,
-            _ => false,
-        },
+        self.request
     }
 }
 
 // Where the oldest of those stands that wait and whose files have come.
-fn oldest_place<N: Naming>(waiting: &VecDeque<Waiting<N>>, home: &Home<N>) -> Option<usize>
-    ensures { MatchOption result (AllWait home.now.owners waiting.now.items) (IsOldest home.now.owners waiting.now.items) }
+fn oldest_place<N: Naming>(waiting: &VecDeque<Waiting<N>>, stock: &Stock<N>) -> Option<usize>
+    ensures { MatchOption result (AllWait stock.now.home.owners waiting.now.items) (λ place. (one : Waits) × IsOldestAt stock.now.home.owners waiting.now.items place one) }
 {
     let mut place = 0;
     while let Some(one) = waiting.get(place) {
-        if has_come(home, one.awaited()) {
+        if stock.has_come(one.file()) {
             return Some(place);
         }
         place += 1;
@@ -91,50 +66,57 @@ fn oldest_place<N: Naming>(waiting: &VecDeque<Waiting<N>>, home: &Home<N>) -> Op
     None
 }
 
-/// The oldest of those that wait and whose files have come.
-pub fn take_oldest<N: Naming>(
+// The oldest of those that wait and whose files have come.
+fn take_oldest<N: Naming>(
     waiting: &mut VecDeque<Waiting<N>>,
-    home: &Home<N>,
+    stock: &Stock<N>,
 ) -> Option<Waiting<N>>
-    ensures oldest { MatchOption result (AllWait home.now.owners waiting.old.items × (waiting.new.items ≡ waiting.old.items)) (TakesOldest home.now.owners waiting.old.items waiting.new.items) }
-    ensures fewer { deque_len waiting.new ≤ deque_len waiting.old }
+    ensures oldest { MatchOption result (AllWait stock.now.home.owners waiting.old.items × (waiting.new.items ≡ waiting.old.items)) (TakesOldest stock.now.home.owners waiting.old.items waiting.new.items) }
+    ensures fewer { MatchOption result (deque_len waiting.new ≡ deque_len waiting.old) (λ _. deque_len waiting.new < deque_len waiting.old) }
     ensures capacity { deque_capacity waiting.new ≡ deque_capacity waiting.old }
 {
-    match oldest_place(waiting, home) {
+    match oldest_place(waiting, stock) {
         Some(place) => waiting.remove(place),
         None => None,
     }
 }
 
-// The file is asked for, and the client is noted as one that waits for it.
-fn await_file<N: Naming>(home: &mut Home<N>, file: u32, client: u8) -> Result<(), Memory>
-    ensures ok { OnOk result (home.new ≡ waited_for (called_for home.old file) file client) }
-    ensures err { OnErr result (IsUnnoted home.old home.new file) }
+/// The oldest request that waits and whose file has come. Its client waits no more.
+pub(crate) fn take_waiting<N: Naming>(
+    stock: &mut Stock<N>,
+    waiting: &mut VecDeque<Waiting<N>>,
+) -> Option<Request<N>>
+    ensures taken { MatchOption result (AllWait stock.old.home.owners waiting.old.items × (waiting.new.items ≡ waiting.old.items) × (stock.new ≡ stock.old)) (IsTakenUp stock.old stock.new waiting.old.items waiting.new.items) }
+    ensures fewer { MatchOption result (deque_len waiting.new ≡ deque_len waiting.old) (λ _. deque_len waiting.new < deque_len waiting.old) }
+    ensures capacity { deque_capacity waiting.new ≡ deque_capacity waiting.old }
 {
-    home.call_for(file)?;
-    home.wait(file, client)
+    let one = take_oldest(waiting, stock)?;
+    let file = one.file();
+    let request = one.into_request();
+    stock.unwait(file, request.client());
+    Some(request)
 }
 
 /// The file, which is elsewhere, is asked for, and the request waits, behind all others. Where there is no memory to note that it comes
 /// back.
-pub fn put_off<N: Naming>(
-    home: &mut Home<N>,
+pub(crate) fn put_off<N: Naming>(
+    stock: &mut Stock<N>,
     waiting: &mut VecDeque<Waiting<N>>,
     request: Request<N>,
-    awaited: Awaited,
     file: u32,
 ) -> Result<(), (Memory, Request<N>)>
     requires room { deque_len waiting.old < deque_capacity waiting.old }
-    ensures put { OnOk result (IsPutOff home.old home.new waiting.old.items waiting.new.items request awaited file) }
-    ensures unnoted { OnErr result (IsUnnoted home.old home.new file) }
+    ensures put { OnOk result (IsPutOff stock.old.home stock.new.home waiting.old.items waiting.new.items request file) }
+    ensures unnoted { OnErr result (IsUnnoted stock.old.home stock.new.home file) }
     ensures back { IfErr result (λ refused. refused.1 ≡ request) }
     ensures same { OnErr result (waiting.new.items ≡ waiting.old.items) }
+    ensures rest { stock.new ≡ record stock.old { home = stock.new.home } }
     ensures len { deque_len waiting.new ≤ deque_len waiting.old + 1 }
     ensures capacity { deque_capacity waiting.new ≡ deque_capacity waiting.old }
 {
-    match await_file(home, file, request.client()) {
+    match stock.await_file(file, request.client()) {
         Ok(()) => {
-            waiting.push_back_reserved(Waiting::new(request, awaited));
+            waiting.push_back_reserved(Waiting::new(request, file));
             Ok(())
         }
         Err(memory) => Err((memory, request)),

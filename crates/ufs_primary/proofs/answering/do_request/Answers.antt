@@ -1,6 +1,6 @@
 use Rattle.std.proofs.Common.{ap, refl, subst}
 use Rattle.ufs_serving.specs.Posts.{all_said, said}
-use Rattle.ufs_primary.specs.Served.{IsTried}
+use Rattle.ufs_at_primary.specs.Served.{IsTried}
 use Rattle.ufs_primary.proofs.Doing.{is_lacked, is_redirected, is_served, is_unnoted, is_waiting}
 use Rattle.ufs_primary.proofs.answering.do_request.Goals as goal
 

@@ -1,5 +1,5 @@
 use Rattle.std.proofs.Common.{ap, subst}
-use Rattle.ufs_primary.specs.Orders.{IsFileOrdered}
+use Rattle.ufs_at_primary.specs.Orders.{IsFileOrdered}
 use Rattle.ufs_primary.specs.Primary.{PrimaryState}
 use Rattle.ufs_primary.proofs.primary.Primary.order.Goals as goal
 

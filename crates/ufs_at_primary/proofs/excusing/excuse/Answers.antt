@@ -1,0 +1,68 @@
+use Rattle.std.proofs.Common.{ℕ, None, ap, refl, sym, subst, ◌∙◌}
+use Rattle.ufs_joint.specs.FirstHand.{HasPoolAlone}
+use Rattle.ufs_held.specs.Asking.{IsGuest}
+use Rattle.ufs_held_names.specs.Dirs.{answered}
+use Rattle.ufs_model.specs.declared.data.Ask.{Ask}
+use Rattle.ufs_msg.specs.Answers.{Told}
+use Rattle.ufs_msg.specs.Requests.{Asked}
+use Rattle.ufs_msg.specs.declared.answer.Answer.TheVariants as answer
+use Rattle.ufs_at_primary.specs.Excused.{IsExcusedHere}
+use Rattle.ufs_at_primary.specs.Named.{server_at}
+use Rattle.ufs_at_primary.proofs.Excuses.{excused_told, next_of}
+use Rattle.ufs_at_primary.proofs.excusing.excuse.Goals as goal
+
+pub lend_pool-guest-requires : goal.lend_pool-guest-requires
+lend_pool-guest-requires g c =
+    let a = c.into_parts-client.ensures.asked in
+    let p = c.requires.pool in
+    record { pool = (4294967295, p.0, p.1); client = (c.into_parts-client.result.1.client, a.self, a.alone) }
+
+pub draw_excuse-entry-requires : goal.draw_excuse-entry-requires
+draw_excuse-entry-requires g c =
+    let a = c.into_parts-client.ensures.asked in
+    let p = c.requires.pool in
+    let r = c.into_parts-client.result in
+    (a.self, 4294967295, p.0, c.lend_pool-guest.ensures.guest 4294967295 p.0 r.1.client a.self p.1 a.alone, next_of g.N.Naming.start r.1 r.0 a)
+
+pub take_pool-guest-requires : goal.take_pool-guest-requires
+take_pool-guest-requires g c =
+    let a = c.into_parts-client.ensures.asked in
+    let p = c.requires.pool in
+    let d = c.draw_excuse-entry in
+    let r = c.into_parts-client.result in
+    let came = c.lend_pool-guest.ensures.guest 4294967295 p.0 r.1.client a.self p.1 a.alone in
+    record {
+      none = c.lend_pool-guest.ensures.none;
+      guest = (r.1.client, answered a.self d.result.0, p.0, subst (λ (m : ℕ). IsGuest r.1.client (answered a.self d.result.0) m p.0 d.result.1) (sym c.pool_number.ensures) (d.ensures.guest a.self 4294967295 p.0 came));
+    }
+
+pub new-requires : goal.new-requires
+new-requires g c =
+    let a = c.into_parts-client.ensures.asked in
+    let p = c.requires.pool in
+    let d = c.draw_excuse-entry in
+    let r = c.into_parts-client.result in
+    let came = c.lend_pool-guest.ensures.guest 4294967295 p.0 r.1.client a.self p.1 a.alone in
+    let back = subst (λ (m : ℕ). IsGuest r.1.client (answered a.self d.result.0) m p.0 d.result.1) (sym c.pool_number.ensures) (d.ensures.guest a.self 4294967295 p.0 came) in
+    excused_told g.N.Naming.start r.1 r.0 a c.args.home.now.owners d.result.0 c.server_of-owner.result d.ensures.entry d.ensures.replied c.take_pool-guest.result (c.take_pool-guest.ensures.client r.1.client (answered a.self d.result.0) p.0 back)
+    (c.server_of-owner.ensures.is ∙ ap (server_at c.args.home.now.owners) c.file_in.ensures) c.server_of-owner.ensures.there
+
+pub returns-clause-pool : goal.returns-clause-pool
+returns-clause-pool g c = λ pool mine.
+    let a = c.into_parts-client.ensures.asked in
+    let d = c.draw_excuse-entry in
+    let r = c.into_parts-client.result in
+    let came = c.lend_pool-guest.ensures.guest 4294967295 pool r.1.client a.self mine a.alone in
+    let back = subst (λ (m : ℕ). IsGuest r.1.client (answered a.self d.result.0) m pool d.result.1) (sym c.pool_number.ensures) (d.ensures.guest a.self 4294967295 pool came) in
+    subst (λ (m : ℕ). HasPoolAlone m pool c.take_pool-guest.new.right) c.pool_number.ensures (c.take_pool-guest.ensures.pool r.1.client (answered a.self d.result.0) pool back)
+
+pub returns-clause-excused : goal.returns-clause-excused
+returns-clause-excused g c =
+    let d = c.draw_excuse-entry in
+    let ask = ap (λ (q : Asked). q.ask) c.into_parts-client.ensures.same in
+    let told : Told = record { hand = c.take_pool-guest.result; entry = d.result.0; desc = c.into_parts-client.result.1.desc; owner = c.server_of-owner.result; lease = None } in (
+      told,
+      ap answer.Served c.new.ensures,
+      subst (λ (q : Ask). IsExcusedHere c.args.home.now.owners q told) ask
+          (record { of_ask = d.ensures.entry; replied = d.ensures.replied; desc = refl; owner = c.server_of-owner.ensures.is ∙ ap (server_at c.args.home.now.owners) c.file_in.ensures; lease = refl }),
+    )

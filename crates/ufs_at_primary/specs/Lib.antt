@@ -1,0 +1,10 @@
+pub mod Here
+pub mod Named
+pub mod Excused
+pub mod Dirs
+pub mod All
+pub mod Kinds
+pub mod Stock
+pub mod Served
+pub mod Orders
+pub mod Noted

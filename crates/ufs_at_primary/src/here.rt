@@ -1,0 +1,109 @@
+// A request on a file that is at the primary.
+ghost use Rattle.std.specs.Prelude.{◌≡◌, ◌<◌, ◌≤◌, ◌^◌, IsSome, true};
+ghost use Rattle.std.specs.FinSet as set;
+ghost use Rattle.ufs_file.specs.Hand.{IsEntryOf, IsOf};
+ghost use Rattle.ufs_joint.specs.FirstHand.{HasPoolAlone, pool_of};
+ghost use Rattle.ufs_held.specs.Asking.{Asks, IsAnswered};
+ghost use Rattle.ufs_layout.specs.Areas.{IsGeometry};
+ghost use Rattle.ufs_model.specs.Bounds.{IsBounded};
+ghost use Rattle.ufs_model.specs.FileCalls.{is_on_file};
+ghost use Rattle.ufs_model.specs.declared.data.Actor.TheVariants.{Primary};
+ghost use Rattle.ufs_msg.specs.Answers.{Told};
+ghost use Rattle.ufs_msg.specs.Requests.{HasClientAlone, IsAsked};
+ghost use Rattle.ufs_msg.specs.declared.answer.Answer.TheVariants as answer;
+ghost use Rattle.ufs_crash_laws.specs.Changes.{asks_commit};
+ghost use Rattle.ufs_at_primary.specs.Here.{IsDoneHere, IsServedHere};
+ghost use Rattle.ufs_serving.specs.Pools.{most_at_rest};
+ghost use Rattle.ufs_hand_laws.specs.Parts.{ClientPart};
+
+use crate::syncing::sync_here;
+use ufs_bitmap::Pool;
+use ufs_held::{HeldFile, Served};
+use ufs_held_names::HeldNames;
+use ufs_joint::{Hand, HandTable, Naming};
+use ufs_layout::Geometry;
+use ufs_model::{Actor, Ask, Op};
+use ufs_msg::{Answer, Request};
+use ufs_serving::{pool_number, serve_change, served_answer};
+use ufs_turns::Turns;
+
+// What was told with the request is so: by a look the hand knows of a tree that has its client's descriptors.
+fn know_here<N: Naming>(table: &HandTable<N>, hand: &mut Hand<N>, ask: &Ask)
+    requires asked { IsAsked N.start ask.now hand.old }
+    requires on_file { is_on_file ask.now.op ≡ true }
+    ensures asked { IsAsked N.start ask.now hand.new }
+    ensures asks { (part : ClientPart) → HasClientAlone ask.now.client part hand.new → Asks part ask.now }
+{
+    // For the prover alone.
+    let _ = ask;
+    hand.look(table);
+}
+
+// An `fsync` commits the names and the file; any other request is applied to it.
+fn serve_asked<N: Naming, T: Turns<N>>(
+    table: &HandTable<N>,
+    names: &mut HeldNames<N>,
+    geometry: &Geometry,
+    held: HeldFile<N>,
+    ask: Ask,
+    client: Hand<N>,
+    pool: &mut Pool,
+    right: &mut Hand<N>,
+    door: &mut T,
+) -> (HeldFile<N>, Served<N>)
+    requires formed { IsGeometry geometry.now }
+    requires its { geometry.now ≡ N.start.geometry }
+    requires pool { HasPoolAlone (pool_of 0) pool.old right.old }
+    requires few { set.len pool.old ≤ most_at_rest }
+    requires asked { (part : ClientPart) × HasClientAlone ask.client part client × Asks part ask }
+    requires on_file { is_on_file ask.op ≡ true }
+    requires bounded { IsBounded ask.op }
+    requires named { IsOf ask.desc held.value.file.file }
+    requires low { held.value.file.file < 2 ^ 31 }
+    ensures pool { HasPoolAlone (pool_of 0) pool.new right.new }
+    ensures few { set.len pool.new ≤ most_at_rest }
+    ensures entry { IsEntryOf ask Primary result.1.entry.ticket result.1.entry }
+    ensures desc { IsSome result.1.desc }
+    ensures client { (part : ClientPart) → HasClientAlone ask.client part client → (after : ClientPart) × IsAnswered part result.1.entry result.1.desc after × HasClientAlone ask.client after result.1.guest }
+    ensures done { IsDoneHere N.start.is_visible (T.tells door.old) (T.tells door.new) names.old names.new held result.0 pool.old pool.new ask result.1.entry result.1.desc (asks_commit ask.op) }
+    ensures number { result.0.value.file.file ≡ held.value.file.file }
+{
+    let number = pool_number(0);
+    if let Op::Fsync { .. } = &ask.op {
+        return sync_here(
+            table, names, geometry, held, ask, client, number, pool, right, door,
+        );
+    }
+    let by = Actor::Primary;
+    serve_change(table, held, ask, client, by, number, pool, right, door)
+}
+
+/// Serves a request on a file that is at the primary, and says what its client is answered: one of those that go by a hint, or a `seek`
+/// from a place that its client knows. An `fsync` commits the names first.
+pub fn serve_here<N: Naming, T: Turns<N>>(
+    table: &HandTable<N>,
+    names: &mut HeldNames<N>,
+    geometry: &Geometry,
+    held: HeldFile<N>,
+    request: Request<N>,
+    pool: &mut Pool,
+    right: &mut Hand<N>,
+    door: &mut T,
+) -> (HeldFile<N>, Answer<N>)
+    requires formed { IsGeometry geometry.now }
+    requires its { geometry.now ≡ N.start.geometry }
+    requires pool { HasPoolAlone (pool_of 0) pool.old right.old }
+    requires few { set.len pool.old ≤ most_at_rest }
+    requires on_file { is_on_file request.ask.op ≡ true }
+    requires named { IsOf request.ask.desc held.value.file.file }
+    requires low { held.value.file.file < 2 ^ 31 }
+    ensures pool { HasPoolAlone (pool_of 0) pool.new right.new }
+    ensures few { set.len pool.new ≤ most_at_rest }
+    ensures served { (told : Told) × (result.1 ≡ answer.Served told) × IsServedHere N.start.is_visible (T.tells door.old) (T.tells door.new) names.old names.new held result.0 pool.old pool.new request.ask told }
+{
+    let (mut client, ask, _leases_back) = request.into_parts();
+    know_here(table, &mut client, &ask);
+    let (held, served) = serve_asked(table, names, geometry, held, ask, client, pool, right, door);
+    let Served { entry, desc, guest } = served;
+    (held, served_answer(guest, entry, desc, Actor::Primary))
+}
