@@ -10,7 +10,7 @@ use Rattle.ufs_held_names.specs.Asked.{number_of}
 use Rattle.ufs_held_names.specs.Come.{IsNewborn, IsStillThere}
 use Rattle.ufs_held_names.specs.HeldNames.{AreCommitted}
 use Rattle.ufs_held_names.specs.SyncAll.{StopsShort, AtNames, AtFile}
-use Rattle.ufs_home.specs.Home.{HomeState, called_by, called_back, called_for, come_home, come_on, onward, sent}
+use Rattle.ufs_home.specs.Home.{HomeState, called_by, called_back, called_for, come_home, come_on, sent}
 use Rattle.ufs_home.specs.Lending.{put_all}
 use Rattle.ufs_home.specs.Letters.{Boxes, Mailed, RingsGo, gone_from, left_by, left_by_all}
 use Rattle.ufs_home.specs.Moves.{IsMoved}
@@ -29,8 +29,6 @@ use Rattle.ufs_model.specs.declared.data.Reply.{Reply}
 use Rattle.ufs_model.specs.declared.data.Reply.TheVariants as reply
 use Rattle.ufs_msg.specs.Answers.{Told}
 use Rattle.ufs_msg.specs.Requests.{Asked}
-use Rattle.ufs_msg.specs.declared.letter.Letter.{Letter}
-use Rattle.ufs_msg.specs.declared.letter.Letter.TheVariants.{Parcel, Recall, Report}
 use Rattle.ufs_names.specs.NamesPart.{Holdings}
 use Rattle.ufs_owner.proofs.OwnerFacts.{has_owner, other_stays, waiting_keeps_owner}
 use Rattle.ufs_owner.specs.Owners.{Files, arrived, is_going, owner_at, recalled, standing_at, with_owner, with_waiting}
@@ -41,21 +39,15 @@ use Rattle.ufs_crash_laws.specs.Changes.{asks_commit}
 use Rattle.ufs_at_primary.specs.All.{IsAllSynced, numbers_in}
 use Rattle.ufs_at_primary.specs.Dirs.{IsDirDone}
 use Rattle.ufs_at_primary.specs.Here.{IsDoneHere}
-use Rattle.ufs_at_primary.specs.Letters.{IsFrontDone, IsLetterDone, IsNextDone, IsSettled}
 use Rattle.ufs_at_primary.specs.Named.{IsDoneByNames}
+use Rattle.ufs_at_primary.specs.Noted.{IsUnnoted, unwaited, waited_for}
 use Rattle.ufs_at_primary.specs.Orders.{IsFileOrdered, IsNoFile, IsObeyed, IsReadied}
 use Rattle.ufs_at_primary.specs.Stock.{AreHere, StockState}
-use Rattle.ufs_at_primary.specs.Served.{All, ByNames, IsServed, IsTried, Lacked, OnFile, OnNone, Unnoted, back_in, emptied, lent_with, made_in, places_then}
-use Rattle.ufs_at_primary.specs.Turns.{unwaited, unwaited_of}
-use Rattle.ufs_at_primary.specs.Waiting.{IsPutOff, IsUnnoted, Waits}
+use Rattle.ufs_at_primary.specs.Served.{All, ByNames, IsServed, IsTried, Lacked, OnFile, OnNone, back_in, emptied, lent_with, made_in, places_then}
 use Rattle.ufs_at_primary.specs.declared.ordered.Ordered.{Ordered}
 use Rattle.ufs_at_primary.specs.declared.ordered.Ordered.TheVariants as ordered
 use Rattle.ufs_at_primary.specs.declared.tried.Tried.{Tried}
 use Rattle.ufs_at_primary.specs.declared.tried.Tried.TheVariants as tried
-use Rattle.ufs_at_primary.specs.declared.turn.PrimaryTurn.{PrimaryTurn}
-use Rattle.ufs_at_primary.specs.declared.turn.PrimaryTurn.TheVariants as turn
-use Rattle.ufs_at_primary.specs.declared.waiting.Awaited.{Awaited}
-use Rattle.ufs_at_primary.specs.declared.waiting.Awaited.TheVariants as awaited
 
 -- ---- owners
 
@@ -122,20 +114,16 @@ waiting_before owners file xs f is = by (one_or_other file f)
 here_waiting : (names : NamesCell) (h : HomeState) (file : ℕ) (xs : List ℕ) → AreHere names h → AreHere names (record h { owners = with_waiting h.owners file xs })
 here_waiting names h file xs here = here_owners names h (record h { owners = with_waiting h.owners file xs }) refl (waiting_before h.owners file xs) here
 
-pub here_unwaited : (names : NamesCell) (h : HomeState) (w : Waits) → AreHere names h → AreHere names (unwaited h w)
-here_unwaited names h w here = by w.awaited
-  where
-    by : (a : Awaited) → AreHere names (unwaited_of a w.request.ask.client h)
-    by awaited.Room = here
-    by (awaited.File file) = here_waiting names h file _ here
+pub here_unwaited : (names : NamesCell) (h : HomeState) (file client : ℕ) → AreHere names h → AreHere names (unwaited h file client)
+here_unwaited names h file client here = here_waiting names h file _ here
 
 here_unnoted : (names : NamesCell) (h g : HomeState) (file : ℕ) → IsUnnoted h g file → AreHere names h → AreHere names g
 here_unnoted names h g file (inl e) here = subst (AreHere names) (sym e) here
 here_unnoted names h g file (inr e) here = subst (AreHere names) (sym e) (here_called names h file here)
 
-pub here_put : {A E : Type 0} (names : NamesCell) (h g : HomeState) (old new : List Waits) (r : Asked) (a : Awaited) (file : ℕ) (x : Result A E) → OnOk x (IsPutOff h g old new r a file) → OnErr x (IsUnnoted h g file) → AreHere names h → AreHere names g
-here_put names h g old new r a file (Ok x) put unnoted here = subst (AreHere names) (sym put.0) (here_waiting names (called_for h file) file _ (here_called names h file here))
-here_put names h g old new r a file (Err e) put unnoted here = here_unnoted names h g file unnoted here
+pub here_awaited : {A E : Type 0} (names : NamesCell) (h g : HomeState) (file client : ℕ) (x : Result A E) → OnOk x (g ≡ waited_for (called_for h file) file client) → OnErr x (IsUnnoted h g file) → AreHere names h → AreHere names g
+here_awaited names h g file client (Ok x) noted unnoted here = subst (AreHere names) (sym noted) (here_waiting names (called_for h file) file _ (here_called names h file here))
+here_awaited names h g file client (Err e) noted unnoted here = here_unnoted names h g file unnoted here
 
 pub here_gone : {Q : Type 0} (sends : ℕ → Q → Mailed → Q → Type 0) (same : Q → Q → Type 0) (full : Q → ℕ → Type 0) (n : ℕ) (names : NamesCell) (h g : HomeState) (p q : Q) → RingsGo sends same full n h.letters g.letters h.owners g.owners p q
     → g.places ≡ h.places → AreHere names h → AreHere names g
@@ -171,30 +159,6 @@ here_sent names h file c to here f live at =
 pub here_come : (names : NamesCell) (h : HomeState) (c : FileCell) (to : ℕ) → AreHere names h → AreHere names (come_on h c to)
 here_come names h c zero here = here_home names h c here
 here_come names h c (suc n) here = here_sent names (come_home h c) c.value.file.file c (suc n) (here_home names h c here)
-
-here_settled : (names : NamesCell) (h g : HomeState) (waits : Option FileCell) (c : FileCell) (o : Option PrimaryTurn) → IsSettled h g waits c o → AreHere names h → AreHere names g
-here_settled names h g waits c None is here = subst (AreHere names) (sym is.1) here
-here_settled names h g waits c (Some turn.Settled) is here = subst (AreHere names) (sym is.1) (here_come names h c (onward h.owners c.value.file.file) here)
-here_settled names h g waits c (Some (turn.Lack l)) is here = subst (AreHere names) (sym is.2) here
-here_settled names h g waits c (Some turn.Noted) is here = absurd is
-here_settled names h g waits c (Some turn.Served) is here = absurd is
-here_settled names h g waits c (Some (turn.Redirected f)) is here = absurd is
-here_settled names h g waits c (Some (turn.Waiting f)) is here = absurd is
-here_settled names h g waits c (Some turn.Idle) is here = absurd is
-
-here_letter : (names : NamesCell) (h g : HomeState) (waits : Option FileCell) (l : Letter FileCell) (o : Option PrimaryTurn) → IsLetterDone h g waits l o → AreHere names h → AreHere names g
-here_letter names h g waits (Parcel c) o is here = here_settled names h g waits c o is here
-here_letter names h g waits (Recall file) o is here = subst (AreHere names) (sym is.1) here
-here_letter names h g waits (Report loads) o is here = subst (AreHere names) (sym is.1) here
-
-pub here_front : {Q : Type 0} (same : Q → Q → Type 0) (gets : Q → Letter FileCell → Q → Type 0) (none : Q → Type 0) (names : NamesCell) (h g : HomeState) (coming waits : Option FileCell) (p q : Q) (o : Option PrimaryTurn)
-    → IsFrontDone same gets none coming h g waits p q o → AreHere names h → AreHere names g
-here_front same gets none names h g (Some c) waits p q o is here = here_settled names h g waits c o is.0 here
-here_front same gets none names h g None waits p q o is here = by is
-  where
-    by : IsNextDone same gets none h g waits p q o → AreHere names g
-    by (inl x) = subst (AreHere names) (sym x.3) here
-    by (inr x) = here_letter names h g waits x.0 o x.2 here
 
 -- ---- as requests are served
 
@@ -382,13 +346,11 @@ module _ (visible : Bool) (before after : Option View) (s t : StockState) (here 
       subst (AreHere t.names) (sym home) (λ f live at. alike_put f x.olds x.nows x.lent x.lent x.served.numbers (λ is. is)
       (subst (λ (p : Places). IsSome (file_here p f)) (sym x.here.back) (here_names s.home s.names t.names same here f live at)))
   here_served ask told (Lacked x) = here_of s t x.rest here
-  here_served ask told (Unnoted x) = subst (λ (n : NamesCell). AreHere n t.home) (sym (ap (λ (y : StockState). y.names) x.rest)) (here_unnoted s.names s.home t.home x.file x.home here)
 
   pub here_tried : {N : Type 0} (r : Asked) (x : Tried N) → IsTried visible before after s t r x → AreHere t.names t.home
   here_tried r (tried.Answered a) is = here_served r.ask is.0 is.2
   here_tried r (tried.Redirected a file) is = here_of s t is.1 here
   here_tried r (tried.Away q file) is = here_of s t is.2 here
-  here_tried r (tried.Lacks q what) is = here_of s t is.2 here
 
 -- ---- an order
 

@@ -8,6 +8,7 @@ use Rattle.ufs_held.specs.Drawn.{first_fds, fresh_of, replied_to}
 use Rattle.ufs_held.specs.Together.{HasDrawnStill, still_of}
 use Rattle.ufs_held_names.specs.Asking.{IsAnsweredNames}
 use Rattle.ufs_held_names.specs.Dirs.{answered}
+use Rattle.ufs_held_names.proofs.Refusing.{may_reply}
 use Rattle.ufs_held_names.proofs.Untold.{named_none}
 use Rattle.ufs_joint.specs.Cells.{Start, View}
 use Rattle.ufs_joint.specs.Draws.{IsAround, Leaves, MayDraw}
@@ -46,39 +47,15 @@ excused_by ask = replied_to ask Primary (reply.Excused excuse.Memory)
 pub next_of : (k : Start) (ask : Ask) (v : View) (asked : IsAsked k ask v) → IsNextOf ask.client asked.self (excused_by ask)
 next_of k ask v asked = record { low = asked.low; by_client = refl; asked = asked.asked; seq = asked.seq }
 
-no_files : AreNumberedOnce []
-no_files = record { once = λ f. omega arith; number = λ f c has. absurd has }
-
 module _ (k : Start) (v : View) (part : ClientPart) (n : ℕ) (pool : BlockSet) (ask : Ask) (ticket : ℕ) (has : IsGuest ask.client part n pool v) (next : IsNextOf ask.client part (excused_by ask)) where
-  hand : IsStillHand v ask.client part n pool
-  hand = record { clients = has.clients; pools = has.pools; files = subst AreNumberedOnce (sym has.files) no_files }
-
-  leaves : still_leaves part v ≡ still_of v
-  leaves = λ i. record { fds = first_fds (sym has.clients i); files = v.files; pools = v.pools; names = v.names }
-
   -- want of memory excuses any request
   due : (start : PosixTree) (history : List Entry) (p : Parts) (rest : BlockSet) → IsAround k.geometry v ticket start history p rest → IsReplyTo (tree_after start history) (entry_of ticket (excused_by ask))
   due start history p rest a = inr (record { due = λ no. absurd cc; told = tt })
 
   pub may_excuse : ExcusesStayKept → MayDraw k.geometry k.is_visible v (excused_by ask) (still_of v) ticket
   may_excuse stays =
-      subst (λ (l : Leaves). MayDraw k.geometry k.is_visible v (excused_by ask) l ticket) leaves
-      (may_draw k.geometry k.is_visible v ask.client part n pool (excused_by ask) ticket hand next (excuse_still v (excused_by ask) ticket excuse.Memory refl (λ fault is. absurd cc) (λ fault is. absurd cc)) due
-      (λ seen s start history p known formed legal fds cells knows on. stays s start history (entry_of ticket (excused_by ask)) p known legal refl on))
-
--- the client goes back with one more entry
-pub excused_guest : (client : ℕ) (part : ClientPart) (n : ℕ) (pool : BlockSet) (v z : View) (e : Entry) → IsGuest client part n pool v → e.client ≡ client → HasDrawnStill e.ticket (fresh_of e) v z → IsGuest client (answered part e) n pool z
-excused_guest client part n pool v z e has of_client drew = record {
-  clients =
-      drew.clients
-      ∙ (λ i. each (client_after e (first_fds (has.clients i))) (has.clients i))
-      ∙ ap (λ (b : Bool). (client, cond b (answered part e) part) ∷ []) (ap (λ (c : ℕ). eqb c client) of_client ∙ itself client);
-  asked = drew.asked ∙ has.asked;
-  files = drew.files ∙ has.files;
-  pools = drew.pools ∙ has.pools;
-  names = drew.names ∙ has.names;
-  store = drew.store ∙ has.store;
-}
+      may_reply k v ask.client part n pool (excused_by ask) ticket has next (excuse_still v (excused_by ask) ticket excuse.Memory refl (λ fault is. absurd cc) (λ fault is. absurd cc)) due
+      (λ seen s start history p known formed legal fds cells knows on. stays s start history (entry_of ticket (excused_by ask)) p known legal refl on)
 
 -- ---- what is told
 

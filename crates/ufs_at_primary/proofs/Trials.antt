@@ -2,9 +2,6 @@
 use Rattle.std.proofs.Common.{◌≡◌, ◌≢◌, ◌≤◌, ◌<◌, ◌^◌, ℕ, ◌⊎◌, inl, inr, Bool, true, false, cond, List, Option, Some, None, is_some, refl, ap, sym, ◌∙◌, subst}
 use Rattle.std.specs.Prelude.{IfNone, IfSome, IsSome, not}
 use Rattle.std.specs.FinMap as fin
-use Rattle.ufs_base.specs.declared.lack.Lack.{Lack}
-use Rattle.ufs_base.specs.declared.memory.Memory.{Memory}
-use Rattle.ufs_base.specs.declared.lack.Lack.TheVariants as lack
 use Rattle.ufs_file.specs.Hand.{IsOf}
 use Rattle.ufs_bitmap.specs.Blocks.{BlockSet}
 use Rattle.ufs_held.specs.Asking.{IsGuest}
@@ -24,9 +21,9 @@ use Rattle.ufs_msg.specs.Requests.{Asked, HasClientAlone, IsAsked, asked_of}
 use Rattle.ufs_msg.specs.There.{IsByHint, is_by_hint}
 use Rattle.ufs_hand_laws.specs.Parts.{ClientPart}
 use Rattle.ufs_at_primary.specs.All.{numbers_in}
-use Rattle.ufs_at_primary.specs.Kinds.{IsOnFile}
-use Rattle.ufs_at_primary.specs.Stock.{StockState}
-use Rattle.ufs_at_primary.specs.Served.{IsAway, IsLackFor, IsNamesTried, IsServed, IsStill, IsTried, emptied, lent_with, made_in}
+use Rattle.ufs_at_primary.specs.Kinds.{IsByNames, IsOnFile}
+use Rattle.ufs_at_primary.specs.Stock.{AreHere, StockState}
+use Rattle.ufs_at_primary.specs.Served.{IsAway, IsOut, IsServed, IsStill, IsTried, emptied, lent_with, made_in}
 use Rattle.ufs_at_primary.specs.declared.tried.Tried.{Tried}
 use Rattle.ufs_at_primary.specs.declared.tried.Tried.TheVariants as tried
 use Rattle.ufs_at_primary.proofs.AllTold.{same_counts}
@@ -39,27 +36,32 @@ pub some_is : {A : Type 0} (o : Option A) → IsSome o → (x : A) × (o ≡ Som
 some_is None is = absurd cc
 some_is (Some x) is = (x, refl)
 
--- for want of memory it isn't served
-pub wants : (s : StockState) (ask : Ask) (l : Lack) (m : Memory) → l ≡ lack.Memory m → IsLackFor s ask l
-wants s ask l m is = subst (IsLackFor s ask) (sym is) tt
-
 -- ---- the request
 
 pub same_still : (r : Asked) → IsStill r r
 same_still r = record { ask = refl; leases_back = refl; hand = λ self has. has }
 
-still_from : (r q x : Asked) → IsStill r q → x ≡ q → IsStill r x
-still_from r q x still is = subst (IsStill r) (sym is) still
-
 away_as : (s : StockState) (one other : Ask) (file : ℕ) → other ≡ one → IsAway s other file → IsAway s one file
 away_as s one other file is away = subst (λ (a : Ask). IsAway s a file) is away
 
--- one of the names, whose hand was asked which file it touches
-pub tried_as : {N : Type 0} (visible : Bool) (before after : Option View) (s t : StockState) (r q : Asked) (x : Tried N) → IsStill r q → IsNamesTried visible before after s t q x → IsTried visible before after s t r x
-tried_as visible before after s t r q (tried.Answered a) still is = (is.0, is.1, subst (λ (k : Ask). IsServed visible before after s t k is.0) still.ask is.2)
-tried_as visible before after s t r q (tried.Redirected a file) still is = absurd is
-tried_as visible before after s t r q (tried.Away y file) still is = (still_from r q y still is.0, away_as s r.ask q.ask file still.ask is.1, is.2, is.3)
-tried_as visible before after s t r q (tried.Lacks y what) still is = (still_from r q y still is.0, subst (λ (k : Ask). IsLackFor s k what) still.ask is.1, is.2, is.3)
+still_on : (r q x : Asked) → IsStill r q → IsStill q x → IsStill r x
+still_on r q x one other = record {
+  ask = other.ask ∙ one.ask;
+  leases_back = other.leases_back ∙ one.leases_back;
+  hand = λ self has. subst (λ (c : ℕ). HasClientAlone c self x.hand) (ap (λ (a : Ask). a.client) one.ask) (other.hand self (subst (λ (c : ℕ). HasClientAlone c self q.hand) (sym (ap (λ (a : Ask). a.client) one.ask)) (one.hand self has)));
+}
+
+-- one of the names, that the names have seen
+pub tried_as : {N : Type 0} (visible : Bool) (before after : Option View) (s t : StockState) (r q : Asked) (x : Tried N) → IsStill r q → IsByNames r.ask → IsTried visible before after s t q x → IsTried visible before after s t r x
+tried_as visible before after s t r q (tried.Answered a) still kind is = (is.0, is.1, subst (λ (k : Ask). IsServed visible before after s t k is.0) still.ask is.2)
+tried_as visible before after s t r q (tried.Redirected a file) still kind is =
+    let on = subst (λ (k : Ask). IsOnFile k file) still.ask (let sent = is.0 in sent.kind) in
+    absurd (let both = sym (kind.kind on.kind) ∙ on.of in cc)
+tried_as visible before after s t r q (tried.Away y file) still kind is = (still_on r q y still is.0, away_as s r.ask q.ask file still.ask is.1, is.2, is.3)
+
+-- the file isn't here, though it is live: so it is out
+pub is_out : (s : StockState) (file : ℕ) → AreHere s.names s.home → IsSome (fin.get s.names.value.held file) → file_here s.home.places file ≡ None → IsOut s file
+is_out s file here live away at = (let both = sym (here file live at) ∙ ap is_some away in cc)
 
 -- what was told with it is so, with the client's part in another hand
 pub asked_by : (k : Start) (ask : Ask) (before after : View) (asked : IsAsked k ask before) → HasClientAlone ask.client asked.self after → IsAsked k ask after
@@ -194,11 +196,6 @@ still_same (Some d) (Some c) file ticket false number low kept there =
 pub made_number : (young : Option FileCell) (next ticket : ℕ) → IfSome young (IsNewborn next ticket) → IfSome young (λ c. next ≡ c.value.file.file)
 made_number None next ticket made = tt
 made_number (Some c) next ticket made = sym (ap (λ (x : FileCell). x.value.file.file) made)
-
--- what a test of a place tells
-pub here_or_not : (o : Option FileCell) (b : Bool) → b ≡ is_some o → (not b ≡ true → o ≡ None) × (not b ≡ false → IsSome o)
-here_or_not None b is = (λ _. refl, λ no. let both = sym (ap not is) ∙ no in absurd cc)
-here_or_not (Some c) b is = (λ yes. let both = sym (ap not is) ∙ yes in absurd cc, λ _. refl)
 
 -- ---- places behind that
 

@@ -8,7 +8,7 @@ ghost use Rattle.ufs_held.specs.Drawn.{replied_to};
 ghost use Rattle.ufs_held_names.specs.Dirs.{answered};
 ghost use Rattle.ufs_joint.specs.NamesHands.{IsNextOf};
 ghost use Rattle.ufs_model.specs.declared.data.Actor.TheVariants.{Primary};
-ghost use Rattle.ufs_model.specs.declared.data.Excuse.TheVariants.{Memory};
+ghost use Rattle.ufs_model.specs.declared.data.Excuse.TheVariants as excuses;
 ghost use Rattle.ufs_model.specs.declared.data.Reply.TheVariants as reply;
 ghost use Rattle.ufs_msg.specs.Answers.{Told};
 ghost use Rattle.ufs_msg.specs.declared.answer.Answer.TheVariants as answer;
@@ -17,7 +17,7 @@ ghost use Rattle.ufs_hand_laws.specs.Parts.{ClientPart};
 
 use crate::kinds::file_in;
 use crate::named::server_of;
-use ufs_base::Lack;
+use ufs_base::Memory;
 use ufs_held::draw_reply;
 use ufs_home::Home;
 use ufs_joint::{Hand, HandTable, Naming, draw_law};
@@ -30,15 +30,15 @@ fn draw_excuse<N: Naming>(
     table: &HandTable<N>,
     ask: Ask,
     mut guest: Hand<N>,
-    lack: Lack,
+    memory: Memory,
 ) -> (Entry, Hand<N>)
-    requires { (part : ClientPart) × (n : ℕ) × (pool : BlockSet) × IsGuest ask.client part n pool guest × IsNextOf ask.client part (replied_to ask Primary (reply.Excused Memory)) }
+    requires { (part : ClientPart) × (n : ℕ) × (pool : BlockSet) × IsGuest ask.client part n pool guest × IsNextOf ask.client part (replied_to ask Primary (reply.Excused excuses.Memory)) }
     ensures entry { IsEntryOf ask Primary result.0.ticket result.0 }
-    ensures replied { result.0.reply ≡ reply.Excused Memory }
+    ensures replied { result.0.reply ≡ reply.Excused excuses.Memory }
     ensures guest { (part : ClientPart) (n : ℕ) (pool : BlockSet) → IsGuest ask.client part n pool guest → IsGuest ask.client (answered part result.0) n pool result.1 }
 {
     draw_law();
-    let cause = Excuse::from(lack);
+    let cause = Excuse::from(memory);
     let entry = draw_reply(
         table,
         &mut guest,
@@ -49,12 +49,12 @@ fn draw_excuse<N: Naming>(
     (entry, guest)
 }
 
-/// Excuses a request that can't be done for want of this, and says what its client is answered.
+/// Excuses a request for want of memory, and says what its client is answered.
 pub(crate) fn excuse<N: Naming>(
     table: &HandTable<N>,
     home: &Home<N>,
     request: Request<N>,
-    lack: Lack,
+    memory: Memory,
     right: &mut Hand<N>,
 ) -> Answer<N>
     requires pool { (pool : BlockSet) × HasPoolAlone (pool_of 0) pool right.old }
@@ -64,7 +64,7 @@ pub(crate) fn excuse<N: Naming>(
     let (client, ask, _leases_back) = request.into_parts();
     let desc = ask.desc;
     let guest = lend_pool(table, right, client);
-    let (entry, guest) = draw_excuse(table, ask, guest, lack);
+    let (entry, guest) = draw_excuse(table, ask, guest, memory);
     let guest = take_pool(table, right, guest, pool_number(0));
     let owner = server_of(home, file_in(desc));
     Answer::Served(Served::new(guest, entry, desc, owner, None))

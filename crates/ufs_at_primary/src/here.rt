@@ -9,7 +9,7 @@ ghost use Rattle.ufs_model.specs.Bounds.{IsBounded};
 ghost use Rattle.ufs_model.specs.FileCalls.{is_on_file};
 ghost use Rattle.ufs_model.specs.declared.data.Actor.TheVariants.{Primary};
 ghost use Rattle.ufs_msg.specs.Answers.{Told};
-ghost use Rattle.ufs_msg.specs.Requests.{HasClientAlone, IsAsked};
+ghost use Rattle.ufs_msg.specs.Requests.{HasClientAlone};
 ghost use Rattle.ufs_msg.specs.declared.answer.Answer.TheVariants as answer;
 ghost use Rattle.ufs_crash_laws.specs.Changes.{asks_commit};
 ghost use Rattle.ufs_at_primary.specs.Here.{IsDoneHere, IsServedHere};
@@ -24,20 +24,8 @@ use ufs_joint::{Hand, HandTable, Naming};
 use ufs_layout::Geometry;
 use ufs_model::{Actor, Ask, Op};
 use ufs_msg::{Answer, Request};
-use ufs_serving::{pool_number, serve_change, served_answer};
+use ufs_serving::{know_on_file, pool_number, serve_change, served_answer};
 use ufs_turns::Turns;
-
-// What was told with the request is so: by a look the hand knows of a tree that has its client's descriptors.
-fn know_here<N: Naming>(table: &HandTable<N>, hand: &mut Hand<N>, ask: &Ask)
-    requires asked { IsAsked N.start ask.now hand.old }
-    requires on_file { is_on_file ask.now.op ≡ true }
-    ensures asked { IsAsked N.start ask.now hand.new }
-    ensures asks { (part : ClientPart) → HasClientAlone ask.now.client part hand.new → Asks part ask.now }
-{
-    // For the prover alone.
-    let _ = ask;
-    hand.look(table);
-}
 
 // An `fsync` commits the names and the file; any other request is applied to it.
 fn serve_asked<N: Naming, T: Turns<N>>(
@@ -102,7 +90,7 @@ pub fn serve_here<N: Naming, T: Turns<N>>(
     ensures served { (told : Told) × (result.1 ≡ answer.Served told) × IsServedHere N.start.is_visible (T.tells door.old) (T.tells door.new) names.old names.new held result.0 pool.old pool.new request.ask told }
 {
     let (mut client, ask, _leases_back) = request.into_parts();
-    know_here(table, &mut client, &ask);
+    know_on_file(table, &mut client, &ask);
     let (held, served) = serve_asked(table, names, geometry, held, ask, client, pool, right, door);
     let Served { entry, desc, guest } = served;
     (held, served_answer(guest, entry, desc, Actor::Primary))

@@ -2,7 +2,6 @@
 use crate::excusing::excuse;
 use crate::ordered::Ordered;
 use crate::ordering::order_file;
-use crate::tried::Tried;
 use std::marker::Model;
 use ufs_base::{Lack, Memory};
 use ufs_bitmap::Pool;
@@ -54,7 +53,6 @@ impl<N: Naming> Stock<N> {
     ghost use Rattle.ufs_at_primary.specs.Excused.{IsExcusedHere};
     ghost use Rattle.ufs_at_primary.specs.Noted.{IsUnnoted, unwaited, waited_for};
     ghost use Rattle.ufs_at_primary.specs.Orders.{IsFileOrdered, dropped_by};
-    ghost use Rattle.ufs_at_primary.specs.Served.{IsTried};
     ghost use Rattle.ufs_at_primary.specs.Stock.{AreHere, HasNumbers, stock_of};
     ghost use Rattle.ufs_serving.specs.Pools.{most_at_rest};
     ghost use Rattle.ufs_turns.specs.Lent.{AreTold, StopsByFault};
@@ -111,25 +109,8 @@ impl<N: Naming> Stock<N> {
         }
     }
 
-    /// Serves the request with what is here, or excuses it for want of memory. Where it isn't served all is as it was.
-    pub fn serve<T: Turns<N>>(
-        &mut self,
-        table: &HandTable<N>,
-        request: Request<N>,
-        door: &mut T,
-    ) -> Tried<N>
-        ensures { IsTried N.start.is_visible (T.tells door.old) (T.tells door.new) self.old self.new request result }
-    {
-        self.serve_any(table, request, door)
-    }
-
     /// Excuses the request for want of memory.
-    pub fn excuse(
-        &mut self,
-        table: &HandTable<N>,
-        request: Request<N>,
-        memory: Memory,
-    ) -> Answer<N>
+    pub fn excuse(&mut self, table: &HandTable<N>, request: Request<N>, memory: Memory) -> Answer<N>
         ensures excused { (told : Told) × (result ≡ answer.Served told) × IsExcusedHere self.old.home.owners request.ask told }
         ensures rest { self.new ≡ self.old }
     {

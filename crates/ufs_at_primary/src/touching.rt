@@ -1,10 +1,12 @@
 // The file that a request of the names touches, while it is served.
-ghost use Rattle.std.specs.Prelude.{◌≡◌, ◌≢◌, ◌<◌, ◌≤◌, ◌⊎◌, ◌^◌, IfNone, IfOk, IfSome, IsSome, None, OnErr, Some, false, true};
+ghost use Rattle.std.specs.Prelude.{ℕ, ◌≡◌, ◌≢◌, ◌<◌, ◌≤◌, ◌+◌, ◌*◌, ◌^◌, IfNone, IfOk, IfSome, IsSome, None, OnErr, Some};
 ghost use Rattle.std.specs.FinMap as fin;
 ghost use Rattle.ufs_bitmap.specs.Blocks.{BlockSet};
 ghost use Rattle.ufs_joint.specs.FirstHand.{HasPoolAlone, pool_of};
 ghost use Rattle.ufs_held_names.specs.Asked.{IsNeeded, number_of};
 ghost use Rattle.ufs_home.specs.Places.{file_here};
+ghost use Rattle.ufs_layout.specs.Areas.{IsGeometry};
+ghost use Rattle.ufs_model.specs.Asks.{file_in};
 ghost use Rattle.ufs_at_primary.specs.Kinds.{IsByNames};
 ghost use Rattle.ufs_at_primary.specs.Served.{IsStill, back_in, emptied, lent_with, made_in};
 
@@ -13,43 +15,69 @@ use ufs_held::HeldFile;
 use ufs_held_names::{HeldNames, Newborn};
 use ufs_home::Home;
 use ufs_joint::{Hand, HandTable, Naming};
+use ufs_layout::Geometry;
 use ufs_msg::Request;
 use ufs_serving::{lend_pool, pool_number, take_pool};
 
-// No file has a number from here on.
-const NUMBERS_END: u32 = 2_147_483_648;
-
-/// Whether a number is left for a new file. Its place is free then.
-pub(crate) fn has_number<N: Naming>(names: &HeldNames<N>, home: &Home<N>) -> bool
-    ensures yes { result ≡ true → (names.now.value.next < 2 ^ 31) × (file_here home.now.places names.now.value.next ≡ None) }
-    ensures no { result ≡ false → (2 ^ 31 ≤ names.now.value.next) ⊎ IsSome (file_here home.now.places names.now.value.next) }
-{
-    let next = names.next_number();
-    if next >= NUMBERS_END {
-        return false;
-    }
-    !home.has(next)
-}
-
-/// Which live file the request touches, if it does one.
-pub(crate) fn ask_needed<N: Naming>(
+/// By a look: each file that the request touches, or is on, is live; each live one has a lower number than the next; and that is low still.
+pub(crate) fn see_request<N: Naming>(
     table: &HandTable<N>,
     names: &mut HeldNames<N>,
     right: &mut Hand<N>,
     request: Request<N>,
-) -> (Request<N>, Result<Option<u32>, Memory>)
+) -> Request<N>
     requires pool { (pool : BlockSet) × HasPoolAlone (pool_of 0) pool right.old }
-    requires kind { IsByNames request.ask }
     ensures pool { (pool : BlockSet) → HasPoolAlone (pool_of 0) pool right.old → HasPoolAlone (pool_of 0) pool right.new }
     ensures names { names.new ≡ names.old }
-    ensures still { IsStill request result.0 }
-    ensures needed { IfOk result.1 (IsNeeded names.old.value request.ask) }
+    ensures still { IsStill request result }
+    ensures needed { (file : ℕ) → IsNeeded names.old.value request.ask (Some file) → IsSome (fin.get names.old.value.held file) }
+    ensures open { (file : ℕ) → file_in request.ask.desc ≡ Some file → IsSome (fin.get names.old.value.held file) }
+    ensures below { (file : ℕ) → IsSome (fin.get names.old.value.held file) → file < names.old.value.next }
+    ensures few { names.old.value.next ≤ N.start.tree.next + 16 * 65536 }
 {
     let (client, ask, leases_back) = request.into_parts();
     let mut guest = lend_pool(table, right, client);
-    let needed = names.needed(table, &ask, &mut guest);
+    names.see(table, &ask, &mut guest);
     let client = take_pool(table, right, guest, pool_number(0));
+    Request::new(client, ask, leases_back)
+}
+
+/// Which live file the request touches, if it does one.
+pub(crate) fn ask_needed<N: Naming>(
+    names: &HeldNames<N>,
+    request: Request<N>,
+) -> (Request<N>, Result<Option<u32>, Memory>)
+    requires kind { IsByNames request.ask }
+    ensures same { result.0 ≡ request }
+    ensures needed { IfOk result.1 (IsNeeded names.now.value request.ask) }
+{
+    let (client, ask, leases_back) = request.into_parts();
+    let needed = names.needed(&ask);
     (Request::new(client, ask, leases_back), needed)
+}
+
+/// The next file number. No file is here under that: it would be live, and each live one has a lower number.
+pub(crate) fn free_number<N: Naming>(
+    table: &HandTable<N>,
+    names: &mut HeldNames<N>,
+    geometry: &Geometry,
+    home: &mut Home<N>,
+) -> Result<u32, Memory>
+    requires formed { IsGeometry geometry.now }
+    requires its { geometry.now ≡ N.start.geometry }
+    requires below { (file : ℕ) → IsSome (fin.get names.old.value.held file) → file < names.old.value.next }
+    ensures names { names.new ≡ names.old }
+    ensures home { home.new ≡ home.old }
+    ensures next { IfOk result (λ n. n ≡ names.old.value.next) }
+    ensures free { IfOk result (λ n. file_here home.old.places n ≡ None) }
+{
+    let next = names.next_number();
+    if home.has(next) {
+        let mut held = home.lend(next)?;
+        names.tell_born(table, &mut held, geometry);
+        unreachable!();
+    }
+    Ok(next)
 }
 
 /// The file, if it isn't here.

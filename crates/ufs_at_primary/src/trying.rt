@@ -1,11 +1,8 @@
 // A request is served, or it is said why not.
-ghost use Rattle.std.specs.Prelude.{◌≡◌, ◌<◌, ◌≤◌, ◌^◌, Bool, None, Option, true};
-ghost use Rattle.std.specs.FinSet as set;
+ghost use Rattle.std.specs.Prelude.{ℕ, ◌≡◌, ◌≢◌, ◌<◌, ◌^◌, Bool, IfNone, IfSome, Option, true};
 ghost use Rattle.ufs_bitmap.specs.Blocks.{BlockSet};
 ghost use Rattle.ufs_joint.specs.FirstHand.{HasPoolAlone, pool_of};
-ghost use Rattle.ufs_held_names.specs.Asked.{IsNeeded};
 ghost use Rattle.ufs_held_names.specs.SyncAll.{AreAllLive};
-ghost use Rattle.ufs_home.specs.Places.{file_here};
 ghost use Rattle.ufs_joint.specs.Cells.{FileCell, NamesCell, View};
 ghost use Rattle.ufs_layout.specs.Areas.{IsGeometry};
 ghost use Rattle.ufs_model.specs.declared.data.Actor.TheVariants.{Worker};
@@ -16,21 +13,21 @@ ghost use Rattle.ufs_msg.specs.declared.answer.Answer.TheVariants as says;
 ghost use Rattle.ufs_owner.specs.Owners.{owner_at};
 ghost use Rattle.ufs_owner.specs.declared.owner.Owner.TheVariants as owner;
 ghost use Rattle.ufs_at_primary.specs.All.{IsAllSynced};
-ghost use Rattle.ufs_at_primary.specs.Kinds.{IsByNames, IsOnFile};
-ghost use Rattle.ufs_at_primary.specs.Stock.{AreHere, stock_of};
-ghost use Rattle.ufs_at_primary.specs.Served.{IsNamesTried, IsTried};
-ghost use Rattle.ufs_serving.specs.Pools.{most_at_rest};
+ghost use Rattle.ufs_at_primary.specs.Kinds.{IsOnFile};
+ghost use Rattle.ufs_at_primary.specs.Served.{IsTried};
+ghost use Rattle.ufs_at_primary.specs.Stock.{stock_of};
 ghost use Rattle.ufs_hand_laws.specs.Owned.{Has};
 
 use crate::all::serve_sync_all;
 use crate::dirs::serve_dir;
+use crate::excusing::excuse;
 use crate::here::serve_here;
 use crate::kinds::{Kind, kind_asked};
 use crate::named::{NamesAnswered, serve_named};
-use crate::touching::{ask_needed, has_number, lend_for, missing, put_after};
+use crate::stock::Stock;
+use crate::touching::{ask_needed, free_number, lend_for, missing, put_after, see_request};
 use crate::tried::Tried;
-use ufs_base::Lack;
-use ufs_bitmap::Pool;
+use ufs_base::Memory;
 use ufs_held::HeldFile;
 use ufs_held_names::HeldNames;
 use ufs_home::Home;
@@ -40,6 +37,21 @@ use ufs_model::Actor;
 use ufs_msg::{Answer, Redirected, Request};
 use ufs_owner::{Owner, no_file_is_out};
 use ufs_turns::Turns;
+
+// The worker that has the file, where the request goes by a hint.
+fn worker_for<N: Naming>(home: &Home<N>, file: u32, hinted: bool) -> Option<u8>
+    ensures hinted { IfSome result (λ worker. hinted ≡ true) }
+    ensures has { IfSome result (λ worker. owner_at home.now.owners file ≡ owner.Worker worker) }
+    ensures none { IfNone result (hinted ≡ true → (worker : ℕ) → owner_at home.now.owners file ≢ owner.Worker worker) }
+{
+    if !hinted {
+        return None;
+    }
+    match home.owner_of(file) {
+        Owner::Worker(worker) => Some(worker),
+        _ => None,
+    }
+}
 
 // A request by a hint, whose file a worker has, is sent on to that.
 fn redirect<N: Naming>(home: &Home<N>, request: Request<N>, file: u32, worker: u8) -> Answer<N>
@@ -51,63 +63,6 @@ fn redirect<N: Naming>(home: &Home<N>, request: Request<N>, file: u32, worker: u
     // For the prover alone: a worker that the table names is there.
     let _server = home.server_of(file);
     Answer::Redirect(Redirected::new(request, Actor::Worker(worker)))
-}
-
-// A request on a file that isn't here.
-fn send_on<N: Naming>(home: &Home<N>, request: Request<N>, file: u32, hinted: bool) -> Tried<N>
-    requires kind { IsOnFile request.ask file }
-    requires hinted { is_by_hint request.ask.op ≡ hinted }
-    requires away { file_here home.now.places file ≡ None }
-    ensures { (visible : Bool) (tells : Option View) (names : NamesCell) (pool : BlockSet) → IsTried visible tells tells (stock_of names home.now pool) (stock_of names home.now pool) request result }
-{
-    if !hinted {
-        return Tried::Away { request, file };
-    }
-    match home.owner_of(file) {
-        Owner::Worker(worker) => {
-            let answer = redirect(home, request, file, worker);
-            Tried::Redirected { answer, file }
-        }
-        _ => Tried::Away { request, file },
-    }
-}
-
-// A request on a file.
-fn serve_on_file<N: Naming, T: Turns<N>>(
-    table: &HandTable<N>,
-    names: &mut HeldNames<N>,
-    geometry: &Geometry,
-    home: &mut Home<N>,
-    request: Request<N>,
-    file: u32,
-    hinted: bool,
-    pool: &mut Pool,
-    right: &mut Hand<N>,
-    door: &mut T,
-) -> Tried<N>
-    requires formed { IsGeometry geometry.now }
-    requires its { geometry.now ≡ N.start.geometry }
-    requires pool { HasPoolAlone (pool_of 0) pool.old right.old }
-    requires few { set.len pool.old ≤ most_at_rest }
-    requires kind { IsOnFile request.ask file }
-    requires hinted { is_by_hint request.ask.op ≡ hinted }
-    ensures pool { HasPoolAlone (pool_of 0) pool.new right.new }
-    ensures few { set.len pool.new ≤ most_at_rest }
-    ensures tried { IsTried N.start.is_visible (T.tells door.old) (T.tells door.new) (stock_of names.old home.old pool.old) (stock_of names.new home.new pool.new) request result }
-{
-    if !home.has(file) {
-        return send_on(home, request, file, hinted);
-    }
-    let held = match home.lend(file) {
-        Ok(held) => held,
-        Err(memory) => {
-            let lack = Lack::from(memory);
-            return Tried::Lacks { request, lack };
-        }
-    };
-    let (held, answer) = serve_here(table, names, geometry, held, request, pool, right, door);
-    home.put_back(held);
-    Tried::Answered(answer)
 }
 
 // A `sync`, with every live file.
@@ -140,150 +95,199 @@ fn sync_lent<N: Naming, T: Turns<N>>(
     )
 }
 
-// A `sync`.
-fn serve_all<N: Naming, T: Turns<N>>(
+// A request is excused for want of memory.
+fn lacking<N: Naming>(
     table: &HandTable<N>,
-    names: &mut HeldNames<N>,
-    geometry: &Geometry,
-    home: &mut Home<N>,
-    request: Request<N>,
-    pool: &Pool,
+    home: &Home<N>,
     right: &mut Hand<N>,
-    door: &mut T,
+    request: Request<N>,
+    memory: Memory,
 ) -> Tried<N>
-    requires formed { IsGeometry geometry.now }
-    requires its { geometry.now ≡ N.start.geometry }
-    requires pool { HasPoolAlone (pool_of 0) pool.now right.old }
-    requires sync { request.ask.op ≡ op.Sync }
-    requires here { AreHere names.old home.old }
-    ensures pool { HasPoolAlone (pool_of 0) pool.now right.new }
-    ensures tried { IsTried N.start.is_visible (T.tells door.old) (T.tells door.new) (stock_of names.old home.old pool.now) (stock_of names.new home.new pool.now) request result }
+    requires pool { (pool : BlockSet) × HasPoolAlone (pool_of 0) pool right.old }
+    ensures pool { (pool : BlockSet) → HasPoolAlone (pool_of 0) pool right.old → HasPoolAlone (pool_of 0) pool right.new }
+    ensures tried { (visible : Bool) (tells : Option View) (names : NamesCell) (pool : BlockSet) → IsTried visible tells tells (stock_of names home.now pool) (stock_of names home.now pool) request result }
 {
-    // For the prover alone.
-    let _ = pool;
-    no_file_is_out();
-    if let Some(file) = home.some_out() {
-        return Tried::Away { request, file };
-    }
-    let mut files = match home.lend_all() {
-        Ok(files) => files,
-        Err(memory) => {
-            let lack = Lack::from(memory);
-            return Tried::Lacks { request, lack };
-        }
-    };
-    let answer = sync_lent(table, names, geometry, &mut files, request, right, door);
-    home.put_back_all(files);
-    Tried::Answered(answer)
+    Tried::Answered(excuse(table, home, request, memory, right))
 }
 
-// A request of the names, and the file that it touches.
-fn serve_needed<N: Naming, T: Turns<N>>(
-    table: &HandTable<N>,
-    names: &mut HeldNames<N>,
-    geometry: &Geometry,
-    home: &mut Home<N>,
-    request: Request<N>,
-    needed: Option<u32>,
-    pool: &mut Pool,
-    right: &mut Hand<N>,
-    door: &mut T,
-) -> Tried<N>
-    requires formed { IsGeometry geometry.now }
-    requires its { geometry.now ≡ N.start.geometry }
-    requires pool { HasPoolAlone (pool_of 0) pool.old right.old }
-    requires few { set.len pool.old ≤ most_at_rest }
-    requires kind { IsByNames request.ask }
-    requires needed { IsNeeded names.old.value request.ask needed }
-    requires number { names.old.value.next < 2 ^ 31 }
-    requires free { file_here home.old.places names.old.value.next ≡ None }
-    ensures pool { HasPoolAlone (pool_of 0) pool.new right.new }
-    ensures few { set.len pool.new ≤ most_at_rest }
-    ensures tried { IsNamesTried N.start.is_visible (T.tells door.old) (T.tells door.new) (stock_of names.old home.old pool.old) (stock_of names.new home.new pool.new) request result }
-{
-    if let Some(file) = missing(home, needed) {
-        return Tried::Away { request, file };
-    }
-    let next = names.next_number();
-    let held = match lend_for(home, needed, next) {
-        Ok(held) => held,
-        Err(memory) => {
-            let lack = Lack::from(memory);
-            return Tried::Lacks { request, lack };
-        }
-    };
-    let NamesAnswered { answer, file, made } = serve_named(
-        table, names, geometry, home, held, request, pool, right, door,
-    );
-    put_after(home, needed, file, next, made);
-    Tried::Answered(answer)
-}
+impl<N: Naming> Stock<N> {
+    ghost use Rattle.std.specs.Prelude.{ℕ, ◌≡◌, ◌<◌, ◌^◌, Bool, IfSome, IsSome, None, Option, true};
+    ghost use Rattle.std.specs.FinMap as fin;
+    ghost use Rattle.ufs_held_names.specs.Asked.{IsNeeded};
+    ghost use Rattle.ufs_home.specs.Places.{file_here};
+    ghost use Rattle.ufs_joint.specs.Cells.{View};
+    ghost use Rattle.ufs_model.specs.declared.data.Op.TheVariants as op;
+    ghost use Rattle.ufs_msg.specs.There.{is_by_hint};
+    ghost use Rattle.ufs_at_primary.specs.Kinds.{IsByNames, IsOnFile};
+    ghost use Rattle.ufs_at_primary.specs.Served.{IsTried};
 
-// A request of the names.
-fn serve_by_names<N: Naming, T: Turns<N>>(
-    table: &HandTable<N>,
-    names: &mut HeldNames<N>,
-    geometry: &Geometry,
-    home: &mut Home<N>,
-    request: Request<N>,
-    pool: &mut Pool,
-    right: &mut Hand<N>,
-    door: &mut T,
-) -> Tried<N>
-    requires formed { IsGeometry geometry.now }
-    requires its { geometry.now ≡ N.start.geometry }
-    requires pool { HasPoolAlone (pool_of 0) pool.old right.old }
-    requires few { set.len pool.old ≤ most_at_rest }
-    requires kind { IsByNames request.ask }
-    ensures pool { HasPoolAlone (pool_of 0) pool.new right.new }
-    ensures few { set.len pool.new ≤ most_at_rest }
-    ensures tried { IsTried N.start.is_visible (T.tells door.old) (T.tells door.new) (stock_of names.old home.old pool.old) (stock_of names.new home.new pool.new) request result }
-{
-    if !has_number(names, home) {
-        return Tried::Lacks {
-            request,
-            lack: Lack::AtEnd,
+    // A request on a file that isn't here.
+    fn send_on(
+        &mut self,
+        table: &HandTable<N>,
+        request: Request<N>,
+        file: u32,
+        hinted: bool,
+    ) -> Tried<N>
+        requires kind { IsOnFile request.ask file }
+        requires hinted { is_by_hint request.ask.op ≡ hinted }
+        requires away { file_here self.old.home.places file ≡ None }
+        ensures { (visible : Bool) (tells : Option View) → IsTried visible tells tells self.old self.new request result }
+    {
+        if let Some(worker) = worker_for(&self.home, file, hinted) {
+            let answer = redirect(&self.home, request, file, worker);
+            return Tried::Redirected { answer, file };
+        }
+        let request = see_request(table, &mut self.names, &mut self.right, request);
+        Tried::Away { request, file }
+    }
+
+    // A request on a file.
+    fn serve_on_file<T: Turns<N>>(
+        &mut self,
+        table: &HandTable<N>,
+        request: Request<N>,
+        file: u32,
+        hinted: bool,
+        door: &mut T,
+    ) -> Tried<N>
+        requires kind { IsOnFile request.ask file }
+        requires hinted { is_by_hint request.ask.op ≡ hinted }
+        ensures { IsTried N.start.is_visible (T.tells door.old) (T.tells door.new) self.old self.new request result }
+    {
+        if !self.home.has(file) {
+            return self.send_on(table, request, file, hinted);
+        }
+        let held = match self.home.lend(file) {
+            Ok(held) => held,
+            Err(memory) => return lacking(table, &self.home, &mut self.right, request, memory),
         };
-    }
-    let (request, needed) = ask_needed(table, names, right, request);
-    match needed {
-        Ok(needed) => serve_needed(
-            table, names, geometry, home, request, needed, pool, right, door,
-        ),
-        Err(memory) => Tried::Lacks {
+        let (held, answer) = serve_here(
+            table,
+            &mut self.names,
+            &self.geometry,
+            held,
             request,
-            lack: Lack::from(memory),
-        },
+            &mut self.pool,
+            &mut self.right,
+            door,
+        );
+        self.home.put_back(held);
+        Tried::Answered(answer)
     }
-}
 
-/// Serves the request with what is here. Where it isn't served all is as it was.
-pub(crate) fn serve_any<N: Naming, T: Turns<N>>(
-    table: &HandTable<N>,
-    names: &mut HeldNames<N>,
-    geometry: &Geometry,
-    home: &mut Home<N>,
-    request: Request<N>,
-    pool: &mut Pool,
-    right: &mut Hand<N>,
-    door: &mut T,
-) -> Tried<N>
-    requires formed { IsGeometry geometry.now }
-    requires its { geometry.now ≡ N.start.geometry }
-    requires pool { HasPoolAlone (pool_of 0) pool.old right.old }
-    requires few { set.len pool.old ≤ most_at_rest }
-    requires here { AreHere names.old home.old }
-    ensures pool { HasPoolAlone (pool_of 0) pool.new right.new }
-    ensures few { set.len pool.new ≤ most_at_rest }
-    ensures tried { IsTried N.start.is_visible (T.tells door.old) (T.tells door.new) (stock_of names.old home.old pool.old) (stock_of names.new home.new pool.new) request result }
-{
-    let (request, kind) = kind_asked(request);
-    match kind {
-        Kind::OnFile { file, hinted } => serve_on_file(
-            table, names, geometry, home, request, file, hinted, pool, right, door,
-        ),
-        Kind::Names => serve_by_names(table, names, geometry, home, request, pool, right, door),
-        Kind::OnNone => Tried::Answered(serve_dir(table, names, request, right, door)),
-        Kind::All => serve_all(table, names, geometry, home, request, pool, right, door),
+    // A `sync`.
+    fn serve_all<T: Turns<N>>(
+        &mut self,
+        table: &HandTable<N>,
+        request: Request<N>,
+        door: &mut T,
+    ) -> Tried<N>
+        requires sync { request.ask.op ≡ op.Sync }
+        ensures { IsTried N.start.is_visible (T.tells door.old) (T.tells door.new) self.old self.new request result }
+    {
+        no_file_is_out();
+        if let Some(file) = self.home.some_out() {
+            return Tried::Away { request, file };
+        }
+        let mut files = match self.home.lend_all() {
+            Ok(files) => files,
+            Err(memory) => return lacking(table, &self.home, &mut self.right, request, memory),
+        };
+        let answer = sync_lent(
+            table,
+            &mut self.names,
+            &self.geometry,
+            &mut files,
+            request,
+            &mut self.right,
+            door,
+        );
+        self.home.put_back_all(files);
+        Tried::Answered(answer)
+    }
+
+    // A request of the names, with the file that it touches, which is here.
+    fn serve_touching<T: Turns<N>>(
+        &mut self,
+        table: &HandTable<N>,
+        request: Request<N>,
+        needed: Option<u32>,
+        door: &mut T,
+    ) -> Tried<N>
+        requires kind { IsByNames request.ask }
+        requires needed { IsNeeded self.old.names.value request.ask needed }
+        requires here { IfSome needed (λ file. IsSome (file_here self.old.home.places file)) }
+        requires below { (file : ℕ) → IsSome (fin.get self.old.names.value.held file) → file < self.old.names.value.next }
+        requires low { self.old.names.value.next < 2 ^ 31 }
+        ensures { IsTried N.start.is_visible (T.tells door.old) (T.tells door.new) self.old self.new request result }
+    {
+        let free = free_number(table, &mut self.names, &self.geometry, &mut self.home);
+        let next = match free {
+            Ok(next) => next,
+            Err(memory) => return lacking(table, &self.home, &mut self.right, request, memory),
+        };
+        let held = match lend_for(&mut self.home, needed, next) {
+            Ok(held) => held,
+            Err(memory) => return lacking(table, &self.home, &mut self.right, request, memory),
+        };
+        let NamesAnswered { answer, file, made } = serve_named(
+            table,
+            &mut self.names,
+            &self.geometry,
+            &self.home,
+            held,
+            request,
+            &mut self.pool,
+            &mut self.right,
+            door,
+        );
+        put_after(&mut self.home, needed, file, next, made);
+        Tried::Answered(answer)
+    }
+
+    // A request of the names.
+    fn serve_by_names<T: Turns<N>>(
+        &mut self,
+        table: &HandTable<N>,
+        request: Request<N>,
+        door: &mut T,
+    ) -> Tried<N>
+        requires kind { IsByNames request.ask }
+        ensures { IsTried N.start.is_visible (T.tells door.old) (T.tells door.new) self.old self.new request result }
+    {
+        let request = see_request(table, &mut self.names, &mut self.right, request);
+        let (request, needed) = ask_needed(&self.names, request);
+        let needed = match needed {
+            Ok(needed) => needed,
+            Err(memory) => return lacking(table, &self.home, &mut self.right, request, memory),
+        };
+        if let Some(file) = missing(&self.home, needed) {
+            return Tried::Away { request, file };
+        }
+        self.serve_touching(table, request, needed, door)
+    }
+
+    /// Serves the request with what is here, or excuses it for want of memory. Where it isn't served all is as it was.
+    pub fn serve<T: Turns<N>>(
+        &mut self,
+        table: &HandTable<N>,
+        request: Request<N>,
+        door: &mut T,
+    ) -> Tried<N>
+        ensures { IsTried N.start.is_visible (T.tells door.old) (T.tells door.new) self.old self.new request result }
+    {
+        let (request, kind) = kind_asked(request);
+        match kind {
+            Kind::OnFile { file, hinted } => {
+                self.serve_on_file(table, request, file, hinted, door)
+            }
+            Kind::Names => self.serve_by_names(table, request, door),
+            Kind::OnNone => {
+                let names = &mut self.names;
+                Tried::Answered(serve_dir(table, names, request, &mut self.right, door))
+            }
+            Kind::All => self.serve_all(table, request, door),
+        }
     }
 }

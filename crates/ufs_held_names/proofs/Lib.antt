@@ -15,4 +15,4 @@ mod Looking
 mod Births
 mod Answered
 pub mod Untold
-mod Refusing
+pub mod Refusing

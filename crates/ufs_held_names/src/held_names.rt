@@ -1,17 +1,18 @@
 // The names, what was noted of them, and the right to their cell.
-ghost use Rattle.std.specs.Prelude.{ℕ, ◌≡◌, ◌≢◌, ◌<◌, ◌≤◌, ◌+◌, ◌^◌, ◌++◌, ◌||◌, ◌⊎◌, cond, suc, [], true, false, Err, Some, None, IfErr, IfOk, IfSome, OnErr, OnOk, IsSome, eqb, is_some, length};
+ghost use Rattle.std.specs.Prelude.{ℕ, ◌≡◌, ◌≢◌, ◌<◌, ◌≤◌, ◌+◌, ◌*◌, ◌^◌, ◌++◌, ◌||◌, ◌⊎◌, cond, suc, [], true, false, Err, Some, None, IfErr, IfOk, IfSome, OnErr, OnOk, IsSome, eqb, is_some, length};
 ghost use Rattle.std.specs.FinMap as fin;
 ghost use Rattle.std.specs.FinSet as set;
 ghost use Rattle.ufs_bitmap.specs.Blocks.{BlockSet};
 ghost use Rattle.ufs_bitmap.specs.Taking.{set_of};
 ghost use Rattle.ufs_file.specs.Hand.{IsEntryOf, IsOf};
 ghost use Rattle.ufs_layout.specs.Areas.{IsGeometry};
-ghost use Rattle.ufs_model.specs.Asks.{fd_told};
+ghost use Rattle.ufs_model.specs.Asks.{fd_told, file_in};
 ghost use Rattle.ufs_model.specs.History.{is_excused};
 ghost use Rattle.ufs_model.specs.declared.data.Excuse.{Excuse};
 ghost use Rattle.ufs_model.specs.declared.data.Excuse.TheVariants as excuse;
 ghost use Rattle.ufs_model.specs.declared.data.Op.TheVariants as op;
 ghost use Rattle.ufs_model.specs.declared.data.Reply.TheVariants as reply;
+ghost use Rattle.ufs_names.specs.Calls.{IsOfNames};
 ghost use Rattle.ufs_names.specs.Space.{IsCause};
 ghost use Rattle.ufs_hand_laws.specs.Owned.{count};
 ghost use Rattle.ufs_hand_laws.specs.Parts.{ClientPart};
@@ -27,7 +28,7 @@ ghost use Rattle.ufs_held.specs.Births.{HasStill};
 ghost use Rattle.ufs_held.specs.Stopping.{ExcusesByStop, StopsByReply};
 ghost use Rattle.ufs_held.specs.Together.{under_numbers};
 ghost use Rattle.ufs_held_names.specs.Asked.{IsNamedApart, IsNeeded, number_of};
-ghost use Rattle.ufs_held_names.specs.Asking.{AsksNames, IsAnsweredNames};
+ghost use Rattle.ufs_held_names.specs.Asking.{AsksNames, IsAnsweredNames, IsToldBy};
 ghost use Rattle.ufs_held_names.specs.Come.{IsNewborn, IsStillThere, commits_of, files_of, files_then};
 ghost use Rattle.ufs_held_names.specs.Dirs.{AsksDir, answered};
 ghost use Rattle.ufs_held_names.specs.Drawn.{names_then};
@@ -37,7 +38,7 @@ ghost use Rattle.ufs_held_names.specs.SyncAll.{AreAllLive, AreSynced, AsksSync, 
 use crate::commits::{commit_lent, tell_lent};
 use crate::dirs::fsync_dir_lent;
 use crate::newborn::Newborn;
-use crate::seeing::{see_live, see_numbers};
+use crate::seeing::{see_asked, see_numbers};
 use crate::serving::serve_any;
 use crate::sync_all::{commit_all, sync_lent};
 use crate::syncs::fsync_lent;
@@ -148,23 +149,30 @@ impl<N: Naming> HeldNames<N> {
         file < self.reached
     }
 
-    /// The one live file that a request touches, if it does one: `serve` wants it. A `sync` touches all, and isn't asked for here. The
-    /// hand that comes with the request has its client and a pool, and stays as it was.
-    pub fn needed(
-        &mut self,
-        table: &HandTable<N>,
-        ask: &Ask,
-        guest: &mut Hand<N>,
-    ) -> Result<Option<u32>, Memory>
-        requires guest { (part : ClientPart) × (n : ℕ) × (pool : BlockSet) × IsGuest ask.now.client part n pool guest.old × AsksNames part ask.now }
+    /// The one live file that a request touches, if it does one: `serve` wants it. A `sync` touches all, and isn't asked for here.
+    pub fn needed(&self, ask: &Ask) -> Result<Option<u32>, Memory>
+        requires client { ask.now.client < 16 }
+        requires kind { IsOfNames ask.now }
+        requires one { ask.now.op ≢ op.Sync }
+        ensures { IfOk result (IsNeeded self.now.value ask.now) }
+    {
+        self.noted.needed(ask)
+    }
+
+    /// By a look: each file that the request touches, or is on, is live; each live one has a lower number than the next; and no more files
+    /// were made in the session than it may have requests. The hand that comes with the request has its client and a pool, and stays as it
+    /// was. Takes no memory.
+    pub fn see(&mut self, table: &HandTable<N>, ask: &Ask, guest: &mut Hand<N>)
+        requires guest { (part : ClientPart) × (n : ℕ) × (pool : BlockSet) × IsGuest ask.now.client part n pool guest.old × IsToldBy part ask.now }
         ensures same { self.new ≡ self.old }
         ensures still { HasStill guest.old guest.new }
-        ensures needed { IfOk result (IsNeeded self.old.value ask.now) }
-        ensures live { IfOk result (λ needed. IfSome needed (λ file. IsSome (fin.get self.old.value.held file))) }
+        ensures needed { (file : ℕ) → IsNeeded self.old.value ask.now (Some file) → IsSome (fin.get self.old.value.held file) }
+        ensures open { (file : ℕ) → file_in ask.now.desc ≡ Some file → IsSome (fin.get self.old.value.held file) }
+        ensures below { (file : ℕ) → IsSome (fin.get self.old.value.held file) → file < self.old.value.next }
+        ensures few { self.old.value.next ≤ N.start.tree.next + 16 * 65536 }
     {
         let HeldNames { noted, right, .. } = self;
-        see_live(table, right, noted, ask, guest);
-        noted.needed(ask)
+        see_asked(table, right, noted, ask, guest);
     }
 
     /// Serves a request of the names that commits nothing, with the one live file that it touches, if it does one: draws its entry, and

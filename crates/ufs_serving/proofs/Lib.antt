@@ -9,3 +9,4 @@ mod Sizes
 pub mod Answering
 pub mod Lacking
 pub mod Letters
+pub mod Visits

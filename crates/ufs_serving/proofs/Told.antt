@@ -1,11 +1,12 @@
 -- What is told of a request that was served.
-use Rattle.std.proofs.Common.{◌≡◌, ◌<◌, ℕ, Option, Some, None, refl, sym, ap, ◌∙◌, subst}
+use Rattle.std.proofs.Common.{◌≡◌, ◌<◌, ℕ, true, Option, Some, None, refl, sym, ap, ◌∙◌, subst}
 use Rattle.std.specs.Prelude.{IsSome}
 use Rattle.std.specs.FinMap as fin
 use Rattle.ufs_file.specs.Hand.{IsEntryOf}
 use Rattle.ufs_held.specs.Asking.{IsAnswered}
 use Rattle.ufs_joint.specs.Cells.{Start, View}
 use Rattle.ufs_joint.specs.FileHands.{own_desc}
+use Rattle.ufs_model.specs.FileCalls.{is_on_file}
 use Rattle.ufs_model.specs.declared.data.Actor.{Actor}
 use Rattle.ufs_model.specs.declared.data.Ask.{Ask}
 use Rattle.ufs_model.specs.declared.data.Desc.{Desc}
@@ -15,19 +16,19 @@ use Rattle.ufs_msg.specs.Answers.{IsTold}
 use Rattle.ufs_msg.specs.Requests.{HasClientAlone, IsAsked}
 use Rattle.ufs_msg.specs.There.{IsByHint, IsClientThere, IsServerThere}
 use Rattle.ufs_hand_laws.specs.Parts.{ClientPart}
-use Rattle.ufs_serving.proofs.Asked.{IsOnFd, on_fd}
+use Rattle.ufs_serving.proofs.Asked.{IsOnFd, hint_on_file, on_fd}
 
-module _ (k : Start) (ask : Ask) (before : View) (asked : IsAsked k ask before) (hinted : IsByHint ask) (by : Actor) (here : IsServerThere k by) (entry : Entry) (desc : Option Desc) (some : IsSome desc)
+module _ (k : Start) (ask : Ask) (before : View) (asked : IsAsked k ask before) (on_file : is_on_file ask.op ≡ true) (by : Actor) (here : IsServerThere k by) (entry : Entry) (desc : Option Desc) (some : IsSome desc)
     (of : IsEntryOf ask by entry.ticket entry) (after : ClientPart) (answered : IsAnswered asked.self entry desc after) (guest : View) (back : HasClientAlone ask.client after guest) where
   on : IsOnFd entry.op
-  on = subst IsOnFd (sym of.asked) (on_fd ask.op hinted.kind)
+  on = subst IsOnFd (sym of.asked) (on_fd ask.op on_file)
 
   desc_then : (o : Option Desc) → desc ≡ o → IsSome o → desc ≡ own_desc after.fds (Some on.fd)
   desc_then None is none = absurd cc
   desc_then (Some d) is so = is ∙ sym (ap (λ (p : ClientPart). fin.get p.fds on.fd) answered.is ∙ answered.this on.fd d on.named is)
 
-  pub told : IsTold k entry desc (Some by) None guest
-  told = record {
+  pub told_on_file : IsTold k entry desc (Some by) None guest
+  told_on_file = record {
     mine = subst (IsClientThere k) (sym of.client) asked.there;
     self = after;
     alone = subst (λ (c : ℕ). HasClientAlone c after guest) (sym of.client) back;
@@ -44,3 +45,6 @@ module _ (k : Start) (ask : Ask) (before : View) (asked : IsAsked k ask before) 
     granted = λ l is. absurd cc;
     unleased = ap (λ (p : ClientPart). p.copies) answered.is ∙ asked.unleased;
   }
+
+pub told : (k : Start) (ask : Ask) (before : View) (asked : IsAsked k ask before) → IsByHint ask → (by : Actor) → IsServerThere k by → (entry : Entry) (desc : Option Desc) → IsSome desc → IsEntryOf ask by entry.ticket entry → (after : ClientPart) → IsAnswered asked.self entry desc after → (guest : View) → HasClientAlone ask.client after guest → IsTold k entry desc (Some by) None guest
+told k ask before asked hinted = told_on_file k ask before asked (hint_on_file ask.op hinted.kind)

@@ -9,7 +9,7 @@ mod serving;
 mod syncing;
 
 pub use answers::{send_answer, send_answers, served_answer};
-pub use asking::{file_asked, know};
+pub use asking::{file_asked, know, know_on_file};
 pub use measure::measured;
 pub use pool::{fill, lend_pool, pool_number, rest, take_pool};
 pub use serving::serve_change;

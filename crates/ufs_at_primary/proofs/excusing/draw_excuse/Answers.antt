@@ -6,7 +6,8 @@ use Rattle.ufs_joint.specs.Draws.{MayDraw}
 use Rattle.ufs_model.specs.declared.data.Actor.TheVariants.{Primary}
 use Rattle.ufs_model.specs.declared.data.Excuse.{Excuse}
 use Rattle.ufs_model.specs.declared.data.Reply.TheVariants as reply
-use Rattle.ufs_at_primary.proofs.Excuses.{excused_guest, may_excuse}
+use Rattle.ufs_held_names.proofs.Refusing.{replied_guest}
+use Rattle.ufs_at_primary.proofs.Excuses.{may_excuse}
 use Rattle.ufs_at_primary.proofs.excusing.draw_excuse.Goals as goal
 
 pub draw_reply-entry-requires : goal.draw_reply-entry-requires
@@ -28,4 +29,4 @@ returns-clause-guest g c =
     let z = c.draw_reply-entry.new.hand in
     let t = c.draw_reply-entry.ensures in
     let drew : HasDrawnStill entry.ticket (fresh_of entry) v z = drawn_still entry.ticket (fresh_of entry) v z t.cells t.later in
-    λ part n pool came. excused_guest c.args.ask.client part n pool v z entry came t.entry.client drew
+    λ part n pool came. replied_guest c.args.ask.client part n pool v z entry came t.entry.client drew

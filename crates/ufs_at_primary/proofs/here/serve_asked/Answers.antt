@@ -1,7 +1,7 @@
 use Rattle.std.proofs.Common.{◌≢◌, ℕ, ap, arith, refl, sym, subst}
 use Rattle.ufs_crash_laws.specs.Changes.{asks_commit}
 use Rattle.ufs_at_primary.specs.Here.{IsDoneHere}
-use Rattle.ufs_at_primary.proofs.Asked.{commits_none}
+use Rattle.ufs_serving.proofs.Asked.{none_committed}
 use Rattle.ufs_at_primary.proofs.SyncedHere.{synced_number}
 use Rattle.ufs_joint.specs.FirstHand.{HasPoolAlone}
 use Rattle.ufs_serving.proofs.Lacking.{off_pool, some_of}
@@ -31,7 +31,7 @@ pub serve_change-requires-clause-pool : goal.serve_change-requires-clause-pool
 serve_change-requires-clause-pool g c = subst (λ (n : ℕ). HasPoolAlone n c.args.pool.now c.args.right.now) (sym c.pool_number-number.ensures) c.requires.pool
 
 pub serve_change-requires-clause-no_commit : goal.serve_change-requires-clause-no_commit
-serve_change-requires-clause-no_commit g c = commits_none c.args.ask.op c.requires.on_file c.in_default.not-Fsync
+serve_change-requires-clause-no_commit g c = none_committed c.args.ask.op c.requires.on_file c.in_default.not-Fsync
 
 pub serve_change-requires-clause-apart : goal.serve_change-requires-clause-apart
 serve_change-requires-clause-apart g c = subst (λ (n : ℕ). n ≢ c.args.held.value.file.file) (sym c.pool_number-number.ensures) (off_pool 0 c.args.held.value.file.file (omega arith) c.requires.low)
@@ -42,4 +42,4 @@ returns-clause-pool g c = subst (λ (n : ℕ). HasPoolAlone n c.serve_change.new
 pub returns-clause-done : goal.returns-clause-done
 returns-clause-done g c =
     subst (IsDoneHere g.N.Naming.start.is_visible (g.T.Turns.tells c.args.door.now) (g.T.Turns.tells c.serve_change.new.door) c.args.names.now c.args.names.now c.args.held c.serve_change.result.0 c.args.pool.now c.serve_change.new.pool c.args.ask c.serve_change.result.1.entry c.serve_change.result.1.desc)
-    (sym (commits_none c.args.ask.op c.requires.on_file c.in_default.not-Fsync)) (record { served = c.serve_change.ensures.done; names = refl; born = c.serve_change.ensures.born })
+    (sym (none_committed c.args.ask.op c.requires.on_file c.in_default.not-Fsync)) (record { served = c.serve_change.ensures.done; names = refl; born = c.serve_change.ensures.born })

@@ -6,32 +6,32 @@ use Rattle.ufs_model.specs.declared.data.Actor.TheVariants.{Primary}
 use Rattle.ufs_msg.specs.Answers.{Told}
 use Rattle.ufs_msg.specs.Requests.{Asked}
 use Rattle.ufs_at_primary.specs.Here.{IsServedHere}
-use Rattle.ufs_at_primary.proofs.Asked.{told_here}
+use Rattle.ufs_serving.proofs.Told.{told_on_file}
 use Rattle.ufs_at_primary.proofs.here.serve_here.Goals as goal
 
-pub know_here-requires-clause-on_file : goal.know_here-requires-clause-on_file
-know_here-requires-clause-on_file g c = subst (λ (r : Asked). is_on_file r.ask.op ≡ true) (sym c.into_parts-client.ensures.same) c.requires.on_file
+pub know_on_file-requires-clause-on_file : goal.know_on_file-requires-clause-on_file
+know_on_file-requires-clause-on_file g c = subst (λ (r : Asked). is_on_file r.ask.op ≡ true) (sym c.into_parts-client.ensures.same) c.requires.on_file
 
 pub serve_asked-held-requires-clause-asked : goal.serve_asked-held-requires-clause-asked
 serve_asked-held-requires-clause-asked g c =
-    let a = c.know_here.ensures.asked in
-    (a.self, a.alone, c.know_here.ensures.asks a.self a.alone)
+    let a = c.know_on_file.ensures.asked in
+    (a.self, a.alone, c.know_on_file.ensures.asks a.self a.alone)
 
 pub serve_asked-held-requires-clause-on_file : goal.serve_asked-held-requires-clause-on_file
 serve_asked-held-requires-clause-on_file g c = subst (λ (r : Asked). is_on_file r.ask.op ≡ true) (sym c.into_parts-client.ensures.same) c.requires.on_file
 
 pub serve_asked-held-requires-clause-bounded : goal.serve_asked-held-requires-clause-bounded
-serve_asked-held-requires-clause-bounded g c = c.know_here.ensures.asked.bounded
+serve_asked-held-requires-clause-bounded g c = c.know_on_file.ensures.asked.bounded
 
 pub serve_asked-held-requires-clause-named : goal.serve_asked-held-requires-clause-named
 serve_asked-held-requires-clause-named g c = subst (λ (r : Asked). IsOf r.ask.desc c.args.held.value.file.file) (sym c.into_parts-client.ensures.same) c.requires.named
 
 pub served_answer-requires : goal.served_answer-requires
 served_answer-requires g c =
-    let a = c.know_here.ensures.asked in
+    let a = c.know_on_file.ensures.asked in
     let on_file = subst (λ (r : Asked). is_on_file r.ask.op ≡ true) (sym c.into_parts-client.ensures.same) c.requires.on_file in
     let then = c.serve_asked-held.ensures.client a.self a.alone in
-    told_here g.N.Naming.start c.into_parts-client.result.1 c.know_here.new.hand a on_file c.serve_asked-held.result.1.entry c.serve_asked-held.result.1.desc c.serve_asked-held.ensures.desc
+    told_on_file g.N.Naming.start c.into_parts-client.result.1 c.know_on_file.new.hand a on_file Primary tt c.serve_asked-held.result.1.entry c.serve_asked-held.result.1.desc c.serve_asked-held.ensures.desc
     c.serve_asked-held.ensures.entry then.0 then.1 c.serve_asked-held.result.1.guest then.2
 
 pub returns-clause-served : goal.returns-clause-served

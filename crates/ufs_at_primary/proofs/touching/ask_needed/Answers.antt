@@ -1,63 +1,22 @@
-use Rattle.std.proofs.Common.{ℕ, sym, subst}
+use Rattle.std.proofs.Common.{◌≡◌, true, false, ap, sym, subst, ◌∙◌}
 use Rattle.std.specs.Prelude.{IfOk}
-use Rattle.ufs_joint.specs.FirstHand.{HasPoolAlone}
-use Rattle.ufs_held.specs.Asking.{IsGuest}
 use Rattle.ufs_held_names.specs.Asked.{IsNeeded}
 use Rattle.ufs_msg.specs.Requests.{Asked}
+use Rattle.ufs_crash_laws.specs.Changes.{asks_commit}
 use Rattle.ufs_at_primary.specs.Kinds.{IsByNames}
-use Rattle.ufs_at_primary.proofs.NamesTold.{asks_names}
-use Rattle.ufs_at_primary.proofs.Trials.{asked_by, guest_still, still_new}
 use Rattle.ufs_at_primary.proofs.touching.ask_needed.Goals as goal
-
-pub lend_pool-guest-requires : goal.lend_pool-guest-requires
-lend_pool-guest-requires g c =
-    let a = c.into_parts-client.ensures.asked in
-    let p = c.requires.pool in
-    record { pool = (4294967295, p.0, p.1); client = (c.into_parts-client.result.1.client, a.self, a.alone) }
 
 pub needed-needed-requires : goal.needed-needed-requires
 needed-needed-requires g c =
     let a = c.into_parts-client.ensures.asked in
-    let p = c.requires.pool in
-    let k = subst (λ (q : Asked). IsByNames q.ask) (sym c.into_parts-client.ensures.same) c.requires.kind in
-    record { guest = (a.self, 4294967295, p.0, c.lend_pool-guest.ensures.guest 4294967295 p.0 c.into_parts-client.result.1.client a.self p.1 a.alone, asks_names g.N.Naming.start c.into_parts-client.result.1 c.into_parts-client.result.0 a k.kind k.no_commit) }
-
-pub take_pool-client-requires : goal.take_pool-client-requires
-take_pool-client-requires g c =
-    let a = c.into_parts-client.ensures.asked in
-    let p = c.requires.pool in
-    let came = c.lend_pool-guest.ensures.guest 4294967295 p.0 c.into_parts-client.result.1.client a.self p.1 a.alone in
-    let still = guest_still c.into_parts-client.result.1.client a.self 4294967295 p.0 c.lend_pool-guest.result c.needed-needed.new.guest c.needed-needed.ensures.still came in
-    record {
-      none = c.lend_pool-guest.ensures.none;
-      guest = (c.into_parts-client.result.1.client, a.self, p.0, subst (λ (m : ℕ). IsGuest c.into_parts-client.result.1.client a.self m p.0 c.needed-needed.new.guest) (sym c.pool_number.ensures) still);
-    }
+    let k = subst (λ (q : Asked). IsByNames q.ask) (sym c.into_parts-client.ensures.same) c.requires in
+    record { client = a.low; kind = k.kind; one = λ is. (let clash : true ≡ false = sym (ap asks_commit is) ∙ k.no_commit in cc) }
 
 pub new-requires : goal.new-requires
-new-requires g c =
-    let a = c.into_parts-client.ensures.asked in
-    let p = c.requires.pool in
-    let came = c.lend_pool-guest.ensures.guest 4294967295 p.0 c.into_parts-client.result.1.client a.self p.1 a.alone in
-    let still = guest_still c.into_parts-client.result.1.client a.self 4294967295 p.0 c.lend_pool-guest.result c.needed-needed.new.guest c.needed-needed.ensures.still came in
-    asked_by g.N.Naming.start c.into_parts-client.result.1 c.into_parts-client.result.0 c.take_pool-client.result a
-    (c.take_pool-client.ensures.client c.into_parts-client.result.1.client a.self p.0 (subst (λ (m : ℕ). IsGuest c.into_parts-client.result.1.client a.self m p.0 c.needed-needed.new.guest) (sym c.pool_number.ensures) still))
+new-requires g c = c.into_parts-client.ensures.asked
 
-pub returns-clause-pool : goal.returns-clause-pool
-returns-clause-pool g c = λ pool mine.
-    let a = c.into_parts-client.ensures.asked in
-    let came = c.lend_pool-guest.ensures.guest 4294967295 pool c.into_parts-client.result.1.client a.self mine a.alone in
-    let still = guest_still c.into_parts-client.result.1.client a.self 4294967295 pool c.lend_pool-guest.result c.needed-needed.new.guest c.needed-needed.ensures.still came in
-    subst (λ (m : ℕ). HasPoolAlone m pool c.take_pool-client.new.right) c.pool_number.ensures
-    (c.take_pool-client.ensures.pool c.into_parts-client.result.1.client a.self pool (subst (λ (m : ℕ). IsGuest c.into_parts-client.result.1.client a.self m pool c.needed-needed.new.guest) (sym c.pool_number.ensures) still))
-
-pub returns-clause-still : goal.returns-clause-still
-returns-clause-still g c =
-    let r = c.into_parts-client.result in
-    let p = c.requires.pool in
-    still_new c.args.request c.new.result r.0 c.take_pool-client.result r.1 r.2 c.into_parts-client.ensures.same c.new.ensures (λ self mine.
-    let came = c.lend_pool-guest.ensures.guest 4294967295 p.0 r.1.client self p.1 mine in
-    let still = guest_still r.1.client self 4294967295 p.0 c.lend_pool-guest.result c.needed-needed.new.guest c.needed-needed.ensures.still came in
-    c.take_pool-client.ensures.client r.1.client self p.0 (subst (λ (m : ℕ). IsGuest r.1.client self m p.0 c.needed-needed.new.guest) (sym c.pool_number.ensures) still))
+pub returns-clause-same : goal.returns-clause-same
+returns-clause-same g c = c.new.ensures ∙ c.into_parts-client.ensures.same
 
 pub returns-clause-needed : goal.returns-clause-needed
-returns-clause-needed g c = subst (λ (q : Asked). IfOk c.needed-needed.result (IsNeeded c.args.names.now.value q.ask)) c.into_parts-client.ensures.same c.needed-needed.ensures.needed
+returns-clause-needed g c = subst (λ (q : Asked). IfOk c.needed-needed.result (IsNeeded c.args.names.now.value q.ask)) c.into_parts-client.ensures.same c.needed-needed.ensures

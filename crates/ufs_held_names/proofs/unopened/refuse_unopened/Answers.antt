@@ -4,7 +4,7 @@ use Rattle.ufs_hand_laws.specs.Draws.{left_faults}
 use Rattle.ufs_held.specs.Drawn.{fresh_of}
 use Rattle.ufs_held.specs.Together.{HasDrawnStill}
 use Rattle.ufs_held.proofs.Together.{drawn_still}
-use Rattle.ufs_held_names.proofs.Refusing.{may_refuse, refused_guest}
+use Rattle.ufs_held_names.proofs.Refusing.{may_refuse, replied_guest}
 use Rattle.ufs_held_names.proofs.unopened.refuse_unopened.Goals as goal
 
 pub draw_reply-entry-requires : goal.draw_reply-entry-requires
@@ -22,7 +22,7 @@ returns g c =
     record {
       entry = t.entry;
       replied = t.replied;
-      guest = λ part n pool came. refused_guest c.args.ask.client part n pool v z entry came t.entry.client drew;
+      guest = λ part n pool came. replied_guest c.args.ask.client part n pool v z entry came t.entry.client drew;
       faults = drew.faults ∙ ap (λ (r : Reply). left_faults r v.faults) t.replied;
       later = drew.later;
       seen = drew.seen;

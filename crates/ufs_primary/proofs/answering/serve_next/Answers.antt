@@ -1,43 +1,25 @@
-use Rattle.std.proofs.Common.{ap, inl, inr, refl}
-use Rattle.ufs_base.specs.Wanting.{wanting}
+use Rattle.std.proofs.Common.{◌≤◌, ap, arith, inl, inr, length, List, sym, ◌∙◌}
+use Rattle.ufs_msg.specs.There.{client_count}
 use Rattle.ufs_serving.specs.Posts.{all_said}
-use Rattle.ufs_primary.specs.Primary.{primary_of}
-use Rattle.ufs_primary.specs.declared.turn.PrimaryTurn.TheVariants as turn
-use Rattle.ufs_primary.proofs.Doing.{of_front, of_none, of_oldest}
+use Rattle.ufs_primary.proofs.Doing.{of_front, of_full, of_none, of_oldest}
 use Rattle.ufs_primary.proofs.answering.serve_next.Goals as goal
-
-pub returns-in-Err-clause-done : goal.returns-in-Err-clause-done
-returns-in-Err-clause-done g c = λ coming. inr (inr (inr (record {
-  memory = wanting;
-  says = ap turn.Lack c.from.ensures;
-  nothing = refl;
-  rest = (λ i. primary_of c.args.stock.now coming (all_said (c.reserve.ensures.items i)) c.args.waiting.now.items);
-})))
-
-pub returns-in-Err-reserve-clause-done : goal.returns-in-Err-reserve-clause-done
-returns-in-Err-reserve-clause-done g c = λ coming. inr (inr (inr (record {
-  memory = wanting;
-  says = ap turn.Lack c.from-in-Err-reserve.ensures;
-  nothing = refl;
-  rest = (λ i. primary_of c.args.stock.now coming (all_said (c.reserve.ensures.items i)) (c.reserve-2.ensures.items i));
-})))
 
 pub returns-in-Some-clause-done : goal.returns-in-Some-clause-done
 returns-in-Some-clause-done g c = λ coming. inl (of_oldest g.Q.ServerPost.answers g.Q.ServerPost.same g.Q.ServerPost.answers_full g.N.Naming.start.is_visible (g.T.Turns.tells c.args.door.now) (g.T.Turns.tells c.do_request.new.door)
-    c.args.stock.now c.take_waiting.new.self c.do_request.new.stock coming (all_said c.args.answers.now.items) (all_said c.reserve.new.self.items) (all_said c.do_request.new.answers.items) c.args.waiting.now.items c.reserve-2.new.self.items c.take_waiting.new.waiting.items c.do_request.new.waiting.items
-    c.in-Some.request c.args.post.now c.do_request.new.post c.do_request.result (λ i. all_said (c.reserve.ensures.items i)) c.reserve-2.ensures.items c.in-Some.ensures.taken (c.do_request.ensures.done coming))
+    c.args.stock.now c.take_waiting.new.stock c.do_request.new.stock coming (all_said c.args.answers.now.items) (all_said c.do_request.new.answers.items) c.args.waiting.now.items c.take_waiting.new.waiting.items c.do_request.new.waiting.items
+    c.in-Some.request c.args.post.now c.do_request.new.post c.do_request.result c.in-Some.ensures.taken (c.do_request.ensures.done coming))
 
 pub returns-in_default-take_ask-clause-done : goal.returns-in_default-take_ask-clause-done
 returns-in_default-take_ask-clause-done g c = λ coming.
     let none = c.in_default-take_waiting.ensures.taken in
     let empty = c.in_default-take_ask.ensures.taken in
-    inr (inr (inl (of_none g.Q.ServerPost.answers g.Q.ServerPost.same g.Q.ServerPost.answers_full g.N.Naming.start.is_visible (g.T.Turns.tells c.args.door.now) (g.T.Turns.tells c.args.door.now) g.Q.ServerPost.gets_ask g.Q.ServerPost.asks_empty
-    c.args.stock.now c.take_waiting.new.self coming (all_said c.args.answers.now.items) (all_said c.reserve.new.self.items) c.args.waiting.now.items c.reserve-2.new.self.items c.take_waiting.new.waiting.items
-    c.args.post.now c.take_ask.new.self (λ i. all_said (c.reserve.ensures.items i)) c.reserve-2.ensures.items none.0 none.1 none.2 empty.0 empty.1)))
+    inr (inr (inl (of_none g.Q.ServerPost.answers g.Q.ServerPost.same g.Q.ServerPost.answers_full g.N.Naming.start.is_visible (g.T.Turns.tells c.args.door.now) (g.T.Turns.tells c.args.door.now) (client_count g.N.Naming.start) g.Q.ServerPost.gets_ask g.Q.ServerPost.asks_empty
+    c.args.stock.now c.take_waiting.new.stock coming (all_said c.args.answers.now.items) c.args.waiting.now.items c.take_waiting.new.waiting.items
+    c.args.post.now c.take_ask.new.self none.0 none.1 none.2 empty.0 empty.1)))
 
 pub returns-clause-done : goal.returns-clause-done
 returns-clause-done g c = λ coming.
     let none = c.in_default-take_waiting.ensures.taken in
-    inr (inl (of_front g.Q.ServerPost.answers g.Q.ServerPost.same g.Q.ServerPost.answers_full g.N.Naming.start.is_visible (g.T.Turns.tells c.args.door.now) (g.T.Turns.tells c.do_request-2.new.door) g.Q.ServerPost.gets_ask g.Q.ServerPost.asks_empty
-    c.args.stock.now c.take_waiting.new.self c.do_request-2.new.stock coming (all_said c.args.answers.now.items) (all_said c.reserve.new.self.items) (all_said c.do_request-2.new.answers.items) c.args.waiting.now.items c.reserve-2.new.self.items c.take_waiting.new.waiting.items c.do_request-2.new.waiting.items
-    c.in-Some-take_ask.request c.args.post.now c.take_ask.new.self c.do_request-2.new.post c.do_request-2.result (λ i. all_said (c.reserve.ensures.items i)) c.reserve-2.ensures.items none.0 none.1 none.2 c.in-Some-take_ask.ensures.taken (c.do_request-2.ensures.done coming)))
+    inr (inl (of_front g.Q.ServerPost.answers g.Q.ServerPost.same g.Q.ServerPost.answers_full g.N.Naming.start.is_visible (g.T.Turns.tells c.args.door.now) (g.T.Turns.tells c.do_request-2.new.door) (client_count g.N.Naming.start) g.Q.ServerPost.gets_ask g.Q.ServerPost.asks_empty
+    c.args.stock.now c.take_waiting.new.stock c.do_request-2.new.stock coming (all_said c.args.answers.now.items) (all_said c.do_request-2.new.answers.items) c.args.waiting.now.items c.take_waiting.new.waiting.items c.do_request-2.new.waiting.items
+    c.in-Some-take_ask.request c.args.post.now c.take_ask.new.self c.do_request-2.new.post c.do_request-2.result none.0 none.1 none.2 c.in-Some-take_ask.ensures.taken (c.do_request-2.ensures.done coming)))

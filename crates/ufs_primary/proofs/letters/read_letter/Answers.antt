@@ -5,11 +5,11 @@ use Rattle.ufs_primary.specs.Letters.{IsLetterDone}
 use Rattle.ufs_primary.specs.declared.turn.PrimaryTurn.TheVariants as turn
 use Rattle.ufs_primary.proofs.letters.read_letter.Goals as goal
 
-pub returns-in-Parcel : goal.returns-in-Parcel
-returns-in-Parcel g c = subst (λ (l : Letter FileCell). IsLetterDone c.args.home.now c.settle.new.home c.settle.new.coming l c.settle.result) (sym c.in-Parcel.is) c.settle.ensures
+pub returns-in-Parcel-clause-done : goal.returns-in-Parcel-clause-done
+returns-in-Parcel-clause-done g c = subst (λ (l : Letter FileCell). IsLetterDone c.args.stock.now.home c.settle.new.stock.home c.settle.new.coming l c.settle.result) (sym c.in-Parcel.is) c.settle.ensures.settled
 
-pub returns-in-Recall : goal.returns-in-Recall
-returns-in-Recall g c = subst (λ (l : Letter FileCell). IsLetterDone c.args.home.now c.args.home.now c.args.coming.now l None) (sym c.in-Recall.is) (refl, refl, c.requires)
+pub returns-in-Recall-clause-done : goal.returns-in-Recall-clause-done
+returns-in-Recall-clause-done g c = subst (λ (l : Letter FileCell). IsLetterDone c.args.stock.now.home c.args.stock.now.home c.args.coming.now l None) (sym c.in-Recall.is) (refl, refl, c.requires)
 
-pub returns : goal.returns
-returns g c = subst (λ (l : Letter FileCell). IsLetterDone c.args.home.now c.args.home.now c.args.coming.now l (Some turn.Noted)) (sym c.in-Report.is) (refl, refl, c.requires)
+pub returns-clause-done : goal.returns-clause-done
+returns-clause-done g c = subst (λ (l : Letter FileCell). IsLetterDone c.args.stock.now.home c.args.stock.now.home c.args.coming.now l (Some turn.Noted)) (sym c.in-Report.is) (refl, refl, c.requires)

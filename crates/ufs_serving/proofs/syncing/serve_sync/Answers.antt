@@ -1,7 +1,7 @@
-use Rattle.std.proofs.Common.{ℕ, refl, sym, subst}
-use Rattle.ufs_held.specs.Asking.{IsGuest}
+use Rattle.std.proofs.Common.{refl}
+use Rattle.ufs_held.specs.Asking.{IsAnswered}
+use Rattle.ufs_serving.proofs.Visits.{client_back, pool_back, visited}
 use Rattle.ufs_serving.proofs.syncing.serve_sync.Goals as goal
-use Rattle.ufs_joint.specs.FirstHand.{HasPoolAlone}
 
 pub lend_pool-guest-requires : goal.lend_pool-guest-requires
 lend_pool-guest-requires g c =
@@ -17,33 +17,20 @@ sync-entry-requires-clause-guest g c =
 pub take_pool-guest-requires : goal.take_pool-guest-requires
 take_pool-guest-requires g c =
     let a = c.requires.asked in
-    let n = c.args.number in
-    let off = c.requires.apart in
-    let came = c.lend_pool-guest.ensures.guest n c.args.pool.now c.args.ask.client a.0 c.requires.pool a.1 in
-    let then = c.sync-entry.ensures.guest a.0 n c.args.pool.now came off in
-    record {
-      none = c.lend_pool-guest.ensures.none;
-      guest = (c.args.ask.client, then.0, c.args.pool.now, then.2);
-    }
+    let e = c.sync-entry in
+    let v = visited c.args.right.now c.args.client c.lend_pool-guest.result e.result.guest c.lend_pool-guest.ensures.guest c.args.ask.client c.args.number c.args.pool.now c.args.pool.now c.requires.pool a.0 a.1 (IsAnswered a.0 e.result.entry e.result.desc) (λ came. e.ensures.guest a.0 c.args.number c.args.pool.now came c.requires.apart) in
+    record { none = c.lend_pool-guest.ensures.none; guest = (c.args.ask.client, v.0, c.args.pool.now, v.2) }
 
 pub returns-clause-pool : goal.returns-clause-pool
 returns-clause-pool g c =
     let a = c.requires.asked in
-    let n = c.args.number in
-    let off = c.requires.apart in
-    let came = c.lend_pool-guest.ensures.guest n c.args.pool.now c.args.ask.client a.0 c.requires.pool a.1 in
-    let then = c.sync-entry.ensures.guest a.0 n c.args.pool.now came off in
-    let back = then.2 in
-    c.take_pool-guest.ensures.pool c.args.ask.client then.0 c.args.pool.now back
+    let e = c.sync-entry in
+    pool_back c.args.right.now c.args.client c.lend_pool-guest.result e.result.guest c.lend_pool-guest.ensures.guest c.args.ask.client c.args.number c.args.pool.now c.args.pool.now c.requires.pool a.0 a.1 (IsAnswered a.0 e.result.entry e.result.desc) (λ came. e.ensures.guest a.0 c.args.number c.args.pool.now came c.requires.apart) c.take_pool-guest.new.right c.take_pool-guest.ensures.pool
 
 pub returns-clause-client : goal.returns-clause-client
 returns-clause-client g c = λ part alone.
-    let n = c.args.number in
-    let off = c.requires.apart in
-    let came = c.lend_pool-guest.ensures.guest n c.args.pool.now c.args.ask.client part c.requires.pool alone in
-    let then = c.sync-entry.ensures.guest part n c.args.pool.now came off in
-    let back = then.2 in
-    (then.0, then.1, c.take_pool-guest.ensures.client c.args.ask.client then.0 c.args.pool.now back)
+    let e = c.sync-entry in
+    client_back c.args.right.now c.args.client c.lend_pool-guest.result e.result.guest c.lend_pool-guest.ensures.guest c.args.ask.client c.args.number c.args.pool.now c.args.pool.now c.requires.pool part alone (IsAnswered part e.result.entry e.result.desc) (λ came. e.ensures.guest part c.args.number c.args.pool.now came c.requires.apart) c.take_pool-guest.result c.take_pool-guest.ensures.client
 
 pub returns-clause-done : goal.returns-clause-done
 returns-clause-done g c =

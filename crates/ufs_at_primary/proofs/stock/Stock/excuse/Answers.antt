@@ -11,7 +11,7 @@ excuse-requires g c = record { pool = (c.self.inside.pool, c.self.invariant.hand
 pub invariant_of-self : goal.invariant_of-self
 invariant_of-self g c =
     let h = c.self.invariant in
-    record { formed = h.formed; its = h.its; hand = c.excuse.ensures.pool c.self.inside.pool h.hand; few = h.few; here = h.here }
+    record { formed = h.formed; its = h.its; numbers = h.numbers; hand = c.excuse.ensures.pool c.self.inside.pool h.hand; few = h.few; here = h.here }
 
 pub returns-clause-excused : goal.returns-clause-excused
 returns-clause-excused g c =

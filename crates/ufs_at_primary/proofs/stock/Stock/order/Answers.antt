@@ -15,6 +15,7 @@ invariant_of-self g c =
     record {
       formed = h.formed;
       its = h.its;
+      numbers = h.numbers;
       hand = o.ensures.pool f.pool h.hand;
       few = h.few;
       here = here_ordered g.N.Naming.start.is_visible (stock_of f.names f.home f.pool) (stock_of o.new.names o.new.home f.pool) c.args.file c.args.to o.result (o.ensures.ordered f.pool) h.here;

@@ -13,6 +13,7 @@ invariant_of-self g c =
     record {
       formed = h.formed;
       its = h.its;
+      numbers = h.numbers;
       hand = h.hand;
       few = h.few;
       here = here_gone (λ w p m q. g.Q.ServerPost.sends p (Worker w) (letter_of m) q) g.Q.ServerPost.same (λ p w. g.Q.ServerPost.letters_full p (Worker w)) (worker_count g.N.Naming.start) f.names f.home c.send_letters.new.self c.args.post.now c.send_letters.new.post

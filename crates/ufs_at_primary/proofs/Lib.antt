@@ -1,0 +1,9 @@
+mod NamesTold
+mod Excuses
+mod DirsTold
+mod AllTold
+mod SyncedHere
+mod Beside
+mod AtHome
+mod Trials
+mod Births

@@ -1,0 +1,2 @@
+use Rattle.std.proofs.Common.{refl, sym, ◌∙◌}
+use Rattle.ufs_at_primary.proofs.stock.Stock.await_file.Goals as goal
