@@ -6,4 +6,5 @@ mod SyncedHere
 mod Beside
 mod AtHome
 mod Trials
+mod Outcomes
 mod Births

@@ -1,2 +1,2 @@
-use Rattle.std.proofs.Common.{sym, ◌∙◌}
+use Rattle.std.proofs.Common.{◌≡◌, true, sym, ◌∙◌}
 use Rattle.ufs_at_primary.proofs.trying.worker_for.Goals as goal

@@ -1,30 +1,35 @@
-use Rattle.std.proofs.Common.{ap, refl, ◌∙◌}
-use Rattle.ufs_home.specs.Home.{HomeState}
-use Rattle.ufs_home.specs.Lending.{put_all}
-use Rattle.ufs_at_primary.specs.Stock.{stock_of}
-use Rattle.ufs_at_primary.specs.Served.{All, FromAll}
-use Rattle.ufs_at_primary.proofs.Trials.{away_still, same_still, wants}
+use Rattle.std.proofs.Common.{◌≢◌, refl, subst, ◌∙◌}
+use Rattle.ufs_owner.specs.Owners.{owner_at}
+use Rattle.ufs_owner.specs.declared.owner.Owner.TheVariants as owner
+use Rattle.ufs_at_primary.specs.Served.{OfAll}
+use Rattle.ufs_at_primary.specs.Stock.{StockState, stock_of}
+use Rattle.ufs_at_primary.specs.declared.tried.Tried.TheVariants as tried
+use Rattle.ufs_at_primary.proofs.AtHome.{here_tried}
+use Rattle.ufs_at_primary.proofs.Outcomes.{on_all, tried_from}
+use Rattle.ufs_at_primary.proofs.Trials.{away_still, same_still}
 use Rattle.ufs_at_primary.proofs.trying.Stock.serve_all.Goals as goal
 
-pub returns-in-Some-clause-tried : goal.returns-in-Some-clause-tried
-returns-in-Some-clause-tried g c = (same_still c.args.request, FromAll c.requires.sync c.in-Some.ensures, refl, refl)
+pub returns-in-Some : goal.returns-in-Some
+returns-in-Some g c = (same_still c.args.request, record { out = subst (λ (s : StockState). owner_at s.home.owners c.in-Some.file ≢ owner.Primary) c.self.view_is c.in-Some.ensures; wants = OfAll c.requires.sync }, refl, refl)
 
-pub returns-in-Err-clause-tried : goal.returns-in-Err-clause-tried
-returns-in-Err-clause-tried g c = (
-  same_still c.args.request,
-  wants (stock_of c.args.names.now c.args.home.now c.args.pool.now) c.args.request.ask c.from-lack.result c.in-Err.memory c.from-lack.ensures,
-  ap (λ (h : HomeState). stock_of c.args.names.now h c.args.pool.now) c.in-Err.ensures.kept,
-  refl,
-)
+pub lacking-requires : goal.lacking-requires
+lacking-requires g c = record { pool = (c.self.inside.pool, c.self.invariant.hand) }
+
+pub returns-in-Err : goal.returns-in-Err
+returns-in-Err g c =
+    let f = c.self.inside in
+    let tells = g.T.Turns.tells c.args.door.now in
+    let t = stock_of f.names c.lend_all.new.self f.pool in
+    tried_from g.N.Naming.start.is_visible tells tells t c.args.self.now t c.args.request c.lacking.result ((λ i. stock_of f.names (c.in-Err.ensures.kept i) f.pool) ∙ c.self.view_is) (c.lacking.ensures.tried g.N.Naming.start.is_visible tells f.names f.pool)
 
 pub sync_lent-answer-requires-clause-pool : goal.sync_lent-answer-requires-clause-pool
-sync_lent-answer-requires-clause-pool g c = (c.args.pool.now, c.requires.pool)
+sync_lent-answer-requires-clause-pool g c = (c.self.inside.pool, c.self.invariant.hand)
 
 pub sync_lent-answer-requires-clause-all : goal.sync_lent-answer-requires-clause-all
 sync_lent-answer-requires-clause-all g c =
     let lent = c.in-Ok.ensures.lent in
     let away = lent.away in
-    record { live = λ f is. c.in-Ok.ensures.all f (c.requires.here f is (c.no_file_is_out.ensures c.args.home.now.owners f c.in_default.ensures)); once = away.once }
+    record { live = λ f is. c.in-Ok.ensures.all f (c.self.invariant.here f is (c.no_file_is_out.ensures c.self.inside.home.owners f c.in_default.ensures)); once = away.once }
 
 pub sync_lent-answer-requires-clause-low : goal.sync_lent-answer-requires-clause-low
 sync_lent-answer-requires-clause-low g c = c.in-Ok.ensures.low
@@ -36,27 +41,14 @@ put_back_all-requires g c =
     let lent = c.in-Ok.ensures.lent in
     away_still c.lend_all.new.self.places c.in-Ok.files.items c.sync_lent-answer.new.files.items done.numbers lent.away
 
-pub returns-clause-pool : goal.returns-clause-pool
-returns-clause-pool g c = c.sync_lent-answer.ensures.pool c.args.pool.now c.requires.pool
-
-pub returns-clause-tried : goal.returns-clause-tried
-returns-clause-tried g c =
-    let s = c.sync_lent-answer.ensures.served in
-    let done = s.2 in
+pub returns : goal.returns
+returns g c =
+    let f = c.self.inside in
+    let e = c.sync_lent-answer in
+    let before = g.T.Turns.tells c.args.door.now in
+    let after = g.T.Turns.tells e.new.door in
     let lent = c.in-Ok.ensures.lent in
     let away = lent.away in
-    let mid = c.lend_all.new.self.places in
-    let nows = c.sync_lent-answer.new.files.items in (
-      s.0,
-      s.1,
-      All (record {
-        kind = c.requires.sync;
-        olds = c.in-Ok.files.items;
-        nows = nows;
-        lent = mid;
-        here = lent;
-        all = record { live = λ f is. c.in-Ok.ensures.all f (c.requires.here f is (c.no_file_is_out.ensures c.args.home.now.owners f c.in_default.ensures)); once = away.once };
-        served = done;
-        rest = ap (λ (h : HomeState). stock_of c.sync_lent-answer.new.names h c.args.pool.now) (c.put_back_all.ensures ∙ ap (λ (h : HomeState). record h { places = put_all mid nows }) c.in-Ok.ensures.rest);
-      }),
-    )
+    tried_from g.N.Naming.start.is_visible before after (stock_of f.names f.home f.pool) c.args.self.now (stock_of e.new.names c.put_back_all.new.self f.pool) c.args.request (tried.Answered e.result) c.self.view_is
+    (on_all g.N.Naming.start.is_visible before after f.names e.new.names f.pool f.pool c.args.request e.result f.home c.lend_all.new.self c.put_back_all.new.self c.in-Ok.files.items e.new.files.items c.requires.sync lent
+    (record { live = λ n is. c.in-Ok.ensures.all n (c.self.invariant.here n is (c.no_file_is_out.ensures f.home.owners n c.in_default.ensures)); once = away.once }) c.in-Ok.ensures.rest c.put_back_all.ensures refl e.ensures.served)

@@ -1,28 +1,29 @@
-use Rattle.std.proofs.Common.{◌<◌, ◌^◌, ℕ, ap, refl, sym, subst, ◌∙◌}
+use Rattle.std.proofs.Common.{◌≡◌, ◌<◌, ◌^◌, ℕ, None, ap, refl, sym, subst, ◌∙◌}
 use Rattle.std.specs.FinMap as fin
 use Rattle.ufs_file.specs.Hand.{IsOf}
 use Rattle.ufs_home.specs.Home.{HomeState}
-use Rattle.ufs_at_primary.specs.Stock.{stock_of}
-use Rattle.ufs_at_primary.specs.Served.{OnFile}
-use Rattle.ufs_at_primary.proofs.Trials.{back_home, lent_place, none_is, of_file, same_still, wants}
+use Rattle.ufs_home.specs.Places.{file_here}
+use Rattle.ufs_msg.specs.Answers.{Told}
+use Rattle.ufs_msg.specs.declared.answer.Answer.TheVariants as says
+use Rattle.ufs_at_primary.specs.Served.{IsServed, IsTried, OnFile}
+use Rattle.ufs_at_primary.specs.Stock.{AreHere, StockState, stock_of}
+use Rattle.ufs_at_primary.specs.declared.tried.Tried.TheVariants as tried
+use Rattle.ufs_at_primary.proofs.AtHome.{here_tried}
+use Rattle.ufs_at_primary.proofs.Outcomes.{on_file, tried_from}
+use Rattle.ufs_at_primary.proofs.Trials.{lent_place, none_is, of_file}
 use Rattle.ufs_at_primary.proofs.trying.Stock.serve_on_file.Goals as goal
 
 pub send_on-requires-clause-away : goal.send_on-requires-clause-away
-send_on-requires-clause-away g c = none_is _ (sym c.has.ensures ∙ c.if-not-has.true)
+send_on-requires-clause-away g c = subst (λ (s : StockState). file_here s.home.places c.args.file ≡ None) c.self.view_is (none_is _ (sym c.has.ensures ∙ c.if-not-has.true))
 
-pub returns-then-not-has-clause-tried : goal.returns-then-not-has-clause-tried
-returns-then-not-has-clause-tried g c = c.send_on.ensures g.N.Naming.start.is_visible (g.T.Turns.tells c.args.door.now) c.args.names.now c.args.pool.now
+pub returns-then-not-has : goal.returns-then-not-has
+returns-then-not-has g c = c.send_on.ensures g.N.Naming.start.is_visible (g.T.Turns.tells c.args.door.now)
 
 pub lend-requires : goal.lend-requires
 lend-requires g c = sym c.has.ensures ∙ c.if-not-has.false
 
-pub returns-in-Err-clause-tried : goal.returns-in-Err-clause-tried
-returns-in-Err-clause-tried g c = (
-  same_still c.args.request,
-  wants (stock_of c.args.names.now c.args.home.now c.args.pool.now) c.args.request.ask c.from-lack.result c.in-Err.memory c.from-lack.ensures,
-  ap (λ (h : HomeState). stock_of c.args.names.now h c.args.pool.now) c.in-Err.ensures.kept,
-  refl,
-)
+pub lacking-requires : goal.lacking-requires
+lacking-requires g c = record { pool = (c.self.inside.pool, c.self.invariant.hand) }
 
 pub serve_here-held-requires-clause-on_file : goal.serve_here-held-requires-clause-on_file
 serve_here-held-requires-clause-on_file g c = let k = c.requires.kind in k.kind
@@ -36,7 +37,7 @@ pub put_back-requires-clause-empty : goal.put_back-requires-clause-empty
 put_back-requires-clause-empty g c =
     let s = c.serve_here-held.ensures.served in
     let here = s.2 in
-    ap (fin.get c.lend.new.self.places) (here.number ∙ c.in-Ok.ensures.number) ∙ lent_place c.args.home.now c.lend.new.self c.args.file c.in-Ok.ensures.lent
+    ap (fin.get c.lend.new.self.places) (here.number ∙ c.in-Ok.ensures.number) ∙ lent_place c.self.inside.home c.lend.new.self c.args.file c.in-Ok.ensures.lent
 
 pub put_back-requires-clause-low : goal.put_back-requires-clause-low
 put_back-requires-clause-low g c =
@@ -44,19 +45,18 @@ put_back-requires-clause-low g c =
     let here = s.2 in
     subst (λ (n : ℕ). n < 2 ^ 31) (sym here.number) c.in-Ok.ensures.low
 
-pub returns-clause-tried : goal.returns-clause-tried
-returns-clause-tried g c =
-    let s = c.serve_here-held.ensures.served in
-    let here = s.2 in (
-      s.0,
-      s.1,
-      OnFile (record {
-        file = c.args.file;
-        kind = c.requires.kind;
-        was = c.in-Ok.held;
-        is = c.serve_here-held.result.0;
-        here = c.in-Ok.ensures.file;
-        served = here;
-        home = back_home c.args.home.now c.lend.new.self c.put_back.new.self c.args.file c.serve_here-held.result.0.value.file.file c.serve_here-held.result.0 c.in-Ok.ensures.lent (here.number ∙ c.in-Ok.ensures.number) c.put_back.ensures;
-      }),
-    )
+pub returns-in-Err : goal.returns-in-Err
+returns-in-Err g c =
+    let f = c.self.inside in
+    let tells = g.T.Turns.tells c.args.door.now in
+    let t = stock_of f.names c.lend.new.self f.pool in
+    tried_from g.N.Naming.start.is_visible tells tells t c.args.self.now t c.args.request c.lacking.result ((λ i. stock_of f.names (c.in-Err.ensures.kept i) f.pool) ∙ c.self.view_is) (c.lacking.ensures.tried g.N.Naming.start.is_visible tells f.names f.pool)
+
+pub returns : goal.returns
+returns g c =
+    let f = c.self.inside in
+    let e = c.serve_here-held in
+    let before = g.T.Turns.tells c.args.door.now in
+    let after = g.T.Turns.tells e.new.door in
+    tried_from g.N.Naming.start.is_visible before after (stock_of f.names f.home f.pool) c.args.self.now (stock_of e.new.names c.put_back.new.self e.new.pool) c.args.request (tried.Answered e.result.1) c.self.view_is
+    (on_file g.N.Naming.start.is_visible before after f.names e.new.names f.pool e.new.pool c.args.request e.result.1 f.home c.lend.new.self c.put_back.new.self c.args.file c.in-Ok.held e.result.0 c.requires.kind c.in-Ok.ensures.file c.in-Ok.ensures.number c.in-Ok.ensures.lent c.put_back.ensures e.ensures.served)
