@@ -33,7 +33,6 @@ MAY = {
     "ufs_image_paths/src/opened.rt": {"Lack::AtEnd": 1},
     "ufs_links/src/links.rt": {"Lack::AtEnd": 1},
     "ufs_owner/src/table.rt": {"Lack::AtEnd": 1},
-    "ufs_primary/src/trying.rt": {"Lack::AtEnd": 1},
     "ufs_recovery/src/plan.rt": {"Lack::AtEnd": 1},
     "ufs_server/src/fetching.rt": {"Lack::AtEnd": 1},
     "ufs_start/src/numbers.rt": {"Lack::AtEnd": 1},

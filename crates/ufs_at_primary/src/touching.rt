@@ -31,7 +31,7 @@ pub(crate) fn see_request<N: Naming>(
     ensures names { names.new ≡ names.old }
     ensures still { IsStill request result }
     ensures needed { (file : ℕ) → IsNeeded names.old.value request.ask (Some file) → IsSome (fin.get names.old.value.held file) }
-    ensures open { (file : ℕ) → file_in request.ask.desc ≡ Some file → IsSome (fin.get names.old.value.held file) }
+    ensures opened { (file : ℕ) → file_in request.ask.desc ≡ Some file → IsSome (fin.get names.old.value.held file) }
     ensures below { (file : ℕ) → IsSome (fin.get names.old.value.held file) → file < names.old.value.next }
     ensures few { names.old.value.next ≤ N.start.tree.next + 16 * 65536 }
 {
@@ -56,8 +56,8 @@ pub(crate) fn ask_needed<N: Naming>(
     (Request::new(client, ask, leases_back), needed)
 }
 
-/// The next file number. No file is here under that: it would be live, and each live one has a lower number.
-pub(crate) fn free_number<N: Naming>(
+// The next file number. No file is here under that: it would be live, and each live one has a lower number.
+fn free_number<N: Naming>(
     table: &HandTable<N>,
     names: &mut HeldNames<N>,
     geometry: &Geometry,
@@ -122,8 +122,8 @@ fn give_back<N: Naming>(home: &mut Home<N>, held: Option<HeldFile<N>>)
     }
 }
 
-/// The file, if there is one, is lent, and there is a place for a new file. Where memory for that is wanting all is as it was.
-pub(crate) fn lend_for<N: Naming>(
+// The file, if there is one, is lent, and there is a place for a new file. Where memory for that is wanting all is as it was.
+fn lend_for<N: Naming>(
     home: &mut Home<N>,
     file: Option<u32>,
     next: u32,
@@ -141,6 +141,32 @@ pub(crate) fn lend_for<N: Naming>(
         return Err(memory);
     }
     Ok(held)
+}
+
+/// The same with the next file number, which comes with the file. Where memory is wanting all is as it was.
+pub(crate) fn lend_touched<N: Naming>(
+    table: &HandTable<N>,
+    names: &mut HeldNames<N>,
+    geometry: &Geometry,
+    home: &mut Home<N>,
+    file: Option<u32>,
+) -> Result<(u32, Option<HeldFile<N>>), Memory>
+    requires formed { IsGeometry geometry.now }
+    requires its { geometry.now ≡ N.start.geometry }
+    requires below { (file : ℕ) → IsSome (fin.get names.old.value.held file) → file < names.old.value.next }
+    requires here { IfSome file (λ f. IsSome (file_here home.old.places f)) }
+    ensures names { names.new ≡ names.old }
+    ensures next { IfOk result (λ lent. lent.0 ≡ names.old.value.next) }
+    ensures free { IfOk result (λ lent. file_here home.old.places lent.0 ≡ None) }
+    ensures number { IfOk result (λ lent. number_of lent.1 ≡ file) }
+    ensures here { IfOk result (λ lent. IfSome lent.1 (λ c. file_here home.old.places c.value.file.file ≡ Some c)) }
+    ensures low { IfOk result (λ lent. IfSome lent.1 (λ c. c.value.file.file < 2 ^ 31)) }
+    ensures lent { IfOk result (λ lent. home.new ≡ record home.old { places = lent_with home.old.places lent.1 lent.0 }) }
+    ensures kept { OnErr result (home.new ≡ home.old) }
+{
+    let next = free_number(table, names, geometry, home)?;
+    let held = lend_for(home, file, next)?;
+    Ok((next, held))
 }
 
 // The file that the request made goes to the place that was made for it.

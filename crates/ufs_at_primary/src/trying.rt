@@ -25,7 +25,7 @@ use crate::here::serve_here;
 use crate::kinds::{Kind, kind_asked};
 use crate::named::{NamesAnswered, serve_named};
 use crate::stock::Stock;
-use crate::touching::{ask_needed, free_number, lend_for, missing, put_after, see_request};
+use crate::touching::{ask_needed, lend_touched, missing, put_after, see_request};
 use crate::tried::Tried;
 use ufs_base::Memory;
 use ufs_held::HeldFile;
@@ -222,13 +222,15 @@ impl<N: Naming> Stock<N> {
         requires low { self.old.names.value.next < 2 ^ 31 }
         ensures { IsTried N.start.is_visible (T.tells door.old) (T.tells door.new) self.old self.new request result }
     {
-        let free = free_number(table, &mut self.names, &self.geometry, &mut self.home);
-        let next = match free {
-            Ok(next) => next,
-            Err(memory) => return lacking(table, &self.home, &mut self.right, request, memory),
-        };
-        let held = match lend_for(&mut self.home, needed, next) {
-            Ok(held) => held,
+        let lent = lend_touched(
+            table,
+            &mut self.names,
+            &self.geometry,
+            &mut self.home,
+            needed,
+        );
+        let (next, held) = match lent {
+            Ok(lent) => lent,
             Err(memory) => return lacking(table, &self.home, &mut self.right, request, memory),
         };
         let NamesAnswered { answer, file, made } = serve_named(

@@ -167,7 +167,7 @@ impl<N: Naming> HeldNames<N> {
         ensures same { self.new ≡ self.old }
         ensures still { HasStill guest.old guest.new }
         ensures needed { (file : ℕ) → IsNeeded self.old.value ask.now (Some file) → IsSome (fin.get self.old.value.held file) }
-        ensures open { (file : ℕ) → file_in ask.now.desc ≡ Some file → IsSome (fin.get self.old.value.held file) }
+        ensures opened { (file : ℕ) → file_in ask.now.desc ≡ Some file → IsSome (fin.get self.old.value.held file) }
         ensures below { (file : ℕ) → IsSome (fin.get self.old.value.held file) → file < self.old.value.next }
         ensures few { self.old.value.next ≤ N.start.tree.next + 16 * 65536 }
     {

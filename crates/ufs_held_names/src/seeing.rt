@@ -44,7 +44,7 @@ pub(crate) fn see_asked<N: Naming>(
     ensures same { first_names noted.now right.new.names ≡ first_names noted.now right.old.names }
     ensures still { HasStill guest.old guest.new }
     ensures needed { (file : ℕ) → IsNeeded noted.now.names ask.now (Some file) → IsSome (fin.get noted.now.names.held file) }
-    ensures open { (file : ℕ) → file_in ask.now.desc ≡ Some file → IsSome (fin.get noted.now.names.held file) }
+    ensures opened { (file : ℕ) → file_in ask.now.desc ≡ Some file → IsSome (fin.get noted.now.names.held file) }
     ensures below { (file : ℕ) → IsSome (fin.get noted.now.names.held file) → file < noted.now.names.next }
     ensures few { noted.now.names.next ≤ N.start.tree.next + 16 * 65536 }
 {

@@ -62,6 +62,6 @@ pub returns-clause-needed : goal.returns-clause-needed
 returns-clause-needed g c =
     subst (λ (q : Asked). (file : ℕ) → IsNeeded c.args.names.now.value q.ask (Some file) → IsSome (fin.get c.args.names.now.value.held file)) c.into_parts-client.ensures.same c.see.ensures.needed
 
-pub returns-clause-open : goal.returns-clause-open
-returns-clause-open g c =
-    subst (λ (q : Asked). (file : ℕ) → file_in q.ask.desc ≡ Some file → IsSome (fin.get c.args.names.now.value.held file)) c.into_parts-client.ensures.same c.see.ensures.open
+pub returns-clause-opened : goal.returns-clause-opened
+returns-clause-opened g c =
+    subst (λ (q : Asked). (file : ℕ) → file_in q.ask.desc ≡ Some file → IsSome (fin.get c.args.names.now.value.held file)) c.into_parts-client.ensures.same c.see.ensures.opened

@@ -49,5 +49,6 @@ returns g c =
       telling = t.telling;
       halts = t.halts;
       halted = t.halted;
+      stopped = t.stopped;
       refused = t.refused;
     }

@@ -46,7 +46,7 @@ returns g c =
             omega (arith, l, m, s, t);
       };
       needed = needed_lives g.N.Naming.start c.look.result c.join.new.self c.look.ensures.knows f.0 held.cell f.1 f.2 c.args.ask.now has x held.value f.4;
-      open = open_lives g.N.Naming.start c.look.result c.join.new.self c.look.ensures.knows f.0 held.cell f.1 f.2 c.args.ask.now has x held.value f.4;
+      opened = open_lives g.N.Naming.start c.look.result c.join.new.self c.look.ensures.knows f.0 held.cell f.1 f.2 c.args.ask.now has x held.value f.4;
       below = below_next g.N.Naming.start c.look.result c.join.new.self c.look.ensures.knows f.0 held.cell f.1 f.2 c.args.ask.now has x held.value f.4;
       few = few_made g.N.Naming.start c.look.result c.join.new.self c.look.ensures.knows f.0 held.cell f.1 f.2 c.args.ask.now has x held.value f.4;
     }

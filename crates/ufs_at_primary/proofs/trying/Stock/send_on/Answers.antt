@@ -43,10 +43,9 @@ returns g c = λ visible tells.
     let was = stock_of f.names f.home f.pool in
     let away = subst (λ (s : StockState). file_here s.home.places c.args.file ≡ None) (sym c.self.view_is) c.requires.away in
     let none = c.in_default.ensures.none in
-    subst (λ (s : StockState). IsTried visible tells tells s (stock_of c.see_request-request.new.names f.home f.pool) c.args.request (tried.Away c.see_request-request.result c.args.file)) c.self.view_is
-    (
+    subst (λ (s : StockState). IsTried visible tells tells s (stock_of c.see_request-request.new.names f.home f.pool) c.args.request (tried.Away c.see_request-request.result c.args.file)) c.self.view_is (
       e.still,
-      record { out = is_out was c.args.file c.self.invariant.here (e.open c.args.file kind.of) away; wants = OnIt kind away (λ yes worker is. none (sym c.requires.hinted ∙ yes) worker is) },
+      record { out = is_out was c.args.file c.self.invariant.here (e.opened c.args.file kind.of) away; wants = OnIt kind away (λ yes worker is. none (sym c.requires.hinted ∙ yes) worker is) },
       ap (λ (n : NamesCell). stock_of n f.home f.pool) e.names,
       refl,
     )

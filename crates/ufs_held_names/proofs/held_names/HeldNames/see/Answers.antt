@@ -24,9 +24,9 @@ pub returns-clause-needed : goal.returns-clause-needed
 returns-clause-needed g c =
     subst (λ (n : Noted). (file : ℕ) → IsNeeded n.names c.args.ask.now (Some file) → IsSome (fin.get n.names.held file)) (seen_noted c.self.inside.noted c.self.inside.right c.self.invariant.0 c.args.self.now c.self.view_is) c.see_asked.ensures.needed
 
-pub returns-clause-open : goal.returns-clause-open
-returns-clause-open g c =
-    subst (λ (n : Noted). (file : ℕ) → file_in c.args.ask.now.desc ≡ Some file → IsSome (fin.get n.names.held file)) (seen_noted c.self.inside.noted c.self.inside.right c.self.invariant.0 c.args.self.now c.self.view_is) c.see_asked.ensures.open
+pub returns-clause-opened : goal.returns-clause-opened
+returns-clause-opened g c =
+    subst (λ (n : Noted). (file : ℕ) → file_in c.args.ask.now.desc ≡ Some file → IsSome (fin.get n.names.held file)) (seen_noted c.self.inside.noted c.self.inside.right c.self.invariant.0 c.args.self.now c.self.view_is) c.see_asked.ensures.opened
 
 pub returns-clause-below : goal.returns-clause-below
 returns-clause-below g c =
