@@ -1,7 +1,7 @@
 use Rattle.std.proofs.Common.{refl}
 use Rattle.ufs_held.specs.Asking.{IsAnswered}
 use Rattle.ufs_serving.proofs.Visits.{client_back, pool_back, visited}
-use Rattle.ufs_at_primary.proofs.syncing.sync_here.Goals as goal
+use Rattle.ufs_at_primary.proofs.here.sync_here.Goals as goal
 
 pub lend_pool-guest-requires : goal.lend_pool-guest-requires
 lend_pool-guest-requires g c =
