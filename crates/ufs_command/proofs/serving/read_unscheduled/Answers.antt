@@ -6,15 +6,6 @@ use Rattle.ufs_command.specs.Unscheduled.{BreaksUnscheduled}
 use Rattle.ufs_command.proofs.UnscheduledLemmas.{breaks, reads, refuses}
 use Rattle.ufs_command.proofs.serving.read_unscheduled.Goals as goal
 
-pub returns-in-Ok-None-clause-script : goal.returns-in-Ok-None-clause-script
-returns-in-Ok-None-clause-script g c = reads (g.S.Source.left c.args.source.now) (g.S.Source.left c.read_placed.new.source) c.in-Ok.placed c.in-Ok.ensures.placed c.in-Ok-None.is
-
-pub returns-in-Ok-Some-clause-broken : goal.returns-in-Ok-Some-clause-broken
-returns-in-Ok-Some-clause-broken g c f is inside =
-    let same : fault.NotBuilt c.in-Ok-Some.line ≡ f = cc in
-    subst (λ (e : ScriptFault). BreaksUnscheduled (g.S.Source.left c.args.source.now) (g.S.Source.left c.read_placed.new.source) e) same
-    (refuses (g.S.Source.left c.args.source.now) (g.S.Source.left c.read_placed.new.source) c.in-Ok.placed c.in-Ok-Some.line c.in-Ok.ensures.placed c.in-Ok-Some.is)
-
 pub returns-in-Err-clause-broken : goal.returns-in-Err-clause-broken
 returns-in-Err-clause-broken g c f is inside =
     let same : c.in-Err.fault ≡ f = cc in
