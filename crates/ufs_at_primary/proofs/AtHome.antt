@@ -1,6 +1,6 @@
 -- Each live file that the table has at the primary is here, still.
 use Rattle.std.proofs.Common.{◌≡◌, ◌≢◌, ℕ, zero, suc, ◌⊎◌, inl, inr, Bool, true, false, cond, List, [], ◌∷◌, Option, Some, None, is_some, Result, Ok, Err, OnOk, OnErr, refl, ap, sym, ◌∙◌, subst}
-use Rattle.std.specs.Prelude.{IfSome, IsSome}
+use Rattle.std.specs.Prelude.{IfOk, IfSome, IsSome}
 use Rattle.std.specs.Cmp.{nat_cmp_total}
 use Rattle.std.specs.FinMap as fin
 use Rattle.std.specs.FinMap.{nat_cmp-IsAntisymmetric}
@@ -40,7 +40,7 @@ use Rattle.ufs_at_primary.specs.All.{IsAllSynced, numbers_in}
 use Rattle.ufs_at_primary.specs.Dirs.{IsDirDone}
 use Rattle.ufs_at_primary.specs.Here.{IsDoneHere}
 use Rattle.ufs_at_primary.specs.Named.{IsDoneByNames}
-use Rattle.ufs_at_primary.specs.Noted.{IsUnnoted, unwaited, waited_for}
+use Rattle.ufs_at_primary.specs.Noted.{unwaited, waited_for}
 use Rattle.ufs_at_primary.specs.Orders.{IsFileOrdered, IsNoFile, IsObeyed, IsReadied}
 use Rattle.ufs_at_primary.specs.Stock.{AreHere, StockState}
 use Rattle.ufs_at_primary.specs.Served.{All, ByNames, IsServed, IsTried, Lacked, OnFile, OnNone, back_in, emptied, lent_with, made_in, places_then}
@@ -117,13 +117,9 @@ here_waiting names h file xs here = here_owners names h (record h { owners = wit
 pub here_unwaited : (names : NamesCell) (h : HomeState) (file client : ℕ) → AreHere names h → AreHere names (unwaited h file client)
 here_unwaited names h file client here = here_waiting names h file _ here
 
-here_unnoted : (names : NamesCell) (h g : HomeState) (file : ℕ) → IsUnnoted h g file → AreHere names h → AreHere names g
-here_unnoted names h g file (inl e) here = subst (AreHere names) (sym e) here
-here_unnoted names h g file (inr e) here = subst (AreHere names) (sym e) (here_called names h file here)
-
-pub here_awaited : {A E : Type 0} (names : NamesCell) (h g : HomeState) (file client : ℕ) (x : Result A E) → OnOk x (g ≡ waited_for (called_for h file) file client) → OnErr x (IsUnnoted h g file) → AreHere names h → AreHere names g
-here_awaited names h g file client (Ok x) noted unnoted here = subst (AreHere names) (sym noted) (here_waiting names (called_for h file) file _ (here_called names h file here))
-here_awaited names h g file client (Err e) noted unnoted here = here_unnoted names h g file unnoted here
+pub here_awaited : {A E : Type 0} (names : NamesCell) (h m g : HomeState) (file client : ℕ) (x : Result A E) → m ≡ called_for h file → OnOk x (g ≡ waited_for m file client) → OnErr x (g ≡ m) → AreHere names h → AreHere names g
+here_awaited names h m g file client (Ok x) asked noted same here = subst (AreHere names) (sym noted) (here_waiting names m file _ (subst (AreHere names) (sym asked) (here_called names h file here)))
+here_awaited names h m g file client (Err e) asked noted same here = subst (AreHere names) (sym (same ∙ asked)) (here_called names h file here)
 
 pub here_gone : {Q : Type 0} (sends : ℕ → Q → Mailed → Q → Type 0) (same : Q → Q → Type 0) (full : Q → ℕ → Type 0) (n : ℕ) (names : NamesCell) (h g : HomeState) (p q : Q) → RingsGo sends same full n h.letters g.letters h.owners g.owners p q
     → g.places ≡ h.places → AreHere names h → AreHere names g
@@ -156,9 +152,13 @@ here_sent names h file c to here f live at =
     let was = moved_before h.owners file f (Going to) 0 (λ e. cc) at in
     else_here h.places file None f was.0 (here f live was.1)
 
-pub here_come : (names : NamesCell) (h : HomeState) (c : FileCell) (to : ℕ) → AreHere names h → AreHere names (come_on h c to)
+here_come : (names : NamesCell) (h : HomeState) (c : FileCell) (to : ℕ) → AreHere names h → AreHere names (come_on h c to)
 here_come names h c zero here = here_home names h c here
 here_come names h c (suc n) here = here_sent names (come_home h c) c.value.file.file c (suc n) (here_home names h c here)
+
+pub here_came : {E : Type 0} (names : NamesCell) (h g : HomeState) (c : FileCell) (x : Result ℕ E) → IfOk x (λ to. g ≡ come_on h c to) → OnErr x (g ≡ h) → AreHere names h → AreHere names g
+here_came names h g c (Ok to) came same here = subst (AreHere names) (sym came) (here_come names h c to here)
+here_came names h g c (Err e) came same here = subst (AreHere names) (sym same) here
 
 -- ---- as requests are served
 

@@ -126,10 +126,11 @@ impl<N: Naming> Stock<N> {
         self.home.send_letters(post);
     }
 
-    /// A file that was coming is here; where a worker is noted, and nobody waits for it, it goes on. It comes back where it wasn't coming,
-    /// or its number is here, or with what is lacking, where there is no room for it: all is as it was then.
-    pub fn come(&mut self, parcel: Parcel<N>) -> Result<(), (Option<Lack>, Parcel<N>)>
-        ensures ok { OnOk result (self.new.home ≡ come_on self.old.home parcel (onward self.old.home.owners parcel.value.file.file)) }
+    /// A file that was coming is here; where a worker is noted, and nobody waits for it, it goes on. Answers that worker, or 0. It comes
+    /// back where it wasn't coming, or its number is here, or with what is lacking, where there is no room for it: all is as it was then.
+    pub fn come(&mut self, parcel: Parcel<N>) -> Result<u8, (Option<Lack>, Parcel<N>)>
+        ensures ok { IfOk result (λ to. self.new.home ≡ come_on self.old.home parcel to) }
+        ensures to { IfOk result (λ to. to ≡ onward self.old.home.owners parcel.value.file.file) }
         ensures coming { OnOk result (is_coming (owner_at self.old.home.owners parcel.value.file.file) ≡ true) }
         ensures back { IfErr result (λ x. x.1 ≡ parcel) }
         ensures refused { IfErr result (λ x. x.0 ≡ None → (is_coming (owner_at self.old.home.owners parcel.value.file.file) ≡ false) ⊎ IsSome (file_here self.old.home.places parcel.value.file.file)) }
@@ -138,10 +139,7 @@ impl<N: Naming> Stock<N> {
         ensures err { OnErr result (self.new.home ≡ self.old.home) }
         ensures rest { self.new ≡ record self.old { home = self.new.home } }
     {
-        match self.home.come(parcel) {
-            Ok(_to) => Ok(()),
-            Err(refused) => Err(refused),
-        }
+        self.home.come(parcel)
     }
 
     /// The file is asked for, where it is elsewhere, and the client waits for it, behind those that do already.

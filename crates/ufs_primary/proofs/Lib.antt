@@ -2,3 +2,4 @@ mod Turning
 mod Oldest
 mod Waits
 mod Doing
+mod Rooms

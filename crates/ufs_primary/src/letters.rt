@@ -68,7 +68,7 @@ fn settle<N: Naming>(
     ensures rest { stock.new ≡ record stock.old { home = stock.new.home } }
 {
     match stock.come(parcel) {
-        Ok(()) => Some(PrimaryTurn::Settled),
+        Ok(_to) => Some(PrimaryTurn::Settled),
         Err((lack, back)) => {
             *coming = Some(back);
             match lack {

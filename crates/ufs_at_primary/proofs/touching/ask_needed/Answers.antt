@@ -9,7 +9,7 @@ use Rattle.ufs_at_primary.proofs.touching.ask_needed.Goals as goal
 pub needed-needed-requires : goal.needed-needed-requires
 needed-needed-requires g c =
     let a = c.into_parts-client.ensures.asked in
-    let k = subst (λ (q : Asked). IsByNames q.ask) (sym c.into_parts-client.ensures.same) c.requires in
+    let k = subst (λ (q : Asked). IsByNames q.ask) (sym c.into_parts-client.ensures.same) c.requires.kind in
     record { client = a.low; kind = k.kind; one = λ is. (let clash : true ≡ false = sym (ap asks_commit is) ∙ k.no_commit in cc) }
 
 pub new-requires : goal.new-requires

@@ -5,5 +5,5 @@ use Rattle.ufs_home.specs.Places.{file_here}
 use Rattle.ufs_at_primary.specs.Served.{lent_with}
 use Rattle.ufs_at_primary.proofs.touching.lend_touched.Goals as goal
 
-pub lend_for-held-requires : goal.lend_for-held-requires
-lend_for-held-requires g c = subst (λ (h : HomeState). IfSome c.args.file (λ f. IsSome (file_here h.places f))) (sym c.free_number-next.ensures.home) c.requires.here
+pub lend_for-requires : goal.lend_for-requires
+lend_for-requires g c = subst (λ (h : HomeState). IfSome c.args.file (λ f. IsSome (file_here h.places f))) (sym c.free_number.ensures.home) c.requires.here

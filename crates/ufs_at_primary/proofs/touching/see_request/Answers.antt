@@ -19,7 +19,7 @@ pub see-requires : goal.see-requires
 see-requires g c =
     let a = c.into_parts-client.ensures.asked in
     let p = c.requires.pool in
-    (a.self, 4294967295, p.0, c.lend_pool-guest.ensures.guest 4294967295 p.0 c.into_parts-client.result.1.client a.self p.1 a.alone, a.told)
+    record { guest = (a.self, 4294967295, p.0, c.lend_pool-guest.ensures.guest 4294967295 p.0 c.into_parts-client.result.1.client a.self p.1 a.alone, a.told) }
 
 pub take_pool-client-requires : goal.take_pool-client-requires
 take_pool-client-requires g c =

@@ -1,4 +1,6 @@
+use Rattle.std.proofs.Common.{ap, ◌∙◌}
+use Rattle.ufs_home.specs.Home.{come_on}
 use Rattle.ufs_primary.proofs.letters.settle.Goals as goal
 
 pub returns-in-Ok-clause-settled : goal.returns-in-Ok-clause-settled
-returns-in-Ok-clause-settled g c = (c.in-Ok.ensures.coming, c.in-Ok.ensures.ok, c.requires)
+returns-in-Ok-clause-settled g c = (c.in-Ok.ensures.coming, c.in-Ok.ensures.ok ∙ ap (come_on c.args.stock.now.home c.args.parcel) c.in-Ok.ensures.to, c.requires)

@@ -1,10 +1,8 @@
-use Rattle.std.proofs.Common.{◌≡◌, inl, inr, ap, sym, subst, ◌∙◌}
-use Rattle.std.specs.Prelude.{OnErr, OnOk}
-use Rattle.ufs_home.specs.Home.{HomeState, called_for}
-use Rattle.ufs_at_primary.specs.Noted.{IsUnnoted, waited_for}
-use Rattle.ufs_at_primary.specs.Stock.{AreHere, StockState, stock_of}
 use Rattle.ufs_at_primary.proofs.AtHome.{here_awaited}
 use Rattle.ufs_at_primary.proofs.stock.Stock.await_file.Goals as goal
 
-pub returns-clause-rest : goal.returns-clause-rest
-returns-clause-rest g c = ap (λ (s : StockState). record s { home = c.wait.new.self }) c.self.view_is
+pub invariant_of-self-2 : goal.invariant_of-self-2
+invariant_of-self-2 g c =
+    let h = c.self.invariant in
+    let f = c.self.inside in
+    record { formed = h.formed; its = h.its; numbers = h.numbers; hand = h.hand; few = h.few; here = here_awaited f.names f.home c.call_for.new.self c.wait.new.self c.args.file c.args.client c.wait.result c.in_ok-call_for.ensures.ok c.wait.ensures.ok c.wait.ensures.err h.here }

@@ -1,39 +1,39 @@
-use Rattle.std.proofs.Common.{◌≡◌, ◌⊎◌, None, Option, false, true, ap, sym, subst, ◌∙◌}
-use Rattle.std.specs.Prelude.{IfSome, IsSome}
-use Rattle.ufs_base.specs.declared.lack.Lack.{Lack}
-use Rattle.ufs_home.specs.Home.{HomeState, come_on, onward}
+use Rattle.std.proofs.Common.{◌≡◌, ◌⊎◌, None, false, true, ap, subst}
+use Rattle.std.specs.Prelude.{IfErr, IfOk, IfSome, IsSome, OnErr, OnOk}
+use Rattle.ufs_home.specs.Home.{come_on, onward}
 use Rattle.ufs_home.specs.Places.{file_here}
 use Rattle.ufs_owner.specs.Lacks.{IsLackOut}
 use Rattle.ufs_owner.specs.Owners.{is_coming, owner_at}
-use Rattle.ufs_at_primary.specs.Stock.{AreHere, StockState, stock_of}
-use Rattle.ufs_at_primary.proofs.AtHome.{here_come}
+use Rattle.ufs_at_primary.specs.Stock.{StockState}
+use Rattle.ufs_at_primary.proofs.AtHome.{here_came}
 use Rattle.ufs_at_primary.proofs.stock.Stock.come.Goals as goal
 
-pub returns-in-Ok-clause-ok : goal.returns-in-Ok-clause-ok
-returns-in-Ok-clause-ok g c =
+pub invariant_of-self : goal.invariant_of-self
+invariant_of-self g c =
+    let h = c.self.invariant in
     let f = c.self.inside in
-    let n = c.args.parcel.value.file.file in
-    c.in-Ok.ensures.ok ∙ ap (come_on f.home c.args.parcel) c.in-Ok.ensures.to ∙ ap (λ (s : StockState). come_on s.home c.args.parcel (onward s.home.owners n)) c.self.view_is
+    record { formed = h.formed; its = h.its; numbers = h.numbers; hand = h.hand; few = h.few; here = here_came f.names f.home c.come.new.self c.args.parcel c.come.result c.come.ensures.ok c.come.ensures.err h.here }
 
-pub returns-in-Ok-clause-coming : goal.returns-in-Ok-clause-coming
-returns-in-Ok-clause-coming g c = subst (λ (s : StockState). is_coming (owner_at s.home.owners c.args.parcel.value.file.file) ≡ true) c.self.view_is c.in-Ok.ensures.coming
+pub returns-clause-ok : goal.returns-clause-ok
+returns-clause-ok g c = subst (λ (s : StockState). IfOk c.come.result (λ to. c.come.new.self ≡ come_on s.home c.args.parcel to)) c.self.view_is c.come.ensures.ok
 
-pub returns-in-Ok-clause-rest : goal.returns-in-Ok-clause-rest
-returns-in-Ok-clause-rest g c = ap (λ (s : StockState). record s { home = c.come.new.self }) c.self.view_is
+pub returns-clause-to : goal.returns-clause-to
+returns-clause-to g c = subst (λ (s : StockState). IfOk c.come.result (λ to. to ≡ onward s.home.owners c.args.parcel.value.file.file)) c.self.view_is c.come.ensures.to
 
-pub returns-in-Err-clause-refused : goal.returns-in-Err-clause-refused
-returns-in-Err-clause-refused g c =
-    subst (λ (s : StockState). c.in-Err.refused.0 ≡ None → (is_coming (owner_at s.home.owners c.args.parcel.value.file.file) ≡ false) ⊎ IsSome (file_here s.home.places c.args.parcel.value.file.file)) c.self.view_is c.in-Err.ensures.refused
+pub returns-clause-coming : goal.returns-clause-coming
+returns-clause-coming g c = subst (λ (s : StockState). OnOk c.come.result (is_coming (owner_at s.home.owners c.args.parcel.value.file.file) ≡ true)) c.self.view_is c.come.ensures.coming
 
-pub returns-in-Err-clause-lack : goal.returns-in-Err-clause-lack
-returns-in-Err-clause-lack g c = subst (λ (s : StockState). IfSome c.in-Err.refused.0 (IsLackOut s.home.owners)) c.self.view_is c.in-Err.ensures.lack
+pub returns-clause-refused : goal.returns-clause-refused
+returns-clause-refused g c = subst (λ (s : StockState). IfErr c.come.result (λ x. x.0 ≡ None → (is_coming (owner_at s.home.owners c.args.parcel.value.file.file) ≡ false) ⊎ IsSome (file_here s.home.places c.args.parcel.value.file.file))) c.self.view_is c.come.ensures.refused
 
-pub returns-in-Err-clause-wanting : goal.returns-in-Err-clause-wanting
-returns-in-Err-clause-wanting g c =
-    subst (λ (s : StockState). IsSome c.in-Err.refused.0 → is_coming (owner_at s.home.owners c.args.parcel.value.file.file) ≡ true) c.self.view_is c.in-Err.ensures.wanting
+pub returns-clause-lack : goal.returns-clause-lack
+returns-clause-lack g c = subst (λ (s : StockState). IfErr c.come.result (λ x. IfSome x.0 (IsLackOut s.home.owners))) c.self.view_is c.come.ensures.lack
 
-pub returns-in-Err-clause-err : goal.returns-in-Err-clause-err
-returns-in-Err-clause-err g c = c.in-Err.ensures.err ∙ ap (λ (s : StockState). s.home) c.self.view_is
+pub returns-clause-wanting : goal.returns-clause-wanting
+returns-clause-wanting g c = subst (λ (s : StockState). IfErr c.come.result (λ x. IsSome x.0 → is_coming (owner_at s.home.owners c.args.parcel.value.file.file) ≡ true)) c.self.view_is c.come.ensures.wanting
 
-pub returns-in-Err-clause-rest : goal.returns-in-Err-clause-rest
-returns-in-Err-clause-rest g c = ap (λ (s : StockState). record s { home = c.come.new.self }) c.self.view_is
+pub returns-clause-err : goal.returns-clause-err
+returns-clause-err g c = subst (λ (s : StockState). OnErr c.come.result (c.come.new.self ≡ s.home)) c.self.view_is c.come.ensures.err
+
+pub returns-clause-rest : goal.returns-clause-rest
+returns-clause-rest g c = ap (λ (s : StockState). record s { home = c.come.new.self }) c.self.view_is

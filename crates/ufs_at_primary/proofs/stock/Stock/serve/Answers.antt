@@ -9,7 +9,7 @@ use Rattle.ufs_at_primary.specs.Stock.{StockState, stock_of}
 use Rattle.ufs_at_primary.specs.Served.{IsTried, OnNone}
 use Rattle.ufs_at_primary.specs.declared.tried.Tried.TheVariants as tried
 use Rattle.ufs_at_primary.proofs.AtHome.{here_tried}
-use Rattle.ufs_at_primary.proofs.trying.Stock.serve.Goals as goal
+use Rattle.ufs_at_primary.proofs.stock.Stock.serve.Goals as goal
 
 pub serve_on_file-requires-clause-kind : goal.serve_on_file-requires-clause-kind
 serve_on_file-requires-clause-kind g c =

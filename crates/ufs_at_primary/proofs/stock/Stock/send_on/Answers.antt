@@ -3,11 +3,10 @@ use Rattle.ufs_home.specs.Places.{file_here}
 use Rattle.ufs_joint.specs.Cells.{NamesCell}
 use Rattle.ufs_owner.specs.Owners.{owner_at}
 use Rattle.ufs_owner.specs.declared.owner.Owner.TheVariants as owner
-use Rattle.ufs_at_primary.specs.Served.{IsTried, OnIt}
+use Rattle.ufs_at_primary.specs.Served.{IsAway, OnIt}
 use Rattle.ufs_at_primary.specs.Stock.{AreHere, StockState, stock_of}
-use Rattle.ufs_at_primary.specs.declared.tried.Tried.TheVariants as tried
 use Rattle.ufs_at_primary.proofs.Trials.{is_out}
-use Rattle.ufs_at_primary.proofs.trying.Stock.send_on.Goals as goal
+use Rattle.ufs_at_primary.proofs.stock.Stock.send_on.Goals as goal
 
 pub redirect-answer-requires : goal.redirect-answer-requires
 redirect-answer-requires g c = record { kind = c.requires.kind; hinted = c.requires.hinted ∙ c.in-Some.ensures.hinted; has = c.in-Some.ensures.has }
@@ -42,10 +41,9 @@ returns g c = λ visible tells.
     let kind = c.requires.kind in
     let was = stock_of f.names f.home f.pool in
     let away = subst (λ (s : StockState). file_here s.home.places c.args.file ≡ None) (sym c.self.view_is) c.requires.away in
-    let none = c.in_default.ensures.none in
-    subst (λ (s : StockState). IsTried visible tells tells s (stock_of c.see_request-request.new.names f.home f.pool) c.args.request (tried.Away c.see_request-request.result c.args.file)) c.self.view_is (
+    let none = c.in_default.ensures.none in (
       e.still,
-      record { out = is_out was c.args.file c.self.invariant.here (e.opened c.args.file kind.of) away; wants = OnIt kind away (λ yes worker is. none (sym c.requires.hinted ∙ yes) worker is) },
-      ap (λ (n : NamesCell). stock_of n f.home f.pool) e.names,
+      subst (λ (s : StockState). IsAway s c.args.request.ask c.args.file) c.self.view_is (record { out = is_out was c.args.file c.self.invariant.here (e.opened c.args.file kind.of) away; wants = OnIt kind away (λ yes worker is. none (sym c.requires.hinted ∙ yes) worker is) }),
+      ap (λ (n : NamesCell). stock_of n f.home f.pool) e.names ∙ c.self.view_is,
       refl,
     )

@@ -11,7 +11,7 @@ use Rattle.ufs_at_primary.specs.declared.tried.Tried.TheVariants as tried
 use Rattle.ufs_at_primary.proofs.AtHome.{here_tried}
 use Rattle.ufs_at_primary.proofs.Outcomes.{on_file, tried_from}
 use Rattle.ufs_at_primary.proofs.Trials.{lent_place, none_is, of_file}
-use Rattle.ufs_at_primary.proofs.trying.Stock.serve_on_file.Goals as goal
+use Rattle.ufs_at_primary.proofs.stock.Stock.serve_on_file.Goals as goal
 
 pub send_on-requires-clause-away : goal.send_on-requires-clause-away
 send_on-requires-clause-away g c = subst (λ (s : StockState). file_here s.home.places c.args.file ≡ None) c.self.view_is (none_is _ (sym c.has.ensures ∙ c.if-not-has.true))
@@ -60,3 +60,26 @@ returns g c =
     let after = g.T.Turns.tells e.new.door in
     tried_from g.N.Naming.start.is_visible before after (stock_of f.names f.home f.pool) c.args.self.now (stock_of e.new.names c.put_back.new.self e.new.pool) c.args.request (tried.Answered e.result.1) c.self.view_is
     (on_file g.N.Naming.start.is_visible before after f.names e.new.names f.pool e.new.pool c.args.request e.result.1 f.home c.lend.new.self c.put_back.new.self c.args.file c.in-Ok.held e.result.0 c.requires.kind c.in-Ok.ensures.file c.in-Ok.ensures.number c.in-Ok.ensures.lent c.put_back.ensures e.ensures.served)
+
+pub invariant_of-self : goal.invariant_of-self
+invariant_of-self g c =
+    let h = c.self.invariant in
+    let f = c.self.inside in
+    record { formed = h.formed; its = h.its; numbers = h.numbers; hand = c.lacking.ensures.pool f.pool h.hand; few = h.few; here = subst (AreHere f.names) (sym c.in-Err.ensures.kept) h.here }
+
+pub invariant_of-self-2 : goal.invariant_of-self-2
+invariant_of-self-2 g c =
+    let h = c.self.invariant in
+    let f = c.self.inside in
+    let e = c.serve_here-held in
+    let before = g.T.Turns.tells c.args.door.now in
+    let after = g.T.Turns.tells e.new.door in
+    record {
+      formed = h.formed;
+      its = h.its;
+      numbers = h.numbers;
+      hand = e.ensures.pool;
+      few = e.ensures.few;
+      here = here_tried g.N.Naming.start.is_visible before after (stock_of f.names f.home f.pool) (stock_of e.new.names c.put_back.new.self e.new.pool) h.here c.args.request (tried.Answered e.result.1)
+          (on_file g.N.Naming.start.is_visible before after f.names e.new.names f.pool e.new.pool c.args.request e.result.1 f.home c.lend.new.self c.put_back.new.self c.args.file c.in-Ok.held e.result.0 c.requires.kind c.in-Ok.ensures.file c.in-Ok.ensures.number c.in-Ok.ensures.lent c.put_back.ensures e.ensures.served);
+    }

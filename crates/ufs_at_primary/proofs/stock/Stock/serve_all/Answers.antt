@@ -7,7 +7,7 @@ use Rattle.ufs_at_primary.specs.declared.tried.Tried.TheVariants as tried
 use Rattle.ufs_at_primary.proofs.AtHome.{here_tried}
 use Rattle.ufs_at_primary.proofs.Outcomes.{on_all, tried_from}
 use Rattle.ufs_at_primary.proofs.Trials.{away_still, same_still}
-use Rattle.ufs_at_primary.proofs.trying.Stock.serve_all.Goals as goal
+use Rattle.ufs_at_primary.proofs.stock.Stock.serve_all.Goals as goal
 
 pub returns-in-Some : goal.returns-in-Some
 returns-in-Some g c = (same_still c.args.request, record { out = subst (λ (s : StockState). owner_at s.home.owners c.in-Some.file ≢ owner.Primary) c.self.view_is c.in-Some.ensures; wants = OfAll c.requires.sync }, refl, refl)
@@ -52,3 +52,23 @@ returns g c =
     tried_from g.N.Naming.start.is_visible before after (stock_of f.names f.home f.pool) c.args.self.now (stock_of e.new.names c.put_back_all.new.self f.pool) c.args.request (tried.Answered e.result) c.self.view_is
     (on_all g.N.Naming.start.is_visible before after f.names e.new.names f.pool f.pool c.args.request e.result f.home c.lend_all.new.self c.put_back_all.new.self c.in-Ok.files.items e.new.files.items c.requires.sync lent
     (record { live = λ n is. c.in-Ok.ensures.all n (c.self.invariant.here n is (c.no_file_is_out.ensures f.home.owners n c.in_default.ensures)); once = away.once }) c.in-Ok.ensures.rest c.put_back_all.ensures refl e.ensures.served)
+
+pub invariant_of-self-2 : goal.invariant_of-self-2
+invariant_of-self-2 g c =
+    let h = c.self.invariant in
+    let f = c.self.inside in
+    let e = c.sync_lent-answer in
+    let before = g.T.Turns.tells c.args.door.now in
+    let after = g.T.Turns.tells e.new.door in
+    let lent = c.in-Ok.ensures.lent in
+    let away = lent.away in
+    record {
+      formed = h.formed;
+      its = h.its;
+      numbers = h.numbers;
+      hand = e.ensures.pool f.pool h.hand;
+      few = h.few;
+      here = here_tried g.N.Naming.start.is_visible before after (stock_of f.names f.home f.pool) (stock_of e.new.names c.put_back_all.new.self f.pool) h.here c.args.request (tried.Answered e.result)
+          (on_all g.N.Naming.start.is_visible before after f.names e.new.names f.pool f.pool c.args.request e.result f.home c.lend_all.new.self c.put_back_all.new.self c.in-Ok.files.items e.new.files.items c.requires.sync lent
+          (record { live = λ n is. c.in-Ok.ensures.all n (h.here n is (c.no_file_is_out.ensures f.home.owners n c.in_default.ensures)); once = away.once }) c.in-Ok.ensures.rest c.put_back_all.ensures refl e.ensures.served);
+    }

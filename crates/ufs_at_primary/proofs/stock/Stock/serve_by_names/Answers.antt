@@ -1,0 +1,85 @@
+use Rattle.std.proofs.Common.{◌≡◌, ◌<◌, ◌^◌, ℕ, Some, ap, arith, refl, sym, subst, ◌∙◌}
+use Rattle.std.specs.Prelude.{IfOk, IfSome, IsSome}
+use Rattle.std.specs.FinMap as fin
+use Rattle.ufs_held_names.specs.Asked.{IsNeeded}
+use Rattle.ufs_home.specs.Places.{file_here}
+use Rattle.ufs_joint.specs.Cells.{NamesCell}
+use Rattle.ufs_model.specs.declared.data.Ask.{Ask}
+use Rattle.ufs_msg.specs.Requests.{Asked}
+use Rattle.ufs_at_primary.specs.Kinds.{IsByNames}
+use Rattle.ufs_at_primary.specs.Served.{IsAway, IsStill, OfNames}
+use Rattle.ufs_at_primary.specs.Stock.{AreHere, StockState, stock_of}
+use Rattle.ufs_at_primary.specs.declared.tried.Tried.TheVariants as tried
+use Rattle.ufs_at_primary.proofs.AtHome.{here_tried}
+use Rattle.ufs_at_primary.proofs.Outcomes.{tried_from}
+use Rattle.ufs_at_primary.proofs.Trials.{is_out, tried_as}
+use Rattle.ufs_at_primary.proofs.stock.Stock.serve_by_names.Goals as goal
+
+pub see_request-request-requires : goal.see_request-request-requires
+see_request-request-requires g c = record { pool = (c.self.inside.pool, c.self.invariant.hand) }
+
+pub ask_needed-request-requires : goal.ask_needed-request-requires
+ask_needed-request-requires g c = record { kind = subst IsByNames (sym (let still = c.see_request-request.ensures.still in still.ask)) c.requires.kind }
+
+pub lacking-requires : goal.lacking-requires
+lacking-requires g c = record { pool = (c.self.inside.pool, c.see_request-request.ensures.pool c.self.inside.pool c.self.invariant.hand) }
+
+pub invariant_of-self : goal.invariant_of-self
+invariant_of-self g c =
+    let h = c.self.invariant in
+    let f = c.self.inside in
+    let e = c.see_request-request.ensures in
+    record { formed = h.formed; its = h.its; numbers = h.numbers; hand = c.lacking.ensures.pool f.pool (e.pool f.pool h.hand); few = h.few; here = subst (λ (n : NamesCell). AreHere n f.home) (sym e.names) h.here }
+
+pub returns-in-Err : goal.returns-in-Err
+returns-in-Err g c =
+    let f = c.self.inside in
+    let e = c.see_request-request in
+    let q = c.ask_needed-request in
+    let visible = g.N.Naming.start.is_visible in
+    let tells = g.T.Turns.tells c.args.door.now in
+    let t = stock_of e.new.names f.home f.pool in
+    tried_as visible tells tells c.args.self.now t c.args.request q.result.0 c.lacking.result (subst (IsStill c.args.request) (sym q.ensures.same) e.ensures.still) c.requires.kind
+    (tried_from visible tells tells t c.args.self.now t q.result.0 c.lacking.result ((λ i. stock_of (e.ensures.names i) f.home f.pool) ∙ c.self.view_is) (c.lacking.ensures.tried visible tells e.new.names f.pool))
+
+pub invariant_of-self-in-Some : goal.invariant_of-self-in-Some
+invariant_of-self-in-Some g c =
+    let h = c.self.invariant in
+    let f = c.self.inside in
+    let e = c.see_request-request.ensures in
+    record { formed = h.formed; its = h.its; numbers = h.numbers; hand = e.pool f.pool h.hand; few = h.few; here = subst (λ (n : NamesCell). AreHere n f.home) (sym e.names) h.here }
+
+pub returns-in-Some : goal.returns-in-Some
+returns-in-Some g c =
+    let f = c.self.inside in
+    let e = c.see_request-request in
+    let q = c.ask_needed-request in
+    let was = stock_of f.names f.home f.pool in
+    let still = e.ensures.still in
+    let away = c.in-Some.ensures.away in
+    let found = subst (λ x. IfOk x (IsNeeded e.new.names.value e.result.ask)) c.in-Ok.is q.ensures.needed in
+    let its = subst (IsNeeded f.names.value c.args.request.ask) away.0 (subst (λ (p : NamesCell × Ask). IsNeeded p.0.value p.1 c.in-Ok.needed) (λ i. (e.ensures.names i, still.ask i)) found) in (
+      subst (IsStill c.args.request) (sym q.ensures.same) still,
+      subst (λ (s : StockState). IsAway s c.args.request.ask c.in-Some.file) c.self.view_is (record { out = is_out was c.in-Some.file c.self.invariant.here (e.ensures.needed c.in-Some.file its) away.1; wants = OfNames c.requires.kind its away.1 }),
+      (λ i. stock_of (e.ensures.names i) f.home f.pool) ∙ c.self.view_is,
+      refl,
+    )
+
+pub serve_touching-requires-clause-needed : goal.serve_touching-requires-clause-needed
+serve_touching-requires-clause-needed g c =
+    let e = c.see_request-request in
+    let q = c.ask_needed-request in
+    let found = subst (λ x. IfOk x (IsNeeded e.new.names.value e.result.ask)) c.in-Ok.is q.ensures.needed in
+    subst (λ (r : Asked). IsNeeded e.new.names.value r.ask c.in-Ok.needed) (sym q.ensures.same) found
+
+pub returns : goal.returns
+returns g c =
+    let f = c.self.inside in
+    let e = c.see_request-request in
+    let q = c.ask_needed-request in
+    let x = c.serve_touching in
+    let visible = g.N.Naming.start.is_visible in
+    let before = g.T.Turns.tells c.args.door.now in
+    let after = g.T.Turns.tells x.new.door in
+    tried_as visible before after c.args.self.now x.new.self c.args.request q.result.0 x.result (subst (IsStill c.args.request) (sym q.ensures.same) e.ensures.still) c.requires.kind
+    (tried_from visible before after (stock_of e.new.names f.home f.pool) c.args.self.now x.new.self q.result.0 x.result ((λ i. stock_of (e.ensures.names i) f.home f.pool) ∙ c.self.view_is) x.ensures)
