@@ -91,4 +91,4 @@ module _ {N Q : Type 0} (answers : Q → ℕ → Answer N → Q → Type 0) (sam
 
     pub of_full : (h then : StockState) (coming : Option FileCell) (a : List Said) (old left : List Waits) (p : Q) → (clients ≤ length a) ⊎ ((clients ≤ length old) × AllWait h.home.owners old) → left ≡ old → then ≡ h
         → IsFull answers same full visible before after clients gets none (primary_of h coming a old) (primary_of then coming a left) p p turn.Idle
-    of_full h then coming a old left p many rest held = record { full = many; nothing = refl; says = refl; rest = (λ i. primary_of (held i) coming a (rest i)) }
+    of_full h then coming a old left p many rest held = record { many = many; nothing = refl; says = refl; rest = (λ i. primary_of (held i) coming a (rest i)) }

@@ -122,7 +122,7 @@ module _ {N Q : Type 0} (answers : Q → ℕ → Answer N → Q → Type 0) (sam
     -- As many answers are kept as there are clients, or as many requests wait and no file of theirs has come: none is taken up. A client has
     -- one request under way, so then no other one is; but what a hand knows of itself doesn't tell that.
     pub record IsFull (s t : PrimaryState) (p q : Q) (o : PrimaryTurn) : Type 0 where
-      pub full : (clients ≤ length s.answers) ⊎ ((clients ≤ length s.waiting) × AllWait s.stock.home.owners s.waiting)
+      pub many : (clients ≤ length s.answers) ⊎ ((clients ≤ length s.waiting) × AllWait s.stock.home.owners s.waiting)
       pub nothing : q ≡ p
       pub says : o ≡ turn.Idle
       pub rest : t ≡ s

@@ -1,9 +1,9 @@
 // Requests that wait at the primary.
-ghost use Rattle.std.specs.Prelude.{◌≡◌, ◌<◌, ◌≤◌, ◌+◌, IfErr, MatchOption, OnErr, OnOk, OnSome};
+ghost use Rattle.std.specs.Prelude.{◌≡◌, ◌<◌, ◌≤◌, ◌+◌, IfErr, MatchOption, OnErr, OnOk};
 ghost use Rattle.std.specs.VecDeque.{deque_capacity, deque_len};
 ghost use Rattle.ufs_at_primary.specs.Noted.{IsUnnoted};
 ghost use Rattle.ufs_primary.specs.Turns.{IsTakenUp};
-ghost use Rattle.ufs_primary.specs.Waiting.{AllWait, IsOldestAt, IsPutOff, TakesOldest};
+ghost use Rattle.ufs_primary.specs.Waiting.{AllWait, IsOldestAt, IsPutOff, TakesOldest, Waits};
 
 use std::collections::VecDeque;
 use std::marker::Model;
