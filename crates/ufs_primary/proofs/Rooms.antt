@@ -17,7 +17,7 @@ full_of clients len room xs size has full = let each = has.each in omega (arith,
 
 -- nothing is kept yet
 pub empty_room : {A : Type 0} (clients len room : ℕ) (xs : List A) → len ≡ length xs → xs ≡ [] → clients ≤ room → HasRoom clients len room
-empty_room clients len room xs size none each = record { within = (let e = ap (λ (ys : List A). length ys) none in omega (arith, e, size)); each = each }
+empty_room {A = A} clients len room xs size none each = record { within = (let e : length xs ≡ 0 = ap (λ (ys : List A). length ys) none in omega (arith, e, size)); each = each }
 
 pub same_room : (clients old new len room : ℕ) → HasRoom clients old room → new ≡ room → len ≤ new → HasRoom clients len new
 same_room clients old new len room has same fits = record { within = fits; each = subst (λ (n : ℕ). clients ≤ n) (sym same) has.each }
