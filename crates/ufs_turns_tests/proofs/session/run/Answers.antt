@@ -16,19 +16,19 @@ new-held-requires-clause-home g c =
     let first = c.named-table.ensures ∙ ap (λ (k : Start). k.view) c.requires.start in
     subst (λ (x : Start × View). IsHeldStore x.0 g.D.Door.visible g.D.Door.keeps x.1 s) (λ j. (sym c.requires.start j, sym (c.split-own.ensures.given ∙ ap (given_of Store) first) j)) (held n s g.D.Door.visible g.D.Door.keeps c.requires.formed)
 
-pub turns_straight-told-requires-clause-lent : goal.turns_straight-told-requires-clause-lent
-turns_straight-told-requires-clause-lent g c =
+pub turns_straight-held-requires-clause-lent : goal.turns_straight-held-requires-clause-lent
+turns_straight-held-requires-clause-lent g c =
     let first = c.named-table.ensures ∙ ap (λ (k : Start). k.view) c.requires.start in
     let lent = c.split-lent.ensures.given ∙ ap (given_of (File 0)) (c.split-own.ensures.kept ∙ ap (kept_of Store) first) in
     (0, subst (λ (x : BlockSet × View). LendsPool 0 x.0 x.1) (λ j. (sym c.requires.none j, sym lent j)) (lends c.args.names.now (g.D.Door.store c.args.store)))
 
-pub turns_straight-told-requires-clause-files : goal.turns_straight-told-requires-clause-files
-turns_straight-told-requires-clause-files g c =
+pub turns_straight-held-requires-clause-files : goal.turns_straight-held-requires-clause-files
+turns_straight-held-requires-clause-files g c =
     let first = c.named-table.ensures ∙ ap (λ (k : Start). k.view) c.requires.start in
     ap (λ (v : View). v.files) (c.split-lent.ensures.given ∙ ap (given_of (File 0)) (c.split-own.ensures.kept ∙ ap (kept_of Store) first))
 
-pub turns_straight-told-requires-clause-names : goal.turns_straight-told-requires-clause-names
-turns_straight-told-requires-clause-names g c =
+pub turns_straight-held-requires-clause-names : goal.turns_straight-held-requires-clause-names
+turns_straight-held-requires-clause-names g c =
     let first = c.named-table.ensures ∙ ap (λ (k : Start). k.view) c.requires.start in
     ap (λ (v : View). v.names) (c.split-lent.ensures.given ∙ ap (given_of (File 0)) (c.split-own.ensures.kept ∙ ap (kept_of Store) first))
 
@@ -39,7 +39,7 @@ close-tickets-requires-clause-all g c =
     let first = c.named-table.ensures ∙ ap (λ (k : Start). k.view) c.requires.start in
     let kept = c.split-own.ensures.kept ∙ ap (kept_of Store) first in
     let rest = c.split-lent.ensures.kept ∙ ap (kept_of (File 0)) kept in
-    let told = c.turns_straight-told in
+    let told = c.turns_straight-held in
     let lent = told.new.hand in
     let own = c.into_parts-own.result.0 in
     let here = subst (λ (x : BlockSet × View). LendsPool 0 x.0 x.1) (λ j. (sym c.requires.none j, sym (c.split-lent.ensures.given ∙ ap (given_of (File 0)) kept) j)) (lends n s) in
