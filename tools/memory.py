@@ -25,7 +25,6 @@ MAY = {
     # the one ending for all of them
     "ufs_command/src/last_line.rt": {"Ending::OutOfMemory": 1},
     # a number at its end
-    "ufs_metadata/src/dirs.rt": {"Lack::AtEnd": 1},
     "ufs_held/src/excuses.rt": {"Lack::AtEnd": 1},
     "ufs_ilog/src/name_notes.rt": {"Lack::AtEnd": 1, ".lose": 1},
     "ufs_ilog/src/names_log.rt": {"Lack::AtEnd": 1},
@@ -41,7 +40,6 @@ MAY = {
     "ufs_names_commit/src/commits.rt": {"Lack::AtEnd": 1},
     "ufs_tree/src/answer.rt": {"Lack::AtEnd": 1},
     "ufs_tree/src/counts.rt": {"Lack::AtEnd": 1},
-    "ufs_volume/src/reading.rt": {"Lack::AtEnd": 1},
     # notes that aren't begun, those that are lost for what was lacking, and those that are lent to a commit
     "ufs_name_tree/src/name_tree.rt": {"NameNotes::off": 3},
     "ufs_name_tree/src/notes.rt": {".lose": 1},

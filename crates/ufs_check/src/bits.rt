@@ -8,7 +8,7 @@ ghost use Rattle.ufs_layout.specs.declared.geometry.Geometry.{Geometry};
 ghost use Rattle.ufs_image.specs.Nodes.{Node};
 ghost use Rattle.ufs_image.specs.Damage.{BitmapDiffers, differing, all_bits};
 ghost use Rattle.ufs_damage.specs.Taken.{AreTaken};
-ghost use Rattle.ufs_metadata.specs.Faults.{HasFaultCause, IsOutside};
+ghost use Rattle.ufs_metadata.specs.Faults.{HasFaultCause, IsOutside, LacksMemory};
 ghost use Rattle.ufs_metadata.specs.Folded.{IsFolded};
 ghost use Rattle.ufs_metadata.specs.Reading.{AreSectors, IsReadOnly};
 
@@ -57,6 +57,7 @@ fn compare_block<D: Disk>(
     ensures size { D.size disk.new ≡ D.size disk.old }
     ensures passed { OnOk result (D.faults disk.new ≡ D.faults disk.old) }
     ensures cause { IfErr result (HasFaultCause (D.faults disk.old) (D.faults disk.new)) }
+    ensures memory { IfErr result LacksMemory }
     ensures outside { IfErr result IsOutside }
 {
     let mut bytes = [0; BLOCK];
@@ -82,6 +83,7 @@ pub(crate) fn compare_bits<D: Disk>(
     ensures size { D.size disk.new ≡ D.size disk.old }
     ensures passed { OnOk result (D.faults disk.new ≡ D.faults disk.old) }
     ensures cause { IfErr result (HasFaultCause (D.faults disk.old) (D.faults disk.new)) }
+    ensures memory { IfErr result LacksMemory }
     ensures outside { IfErr result IsOutside }
 {
     let count = geometry.bitmap_blocks();

@@ -8,7 +8,7 @@ ghost use Rattle.ufs_image.specs.Nodes.{sound_nodes};
 ghost use Rattle.ufs_image.specs.Opens.{damage_list};
 ghost use Rattle.ufs_damage.specs.Findings.{AreFindingsOf};
 ghost use Rattle.ufs_damage.specs.Taken.{AreTaken};
-ghost use Rattle.ufs_metadata.specs.Faults.{BlamesNone, HasFaultCause, IsOutside, IsWhyNot};
+ghost use Rattle.ufs_metadata.specs.Faults.{BlamesNone, HasFaultCause, IsOutside, IsWhyNot, LacksMemory};
 ghost use Rattle.ufs_metadata.specs.Folded.{IsFolded};
 ghost use Rattle.ufs_metadata.specs.Reading.{IsReadOnly};
 
@@ -52,6 +52,7 @@ fn told_of<D: Disk>(
     ensures size { D.size disk.new ≡ D.size disk.old }
     ensures passed { OnOk result (D.faults disk.new ≡ D.faults disk.old) }
     ensures cause { IfErr result (HasFaultCause (D.faults disk.old) (D.faults disk.new)) }
+    ensures memory { IfErr result LacksMemory }
     ensures outside { IfErr result IsOutside }
 {
     let findings = read_findings(alloc, disk, geometry, overlay)?;
@@ -73,6 +74,7 @@ fn check_volume<D: Disk>(
     ensures size { D.size disk.new ≡ D.size disk.old }
     ensures passed { OnOk result (D.faults disk.new ≡ D.faults disk.old) }
     ensures cause { IfErr result (HasFaultCause (D.faults disk.old) (D.faults disk.new)) }
+    ensures memory { IfErr result LacksMemory }
     ensures outside { IfErr result IsOutside }
 {
     let geometry = &volume.superblock.geometry;
@@ -95,6 +97,7 @@ pub fn check<D: Disk>(alloc: Global, disk: &mut D) -> Result<DamageList, Recover
     ensures size { D.size disk.new ≡ D.size disk.old }
     ensures passed { OnOk result (D.faults disk.new ≡ D.faults disk.old) }
     ensures cause { IfErr result (HasFaultCause (D.faults disk.old) (D.faults disk.new)) }
+    ensures memory { IfErr result LacksMemory }
 {
     let volume = read_volume(alloc, disk)?;
     check_volume(alloc, disk, &volume)

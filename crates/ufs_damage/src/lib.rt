@@ -16,6 +16,6 @@ mod telling;
 
 pub use damage::{Damage, DamageList};
 pub use findings::{Findings, ReadDir};
-pub use sound::is_sound;
+pub use sound::{any_leaves, is_sound};
 pub use taken::{TakenBlocks, taken_blocks};
 pub use telling::damage_of;

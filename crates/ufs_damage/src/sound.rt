@@ -31,7 +31,8 @@ fn leaves_data(geometry: &Geometry, extent: &Extent) -> bool
     !(geometry.first_of_data() <= extent.start && end <= u64::from(geometry.blocks))
 }
 
-fn any_leaves(geometry: &Geometry, extents: &[Extent]) -> bool
+/// Whether one of these extents leaves the data area.
+pub fn any_leaves(geometry: &Geometry, extents: &[Extent]) -> bool
     requires { IsGeometry geometry.now }
     ensures { result ≡ list_any (leaves_data geometry.now) extents.now }
 {

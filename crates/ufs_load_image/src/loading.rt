@@ -9,7 +9,7 @@ ghost use Rattle.ufs_image.specs.Damage.{bad_tree};
 ghost use Rattle.ufs_image.specs.Sound.{IsSoundCatalog};
 ghost use Rattle.ufs_image.specs.Volume.{volume};
 ghost use Rattle.ufs_damage.specs.Findings.{AreFindingsOf};
-ghost use Rattle.ufs_metadata.specs.Faults.{HasFaultCause};
+ghost use Rattle.ufs_metadata.specs.Faults.{HasFaultCause, LacksMemory};
 ghost use Rattle.ufs_metadata.specs.Reading.{IsReadOnly};
 ghost use Rattle.ufs_overlay.specs.Seen.{HasAdded};
 ghost use Rattle.ufs_volume.specs.Volumes.{committed_in, folded_image, volume_in};
@@ -90,6 +90,7 @@ pub fn load<D: Disk>(alloc: Global, disk: &mut D) -> Result<Loaded, RecoverFault
     ensures size { D.size disk.new ≡ D.size disk.old }
     ensures passed { OnOk result (D.faults disk.new ≡ D.faults disk.old) }
     ensures cause { IfErr result (HasFaultCause (D.faults disk.old) (D.faults disk.new)) }
+    ensures memory { IfErr result LacksMemory }
 {
     let opened = open(alloc, disk)?;
     match with_free(alloc, opened) {

@@ -3,7 +3,7 @@ use Rattle.std.proofs.Common.{◌≡◌, ℕ, zero, suc, ◌+◌, ◌*◌, ◌<�
 use Rattle.std.specs.Prelude.{map, flat_map, if◌then◌else◌, ◌==◌, ◌||◌, not, nat_le}
 use Rattle.std.specs.Option.{option_to_list}
 use Rattle.std.specs.List.{range_with_len, list_any, filter, filter_map, cons_option, enumerate_from}
-use Rattle.std.proofs.lemmas.List.{append-nil, map-append, drop-drop}
+use Rattle.std.proofs.lemmas.List.{append-nil, length-append, length-map, map-append, drop-drop}
 use Rattle.std.proofs.lemmas.List.Elements.{filter_map-append, filter-append}
 use Rattle.std.proofs.lemmas.List.FromFn.{map-range_with_len_more}
 use Rattle.std.proofs.lemmas.Bool.{and_parts, leb-true}
@@ -17,6 +17,7 @@ use Rattle.ufs_layout.specs.declared.geometry.Geometry.{Geometry}
 use Rattle.ufs_layout.specs.declared.inode.Extent.{Extent}
 use Rattle.ufs_image.specs.Images.{inode_at}
 use Rattle.ufs_image.specs.Nodes.{Node, Dir, sound_node, dirs_of, slots_of, read_block, blocks_of, leaves_data, is_bad_form}
+use Rattle.ufs_image.proofs.SlotBytes.{length-pieces}
 use Rattle.ufs_damage.specs.Told.{is_sound_form, form_of}
 use Rattle.ufs_metadata.specs.Told.{slots_in, forms_in, piece}
 use Rattle.ufs_metadata.specs.Reading.{AreSectors}
@@ -31,6 +32,17 @@ pieces_more (suc n) size xs =
 
 pub slots_more : (n : ℕ) (xs : List ℕ) → slots_in (n + 1) xs ≡ slots_in n xs ++ dentry_of (take 64 (drop (64 * n) xs)) ∷ []
 slots_more n xs = ap (map dentry_of) (pieces_more n 64 xs) ∙ map-append dentry_of (pieces n 64 xs) (take 64 (drop (64 * n) xs) ∷ [])
+
+length-slots : (n : ℕ) (xs : List ℕ) → length (slots_in n xs) ≡ n
+length-slots n xs = length-map (pieces n 64 xs) dentry_of ∙ length-pieces n 64 xs
+
+-- what a block's slots are put behind
+pub few_slots : (old new : List (Option DentryForm)) (xs : List ℕ) → new ≡ old ++ slots_in 64 xs → length new ≤ length old + 64
+few_slots old new xs is =
+    let longer = ap (λ (l : List (Option DentryForm)). length l) is in
+    let both = length-append old (slots_in 64 xs) in
+    let one = length-slots 64 xs in
+    omega (arith, longer, both, one)
 
 -- a range and the number behind it
 pub flat_append : {X Y : Type 0} (f : X → List Y) (xs ys : List X) → flat_map f (xs ++ ys) ≡ flat_map f xs ++ flat_map f ys
@@ -143,3 +155,11 @@ map_append f a m (suc n) =
     ∙ sym (append_assoc (map f (range_with_len a m)) (map f (range_with_len (a + m) n)) (f (a + m + n) ∷ []))
     ∙ ap (λ l. l ++ f (a + m + n) ∷ []) (map_append f a m n)
     ∙ sym (ap (λ k. map f (range_with_len a k)) (sym two) ∙ map-range_with_len_more f a (m + n) (a + m + n) (omega arith))
+
+-- ---- how many slots a directory has: at most 56 extents of at most 65,536 blocks
+
+pub few_after : (k before blocks now : ℕ) → before ≤ 64 * (k * 65536) → blocks ≤ 65536 → now ≤ before + 64 * blocks → now ≤ 64 * ((k + 1) * 65536)
+few_after k before blocks now few most more = omega (arith, few, most, more)
+
+pub few_in_all : (k count now : ℕ) → k ≤ count → count ≤ 56 → now ≤ 64 * (k * 65536) → now ≤ 64 * (56 * 65536)
+few_in_all k count now within most few = omega (arith, within, most, few)

@@ -3,7 +3,7 @@ use Rattle.std.specs.Prelude.{◌≡◌, ℕ, Option, Some, Result, Err}
 use Rattle.ufs_base.specs.Faults.{RoseTo}
 use Rattle.ufs_image.specs.Volume.{Refusal}
 use Rattle.ufs_image.specs.Volume as image
-use Rattle.ufs_metadata.specs.Lacks.{IsOfNumbers}
+use Rattle.ufs_metadata.specs.Lacks.{IsOfMemory, IsOfNumbers}
 use Rattle.ufs_metadata.specs.declared.fault.RecoverFault.{RecoverFault}
 use Rattle.ufs_metadata.specs.declared.fault.RecoverFault.TheVariants.{NoSuperblock, BadVersion, BadGeometry, BadRecord, BadTree, Device, Lack}
 
@@ -47,3 +47,8 @@ IsWhyNot given (Lack why) = IsOfNumbers why
 abbrev pub BlamesNone : RecoverFault → Type 0
 BlamesNone (BadTree inode) = ⊥
 BlamesNone _ = Unit {0}
+
+-- What it lacks, if it is for want of anything, is memory: nothing is counted that could come to an end.
+abbrev pub LacksMemory : RecoverFault → Type 0
+LacksMemory (Lack why) = IsOfMemory why
+LacksMemory _ = Unit {0}

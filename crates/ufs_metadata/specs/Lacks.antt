@@ -7,3 +7,8 @@ abbrev pub IsOfNumbers : Lack → Type 0
 IsOfNumbers (Memory memory) = Unit {0}
 IsOfNumbers AtEnd = Unit {0}
 IsOfNumbers _ = ⊥
+
+-- It is memory.
+abbrev pub IsOfMemory : Lack → Type 0
+IsOfMemory (Memory memory) = Unit {0}
+IsOfMemory _ = ⊥

@@ -6,7 +6,7 @@ ghost use Rattle.ufs_layout.specs.Areas.{IsGeometry, sector_count, all_inodes};
 ghost use Rattle.ufs_image.specs.Images.{inode_at};
 ghost use Rattle.ufs_image.specs.Nodes.{dirs_of, sound_nodes};
 ghost use Rattle.ufs_damage.specs.Findings.{AreFindingsOf};
-ghost use Rattle.ufs_metadata.specs.Faults.{HasFaultCause, IsOutside};
+ghost use Rattle.ufs_metadata.specs.Faults.{HasFaultCause, IsOutside, LacksMemory};
 ghost use Rattle.ufs_metadata.specs.Folded.{IsFolded};
 ghost use Rattle.ufs_metadata.specs.Reading.{IsReadOnly};
 
@@ -37,6 +37,7 @@ fn read_dirs<D: Disk>(
     ensures passed { OnOk result (D.faults disk.new ≡ D.faults disk.old) }
     ensures cause { IfErr result (HasFaultCause (D.faults disk.old) (D.faults disk.new)) }
     ensures outside { IfErr result IsOutside }
+    ensures memory { IfErr result LacksMemory }
 {
     let mut dirs = Vec::new(alloc);
     for i in 0..geometry.inodes {
@@ -71,6 +72,7 @@ pub fn read_findings<D: Disk>(
     ensures passed { OnOk result (D.faults disk.new ≡ D.faults disk.old) }
     ensures cause { IfErr result (HasFaultCause (D.faults disk.old) (D.faults disk.new)) }
     ensures outside { IfErr result IsOutside }
+    ensures memory { IfErr result LacksMemory }
 {
     let forms = read_forms(alloc, disk, geometry, overlay)?;
     let dirs = read_dirs(alloc, disk, geometry, overlay, &forms)?;

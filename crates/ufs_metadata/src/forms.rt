@@ -5,7 +5,7 @@ ghost use Rattle.ufs_disk.specs.Moments.{reads};
 ghost use Rattle.ufs_layout.specs.Areas.{IsGeometry, sector_count, all_inodes};
 ghost use Rattle.ufs_layout.specs.InodeForm.{inode_of};
 ghost use Rattle.ufs_image.specs.Images.{inode_at};
-ghost use Rattle.ufs_metadata.specs.Faults.{HasFaultCause, IsOutside};
+ghost use Rattle.ufs_metadata.specs.Faults.{HasFaultCause, IsOutside, LacksMemory};
 ghost use Rattle.ufs_metadata.specs.Folded.{IsFolded};
 ghost use Rattle.ufs_metadata.specs.Reading.{IsReadOnly};
 ghost use Rattle.ufs_metadata.specs.Told.{forms_in};
@@ -56,6 +56,7 @@ pub(crate) fn read_forms<D: Disk>(
     ensures passed { OnOk result (D.faults disk.new ≡ D.faults disk.old) }
     ensures cause { IfErr result (HasFaultCause (D.faults disk.old) (D.faults disk.new)) }
     ensures outside { IfErr result IsOutside }
+    ensures memory { IfErr result LacksMemory }
 {
     let start = geometry.first_of_inodes();
     let end = geometry.first_of_journal();

@@ -5,7 +5,7 @@ ghost use Rattle.ufs_base.specs.declared.sizes.TheConstants.{BLOCK, MAX_BLOCKS, 
 ghost use Rattle.ufs_disk.specs.Disk.{IsRange, bytes_from};
 ghost use Rattle.ufs_disk.specs.Moments.{reads};
 ghost use Rattle.ufs_image.specs.Images.{block_at};
-ghost use Rattle.ufs_metadata.specs.Faults.{BlamesNone, HasFaultCause, IsOutside};
+ghost use Rattle.ufs_metadata.specs.Faults.{BlamesNone, HasFaultCause, IsOutside, LacksMemory};
 ghost use Rattle.ufs_metadata.specs.Folded.{IsFolded};
 ghost use Rattle.ufs_metadata.specs.Reading.{IsReadOnly, AreSectors};
 
@@ -31,6 +31,7 @@ pub(crate) fn read_at<D: Disk>(
     ensures cause { IfErr result (HasFaultCause (D.faults disk.old) (D.faults disk.new)) }
     ensures blames_none { IfErr result BlamesNone }
     ensures outside { IfErr result IsOutside }
+    ensures memory { IfErr result LacksMemory }
 {
     match disk.read(sector, buf) {
         Ok(()) => Ok(()),
@@ -79,6 +80,7 @@ pub fn read_block<D: Disk>(
     ensures passed { OnOk result (D.faults disk.new ≡ D.faults disk.old) }
     ensures cause { IfErr result (HasFaultCause (D.faults disk.old) (D.faults disk.new)) }
     ensures outside { IfErr result IsOutside }
+    ensures memory { IfErr result LacksMemory }
 {
     read_at(disk, SECTORS * block, buf)?;
     apply_block(overlay, block, buf);

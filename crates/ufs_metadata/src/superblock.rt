@@ -5,7 +5,7 @@ ghost use Rattle.ufs_disk.specs.Moments.{reads};
 ghost use Rattle.ufs_layout.specs.Areas.{IsGeometry, sector_count};
 ghost use Rattle.ufs_layout.specs.Superblock.{super_fields, geometry_of};
 ghost use Rattle.ufs_image.specs.Volume.{superblock_of, superblock_refusal};
-ghost use Rattle.ufs_metadata.specs.Faults.{BlamesNone, HasFaultCause, IsRefusal};
+ghost use Rattle.ufs_metadata.specs.Faults.{BlamesNone, HasFaultCause, IsRefusal, LacksMemory};
 ghost use Rattle.ufs_metadata.specs.Superblocks.{size_refusal};
 ghost use Rattle.ufs_metadata.specs.Reading.{IsReadOnly};
 
@@ -32,6 +32,7 @@ fn with_geometry(sectors: u32, superblock: Super) -> Result<ImageSuperblock, Rec
     ensures refused { IfErr result (IsRefusal (size_refusal sectors (geometry_of superblock))) }
     ensures calm { IfErr result (λ f. (before : ℕ) → HasFaultCause before before f) }
     ensures blames_none { IfErr result BlamesNone }
+    ensures memory { IfErr result LacksMemory }
 {
     match Geometry::make(superblock.blocks, superblock.inodes, superblock.journal) {
         Ok(geometry) => {
@@ -59,6 +60,7 @@ fn judge(sectors: u32, bytes: &[u8]) -> Result<ImageSuperblock, RecoverFault>
     ensures refused { IfErr result (IsRefusal (superblock_refusal sectors (λ _. bytes.now))) }
     ensures calm { IfErr result (λ f. (before : ℕ) → HasFaultCause before before f) }
     ensures blames_none { IfErr result BlamesNone }
+    ensures memory { IfErr result LacksMemory }
 {
     let Some(version) = super_version(bytes) else {
         return Err(RecoverFault::NoSuperblock);
@@ -79,6 +81,7 @@ pub fn read_superblock<D: Disk>(disk: &mut D) -> Result<ImageSuperblock, Recover
     ensures large { IfOk result (λ h. sector_count h.geometry ≤ D.size disk.old) }
     ensures refused { IsTrue D.visible → IfErr result (IsRefusal (superblock_refusal (D.size disk.old) (reads (D.moments disk.old)))) }
     ensures blames_none { IfErr result BlamesNone }
+    ensures memory { IfErr result LacksMemory }
     ensures read_only { IsTrue D.visible → IsReadOnly D.keeps (D.moments disk.old) (D.moments disk.new) }
     ensures size { D.size disk.new ≡ D.size disk.old }
     ensures passed { OnOk result (D.faults disk.new ≡ D.faults disk.old) }

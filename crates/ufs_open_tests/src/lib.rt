@@ -8,6 +8,8 @@ mod causes;
 #[cfg(test)]
 mod damaged;
 #[cfg(test)]
+mod deep;
+#[cfg(test)]
 mod folded;
 #[cfg(test)]
 mod images;

@@ -7,7 +7,7 @@ ghost use Rattle.ufs_disk.specs.Moments.{reads};
 ghost use Rattle.ufs_layout.specs.Areas.{IsGeometry, sector_count};
 ghost use Rattle.ufs_image.specs.Images.{block_at};
 ghost use Rattle.ufs_image.specs.Nodes.{blocks_of, leaves_data};
-ghost use Rattle.ufs_metadata.specs.Faults.{HasFaultCause, IsOutside};
+ghost use Rattle.ufs_metadata.specs.Faults.{HasFaultCause, IsOutside, LacksMemory};
 ghost use Rattle.ufs_metadata.specs.Folded.{IsFolded};
 ghost use Rattle.ufs_metadata.specs.Reading.{IsReadOnly};
 ghost use Rattle.ufs_opening.specs.Heads.{IsFrontOf, enough_of};
@@ -41,6 +41,7 @@ fn read_next<D: Disk>(
     ensures size { D.size disk.new ≡ D.size disk.old }
     ensures passed { OnOk result (D.faults disk.new ≡ D.faults disk.old) }
     ensures cause { IfErr result (HasFaultCause (D.faults disk.old) (D.faults disk.new)) }
+    ensures memory { IfErr result LacksMemory }
     ensures outside { IfErr result IsOutside }
 {
     if bytes.len() >= enough {
@@ -69,28 +70,13 @@ fn read_extent<D: Disk>(
     ensures size { D.size disk.new ≡ D.size disk.old }
     ensures passed { OnOk result (D.faults disk.new ≡ D.faults disk.old) }
     ensures cause { IfErr result (HasFaultCause (D.faults disk.old) (D.faults disk.new)) }
+    ensures memory { IfErr result LacksMemory }
     ensures outside { IfErr result IsOutside }
 {
     for place in 0..extent.length {
         read_next(bytes, disk, overlay, extent.start + place, enough)?;
     }
     Ok(())
-}
-
-fn leaves_data(geometry: &Geometry, extent: &Extent) -> bool
-    requires { IsGeometry geometry.now }
-    ensures { result ≡ leaves_data geometry.now extent.now }
-{
-    let end = u64::from(extent.start) + u64::from(extent.length);
-    !(geometry.first_of_data() <= extent.start && end <= u64::from(geometry.blocks))
-}
-
-// Whether one of these extents leaves the data area.
-pub(crate) fn any_leaves(geometry: &Geometry, extents: &[Extent]) -> bool
-    requires { IsGeometry geometry.now }
-    ensures { result ≡ list_any (leaves_data geometry.now) extents.now }
-{
-    extents.iter().any(|extent| leaves_data(geometry, extent))
 }
 
 // How many bytes of a file of this size are wanted.
@@ -121,6 +107,7 @@ pub(crate) fn read_front<D: Disk>(
     ensures size { D.size disk.new ≡ D.size disk.old }
     ensures passed { OnOk result (D.faults disk.new ≡ D.faults disk.old) }
     ensures cause { IfErr result (HasFaultCause (D.faults disk.old) (D.faults disk.new)) }
+    ensures memory { IfErr result LacksMemory }
     ensures outside { IfErr result IsOutside }
 {
     let mut bytes = Vec::new(alloc);

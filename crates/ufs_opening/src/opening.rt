@@ -5,7 +5,7 @@ ghost use Rattle.ufs_layout.specs.Areas.{IsGeometry, sector_count};
 ghost use Rattle.ufs_image.specs.Damage.{bad_tree};
 ghost use Rattle.ufs_image.specs.Volume.{volume};
 ghost use Rattle.ufs_damage.specs.Findings.{AreFindingsOf};
-ghost use Rattle.ufs_metadata.specs.Faults.{HasFaultCause};
+ghost use Rattle.ufs_metadata.specs.Faults.{HasFaultCause, LacksMemory};
 ghost use Rattle.ufs_metadata.specs.Reading.{IsReadOnly};
 ghost use Rattle.ufs_overlay.specs.Seen.{HasAdded};
 ghost use Rattle.ufs_volume.specs.Volumes.{committed_in, folded_image, highest_number, volume_in};
@@ -30,6 +30,7 @@ fn refuse_damage(
     ensures whole { (image : Image) → AreFindingsOf geometry.now image findings.now → OnOk result (bad_tree geometry.now image ≡ None) }
     ensures refused { (image : Image) → AreFindingsOf geometry.now image findings.now → IfErr result (IsBlame (bad_tree geometry.now image)) }
     ensures calm { IfErr result (λ f. (before : ℕ) → HasFaultCause before before f) }
+    ensures memory { IfErr result LacksMemory }
 {
     let list = damage_of(alloc, geometry, findings)?;
     match list.lowest_blamed(geometry) {
@@ -54,6 +55,7 @@ pub fn open<D: Disk>(alloc: Global, disk: &mut D) -> Result<Opened, RecoverFault
     ensures size { D.size disk.new ≡ D.size disk.old }
     ensures passed { OnOk result (D.faults disk.new ≡ D.faults disk.old) }
     ensures cause { IfErr result (HasFaultCause (D.faults disk.old) (D.faults disk.new)) }
+    ensures memory { IfErr result LacksMemory }
 {
     let volume = read_volume(alloc, disk)?;
     let geometry = &volume.superblock.geometry;

@@ -7,15 +7,16 @@ ghost use Rattle.ufs_image.specs.Images.{form_at};
 ghost use Rattle.ufs_image.specs.Catalog.{IsInode};
 ghost use Rattle.ufs_image.specs.Opens.{node_bytes};
 ghost use Rattle.ufs_walk.specs.Walked.{AreInodes, entry_of, pairs_of};
-ghost use Rattle.ufs_metadata.specs.Faults.{HasFaultCause, IsOutside};
+ghost use Rattle.ufs_metadata.specs.Faults.{HasFaultCause, IsOutside, LacksMemory};
 ghost use Rattle.ufs_metadata.specs.Folded.{IsFolded};
 ghost use Rattle.ufs_metadata.specs.Reading.{IsReadOnly};
 ghost use Rattle.ufs_opening.specs.Heads.{heads_of, node_head, paths_of, AreHeads, IsHead};
 ghost use Rattle.ufs_opening.specs.Shown.{AreReadable};
 
-use crate::files::{any_leaves, read_front, wanted};
+use crate::files::{read_front, wanted};
 use crate::head::{NodeHead, PathHead};
 use std::alloc::{AllocError, Global};
+use ufs_damage::any_leaves;
 use ufs_disk::Disk;
 use ufs_layout::{Geometry, Inode};
 use ufs_metadata::RecoverFault;
@@ -46,6 +47,7 @@ fn read_node<D: Disk>(
     ensures size { D.size disk.new ≡ D.size disk.old }
     ensures passed { OnOk result (D.faults disk.new ≡ D.faults disk.old) }
     ensures cause { IfErr result (HasFaultCause (D.faults disk.old) (D.faults disk.new)) }
+    ensures memory { IfErr result LacksMemory }
 {
     if inode == 0 {
         return Err(RecoverFault::BadTree { inode });
@@ -96,6 +98,7 @@ fn read_head<D: Disk>(
     ensures size { D.size disk.new ≡ D.size disk.old }
     ensures passed { OnOk result (D.faults disk.new ≡ D.faults disk.old) }
     ensures cause { IfErr result (HasFaultCause (D.faults disk.old) (D.faults disk.new)) }
+    ensures memory { IfErr result LacksMemory }
 {
     let node = read_node(alloc, disk, geometry, overlay, forms, at.inode, most)?;
     let path = copied(alloc, at.path.as_slice())?;
@@ -137,6 +140,7 @@ pub(crate) fn read_heads<D: Disk>(
     ensures size { D.size disk.new ≡ D.size disk.old }
     ensures passed { OnOk result (D.faults disk.new ≡ D.faults disk.old) }
     ensures cause { IfErr result (HasFaultCause (D.faults disk.old) (D.faults disk.new)) }
+    ensures memory { IfErr result LacksMemory }
 {
     let mut heads = Vec::with_capacity(alloc, places.len())?;
     for place in 0..places.len() {

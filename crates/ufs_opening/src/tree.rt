@@ -4,7 +4,7 @@ ghost use Rattle.ufs_disk.specs.Moments.{reads};
 ghost use Rattle.ufs_layout.specs.Areas.{sector_count};
 ghost use Rattle.ufs_image.specs.Opens.{opens};
 ghost use Rattle.ufs_model.specs.Order.{path_cmp};
-ghost use Rattle.ufs_metadata.specs.Faults.{HasFaultCause, IsOutside};
+ghost use Rattle.ufs_metadata.specs.Faults.{HasFaultCause, IsOutside, LacksMemory};
 ghost use Rattle.ufs_metadata.specs.Reading.{IsReadOnly};
 ghost use Rattle.ufs_opening.specs.Told.{TellsWhy};
 ghost use Rattle.ufs_opening.specs.Heads.{pairs_of, whole_entry, HasHeads};
@@ -37,6 +37,7 @@ fn heads_in<D: Disk>(
     ensures size { D.size disk.new ≡ D.size disk.old }
     ensures passed { OnOk result (D.faults disk.new ≡ D.faults disk.old) }
     ensures cause { IfErr result (HasFaultCause (D.faults disk.old) (D.faults disk.new)) }
+    ensures memory { IfErr result LacksMemory }
 {
     let geometry = &opened.volume.superblock.geometry;
     damage_law(geometry);
@@ -62,6 +63,7 @@ pub fn tree_heads<D: Disk>(
     ensures size { D.size disk.new ≡ D.size disk.old }
     ensures passed { OnOk result (D.faults disk.new ≡ D.faults disk.old) }
     ensures cause { IfErr result (HasFaultCause (D.faults disk.old) (D.faults disk.new)) }
+    ensures memory { IfErr result LacksMemory }
 {
     let opened = open(alloc, disk)?;
     heads_in(alloc, disk, &opened, most)
@@ -103,6 +105,7 @@ pub fn tree_of<D: Disk>(alloc: Global, disk: &mut D) -> Result<PathTree, Recover
     ensures size { D.size disk.new ≡ D.size disk.old }
     ensures passed { OnOk result (D.faults disk.new ≡ D.faults disk.old) }
     ensures cause { IfErr result (HasFaultCause (D.faults disk.old) (D.faults disk.new)) }
+    ensures memory { IfErr result LacksMemory }
 {
     let heads = tree_heads(alloc, disk, None)?;
     let entries = entries_of(alloc, heads)?;

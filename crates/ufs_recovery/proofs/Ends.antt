@@ -135,8 +135,12 @@ module _ (sectors : ℕ) (image : Image) (v : FoldedVolume) (is : volume sectors
   pub log_same : committed_in v image ≡ log_of image
   log_same = ap (λ (u : Volume). committed u.geometry u.superblock.epoch image) (taken sectors image (volume_in v image) is).same
 
-  folded_same : folded_image v image ≡ (volume_of (superblock_of image) image).image
+  pub folded_same : folded_image v image ≡ (volume_of (superblock_of image) image).image
   folded_same = ap (λ (u : Volume). u.image) (taken sectors image (volume_in v image) is).same
+
+  pub below_highest : v.highest ≡ highest_number (committed_in v image) → (n : ℕ) → 1 ≤ n → AllByRecursion (λ (c : Committed). c.number < n) (log_of image) → v.highest < n
+  below_highest highest n some logged =
+      subst (λ h. h < n) (sym (highest ∙ ap highest_number log_same)) (fold_below 0 n (log_of image) (omega (arith, some)) logged)
 
   -- without blame it opens
   pub opens_there : bad_tree v.superblock.geometry (folded_image v image) ≡ None → (tree : ImageTree) × (opens sectors image ≡ Ok tree)

@@ -13,6 +13,8 @@ use Rattle.ufs_image.specs.Changes.{IsReached, IsUnreached}
 use Rattle.ufs_image.specs.Images.{inode_at, form_at}
 use Rattle.ufs_image.specs.Nodes.{sound_nodes}
 use Rattle.ufs_damage.specs.Findings.{AreFindingsOf, CatalogRead}
+use Rattle.ufs_metadata.specs.declared.fault.RecoverFault.{RecoverFault}
+use Rattle.ufs_metadata.specs.declared.fault.RecoverFault.TheVariants as fault
 use Rattle.ufs_disk.specs.Disk.{IsSettled}
 use Rattle.ufs_disk.specs.Moments.{Moments, reads}
 use Rattle.ufs_recovery.specs.Home.{IsAtHome, KeepsTree}
@@ -92,6 +94,11 @@ IsLackOfPlan superblock forms used (Memory refused) = ⊤
 IsLackOfPlan superblock forms used AtEnd = (superblock.epoch ≡ 2 ^ 64 - 1) ⊎ ((n : ℕ) → used < n → AreNumbersBelow forms n → 2 ^ 64 ≤ n)
 IsLackOfPlan superblock forms used Unsound = ⊥
 IsLackOfPlan superblock forms used Told = ⊥
+
+-- What a fault lacks is a lack of the plan; one that is for want of nothing says nothing of it.
+abbrev pub LacksForPlan : Super → List (Option InodeForm) → ℕ → RecoverFault → Type 0
+LacksForPlan superblock forms used (fault.Lack why) = IsLackOfPlan superblock forms used why
+LacksForPlan superblock forms used _ = ⊤
 
 -- What was read of an image that has the same inodes.
 pub record IsReadOf (g : Geometry) (image : Image) (findings : CatalogRead) : Type 0 where

@@ -1,7 +1,9 @@
 -- What a recovery begins with and what it leaves.
-use Rattle.std.specs.Prelude.{ℕ, ◌≡◌, ◌≢◌, ◌<◌, ◌≤◌, ◌+◌, List, [], length, true}
+use Rattle.std.specs.Prelude.{ℕ, ◌≡◌, ◌≢◌, ◌<◌, ◌≤◌, ◌+◌, ◌-◌, ◌^◌, ◌⊎◌, ⊤, List, [], length, true}
 use Rattle.std.specs.List.{AllByRecursion}
 use Rattle.ufs_base.specs.Images.{Image}
+use Rattle.ufs_base.specs.declared.lack.Lack.{Lack}
+use Rattle.ufs_base.specs.declared.lack.Lack.TheVariants.{Memory, AtEnd, Unsound, Told}
 use Rattle.ufs_disk.specs.Disk.{State, IsSettled, seen}
 use Rattle.ufs_layout.specs.InodeForm.{InodeForm}
 use Rattle.ufs_layout.specs.Superblock.{geometry_of}
@@ -15,6 +17,8 @@ use Rattle.ufs_image.specs.Nodes.{blocks_of}
 use Rattle.ufs_image.specs.Proper.{IsProperImage}
 use Rattle.ufs_image.specs.Volume.{superblock_of, volume_of}
 use Rattle.ufs_model.specs.Excuses as excuses
+use Rattle.ufs_metadata.specs.declared.fault.RecoverFault.{RecoverFault}
+use Rattle.ufs_metadata.specs.declared.fault.RecoverFault.TheVariants as fault
 
 -- Nothing is pending, and what the disk reads is proper.
 pub record IsProperDisk (sectors : ℕ) (state : State) : Type 0 where
@@ -58,6 +62,21 @@ pub record IsRecovered (before after : Image) : Type 0 where
       → (form_at (geometry_of (superblock_of before)) after inode).number ≡ (form_at (geometry_of (superblock_of before)) (volume_of (superblock_of before) before).image inode).number
   pub named : HasNoOrphans (geometry_of (superblock_of before)) after
   pub fitted : AreFitted (geometry_of (superblock_of before)) after
+
+-- For want of this a recovery is refused: memory was refused, or the image has the last epoch, or no commit number is left above those of
+-- all inodes, as the transactions leave them, and of all transactions.
+abbrev pub IsLackOfRecovery : Image → Lack → Type 0
+IsLackOfRecovery image (Memory refused) = ⊤
+IsLackOfRecovery image AtEnd =
+    ((superblock_of image).epoch ≡ 2 ^ 64 - 1)
+    ⊎ ((n : ℕ) → 1 ≤ n → AreInodesBelow (geometry_of (superblock_of image)) (volume_of (superblock_of image) image).image n → AreCommitsBelow (log_of image) n → 2 ^ 64 ≤ n)
+IsLackOfRecovery image Unsound = ⊥
+IsLackOfRecovery image Told = ⊥
+
+-- What a fault lacks is a lack of a recovery; one that is for want of nothing says nothing of it.
+abbrev pub LacksForRecovery : Image → RecoverFault → Type 0
+LacksForRecovery image (fault.Lack why) = IsLackOfRecovery image why
+LacksForRecovery image _ = ⊤
 
 -- Nothing is pending, what the disk reads is proper and marked clean, and nothing is committed in its epoch.
 pub record IsCleanDisk (sectors : ℕ) (state : State) : Type 0 where

@@ -1,12 +1,13 @@
 // A recovery from its plan to the end.
 ghost use Rattle.std.specs.Prelude.{ℕ, ◌≡◌, ◌≤◌, length, IsTrue, IfErr, OnOk};
-ghost use Rattle.ufs_metadata.specs.Faults.{HasFaultCause, IsOutside};
+ghost use Rattle.ufs_metadata.specs.Faults.{HasFaultCause, IsOutside, LacksMemory};
 ghost use Rattle.ufs_disk.specs.Disk.{IsSettled};
 ghost use Rattle.ufs_disk.specs.Moments.{reads};
 ghost use Rattle.ufs_layout.specs.Areas.{IsGeometry, sector_count};
 ghost use Rattle.ufs_layout.specs.Superblock.{is_super};
 ghost use Rattle.ufs_recovery.specs.Finished.{HasFinished, IsWrittenBack, MayFinish, MayWriteBack};
 ghost use Rattle.ufs_recovery.specs.Home.{KeepsTree};
+ghost use Rattle.ufs_recovery.specs.Orphans.{LacksForPlan};
 ghost use Rattle.ufs_volume.specs.Volumes.{folded_image};
 
 use crate::faults::of_device;
@@ -45,6 +46,7 @@ fn finish<D: Disk>(
     ensures passed { OnOk result (D.faults disk.new ≡ D.faults disk.old) }
     ensures cause { IfErr result (HasFaultCause (D.faults disk.old) (D.faults disk.new)) }
     ensures outside { IfErr result IsOutside }
+    ensures memory { IfErr result LacksMemory }
 {
     let taken = tidy(alloc, disk, geometry, findings, &plan.orphans)?;
     of_device(close(disk, geometry, &taken, &plan.superblock))
@@ -69,6 +71,7 @@ pub(crate) fn write_back<D: Disk>(
     ensures passed { OnOk result (D.faults disk.new ≡ D.faults disk.old) }
     ensures cause { IfErr result (HasFaultCause (D.faults disk.old) (D.faults disk.new)) }
     ensures outside { IfErr result IsOutside }
+    ensures lack { IfErr result (LacksForPlan volume.now.superblock.superblock findings.now.forms volume.now.highest) }
 {
     let plan = make_plan(alloc, &volume.superblock, findings, volume.highest)?;
     of_device(begin(disk, &volume.overlay, &plan.superblock))?;

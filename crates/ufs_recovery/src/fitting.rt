@@ -2,7 +2,7 @@
 ghost use Rattle.std.specs.Prelude.{ℕ, ◌≡◌, ◌≤◌, ◌<◌, ◌+◌, length, IsTrue, IfErr, OnOk};
 ghost use Rattle.ufs_base.specs.Faults.{HasCause};
 ghost use Rattle.ufs_base.specs.Images.{Image};
-ghost use Rattle.ufs_metadata.specs.Faults.{HasFaultCause, IsOutside};
+ghost use Rattle.ufs_metadata.specs.Faults.{HasFaultCause, IsOutside, LacksMemory};
 ghost use Rattle.ufs_disk.specs.Disk.{IsSettled};
 ghost use Rattle.ufs_disk.specs.Moments.{LeavesOnly, reads};
 ghost use Rattle.ufs_layout.specs.Areas.{IsGeometry, sector_count};
@@ -62,6 +62,7 @@ fn put_fitted<D: Disk>(
     ensures passed { OnOk result (D.faults disk.new ≡ D.faults disk.old) }
     ensures cause { IfErr result (HasFaultCause (D.faults disk.old) (D.faults disk.new)) }
     ensures outside { IfErr result IsOutside }
+    ensures memory { IfErr result LacksMemory }
 {
     let short = fitted(alloc, form)?;
     of_device(put_form(disk, geometry, place, &short))
@@ -88,6 +89,7 @@ fn fit_at<D: Disk>(
     ensures passed { OnOk result (D.faults disk.new ≡ D.faults disk.old) }
     ensures cause { IfErr result (HasFaultCause (D.faults disk.old) (D.faults disk.new)) }
     ensures outside { IfErr result IsOutside }
+    ensures memory { IfErr result LacksMemory }
 {
     let Some(form) = &forms[place as usize] else {
         return Ok(());
@@ -116,6 +118,7 @@ pub(crate) fn fit<D: Disk>(
     ensures passed { OnOk result (D.faults disk.new ≡ D.faults disk.old) }
     ensures cause { IfErr result (HasFaultCause (D.faults disk.old) (D.faults disk.new)) }
     ensures outside { IfErr result IsOutside }
+    ensures memory { IfErr result LacksMemory }
 {
     for place in 0..geometry.inodes {
         fit_at(alloc, disk, geometry, forms, place)?;

@@ -1,7 +1,7 @@
 // Orphans are freed and files are cut where there are such, and the used blocks are told.
 ghost use Rattle.std.specs.Prelude.{ℕ, ◌≡◌, ◌≤◌, length, IsTrue, IfOk, IfErr, OnOk};
 ghost use Rattle.ufs_base.specs.Images.{Image};
-ghost use Rattle.ufs_metadata.specs.Faults.{HasFaultCause, IsOutside};
+ghost use Rattle.ufs_metadata.specs.Faults.{HasFaultCause, IsOutside, LacksMemory};
 ghost use Rattle.ufs_metadata.specs.Reading.{IsReadOnly};
 ghost use Rattle.ufs_damage.specs.Findings.{AreFindingsOf};
 ghost use Rattle.ufs_damage.specs.Taken.{AreTaken};
@@ -37,6 +37,7 @@ fn used_blocks(
     ensures taken { IfOk result (λ t. (image : Image) → AreFindingsOf geometry.now image findings.now → AreTaken geometry.now (sound_nodes geometry.now image) t) }
     ensures calm { IfErr result (λ f. (before : ℕ) → HasFaultCause before before f) }
     ensures outside { IfErr result IsOutside }
+    ensures memory { IfErr result LacksMemory }
 {
     match taken_blocks(alloc, geometry, findings) {
         Ok(taken) => Ok(taken),
@@ -58,6 +59,7 @@ fn read_used_blocks<D: Disk>(
     ensures passed { OnOk result (D.faults disk.new ≡ D.faults disk.old) }
     ensures cause { IfErr result (HasFaultCause (D.faults disk.old) (D.faults disk.new)) }
     ensures outside { IfErr result IsOutside }
+    ensures memory { IfErr result LacksMemory }
 {
     let findings = read_again(alloc, disk, geometry)?;
     used_blocks(alloc, geometry, &findings)
@@ -78,6 +80,7 @@ fn read_again<D: Disk>(
     ensures passed { OnOk result (D.faults disk.new ≡ D.faults disk.old) }
     ensures cause { IfErr result (HasFaultCause (D.faults disk.old) (D.faults disk.new)) }
     ensures outside { IfErr result IsOutside }
+    ensures memory { IfErr result LacksMemory }
 {
     let overlay = Overlay::make(alloc, geometry);
     read_findings(alloc, disk, geometry, &overlay)
@@ -102,6 +105,7 @@ fn fit_files<D: Disk>(
     ensures passed { OnOk result (D.faults disk.new ≡ D.faults disk.old) }
     ensures cause { IfErr result (HasFaultCause (D.faults disk.old) (D.faults disk.new)) }
     ensures outside { IfErr result IsOutside }
+    ensures memory { IfErr result LacksMemory }
 {
     if are_fitted(findings.forms()) {
         return used_blocks(alloc, geometry, findings);
@@ -133,6 +137,7 @@ pub(crate) fn tidy<D: Disk>(
     ensures passed { OnOk result (D.faults disk.new ≡ D.faults disk.old) }
     ensures cause { IfErr result (HasFaultCause (D.faults disk.old) (D.faults disk.new)) }
     ensures outside { IfErr result IsOutside }
+    ensures memory { IfErr result LacksMemory }
 {
     if has_none(&orphans.numbers) {
         return fit_files(alloc, disk, geometry, findings);

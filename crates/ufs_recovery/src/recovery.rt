@@ -7,7 +7,7 @@ ghost use Rattle.ufs_image.specs.Proper.{IsProperImage};
 ghost use Rattle.ufs_image.specs.Volume.{Refusal, superblock_of};
 ghost use Rattle.ufs_opening.specs.Told.{TellsWhy};
 ghost use Rattle.ufs_recovery.specs.Home.{KeepsTree};
-ghost use Rattle.ufs_recovery.specs.Recovered.{IsCleanDisk, IsProperDisk, IsRecovered, log_of};
+ghost use Rattle.ufs_recovery.specs.Recovered.{IsCleanDisk, IsProperDisk, IsRecovered, LacksForRecovery, log_of};
 
 use crate::finishing::write_back;
 use std::alloc::Global;
@@ -21,7 +21,7 @@ use ufs_opening::open;
 /// differ are written, and the image is marked clean. Whatever stops it, the image stands for the same tree and may be
 /// recovered again. Reads what `open` reads, and the bitmap; where inodes are freed, the inode table and the directories
 /// are read once more, and so where files are cut. A fault of the disk ends it. Where the epochs or the commit numbers
-/// end, it is refused as by want of memory.
+/// end, it is refused (`Lack(AtEnd)`), and nowhere else for want of a number.
 pub fn recover<D: Disk>(alloc: Global, disk: &mut D) -> Result<u32, RecoverFault>
     ensures found { IsTrue D.visible → IfOk result (λ count. count ≡ length (log_of (reads (D.moments disk.old)))) }
     ensures clean { IsTrue D.visible → OnOk result (IsProperDisk (D.size disk.old) (D.moments disk.old).state → IsCleanDisk (D.size disk.old) (D.moments disk.new).state) }
@@ -34,6 +34,7 @@ pub fn recover<D: Disk>(alloc: Global, disk: &mut D) -> Result<u32, RecoverFault
     ensures unopened { IsTrue D.visible → (refusal : Refusal) → opens (D.size disk.old) (reads (D.moments disk.old)) ≡ Err refusal → IsReadOnly D.keeps (D.moments disk.old) (D.moments disk.new) }
     ensures refused { IsTrue D.visible → IfErr result (TellsWhy (D.size disk.old) (reads (D.moments disk.old))) }
     ensures outside { IsTrue D.visible → IsProperImage (D.size disk.old) (reads (D.moments disk.old)) → IfErr result IsOutside }
+    ensures lack { IsTrue D.visible → IfErr result (LacksForRecovery (reads (D.moments disk.old))) }
     ensures size { D.size disk.new ≡ D.size disk.old }
     ensures passed { OnOk result (D.faults disk.new ≡ D.faults disk.old) }
     ensures cause { IfErr result (HasFaultCause (D.faults disk.old) (D.faults disk.new)) }

@@ -56,6 +56,7 @@ pub(crate) fn read_journal<D: Disk>(
     requires large { sector_count geometry.now ≤ D.size disk.old }
     ensures found { IsTrue D.visible → IfOk result (λ list. list.found.items ≡ well_spelled (sectors_of_epoch geometry.now epoch (reads (D.moments disk.old)))) }
     ensures misspelled { IsTrue D.visible → IfOk result (λ list. list.misspelled ≡ misspelled (sectors_of_epoch geometry.now epoch (reads (D.moments disk.old)))) }
+    ensures few { IfOk result (λ list. length list.found.items ≤ geometry.now.journal) }
     ensures content { IsTrue D.visible → reads (D.moments disk.new) ≡ reads (D.moments disk.old) }
     ensures crash { IsTrue D.visible → LeavesOnly D.keeps (IsImage (D.moments disk.old).state) (D.moments disk.old) (D.moments disk.new) }
     ensures still { IsTrue D.visible → IsStill D.keeps (D.moments disk.old) (D.moments disk.new) }

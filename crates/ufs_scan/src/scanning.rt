@@ -1,4 +1,4 @@
-ghost use Rattle.std.specs.Prelude.{◌≡◌, ◌≤◌, IsTrue, IfOk, IfErr, OnOk, None};
+ghost use Rattle.std.specs.Prelude.{◌≡◌, ◌≤◌, length, IsTrue, IfOk, IfErr, OnOk, None};
 ghost use Rattle.ufs_disk.specs.Disk.{IsImage};
 ghost use Rattle.ufs_disk.specs.Moments.{IsStill, LeavesOnly, reads};
 ghost use Rattle.ufs_layout.specs.Areas.{IsGeometry, sector_count};
@@ -30,6 +30,7 @@ pub fn scan<D: Disk>(
     requires geometry { IsGeometry geometry.now }
     requires large { sector_count geometry.now ≤ D.size disk.old }
     ensures committed { IsTrue D.visible → IfOk result (λ list. list ≡ committed geometry.now superblock.now.epoch (reads (D.moments disk.old))) }
+    ensures few { IfOk result (λ list. length list ≤ geometry.now.journal) }
     ensures whole { IsTrue D.visible → OnOk result (bad_sector geometry.now superblock.now (reads (D.moments disk.old)) ≡ None) }
     ensures bad { IsTrue D.visible → IfErr result (NamesSector (bad_sector geometry.now superblock.now (reads (D.moments disk.old)))) }
     ensures content { IsTrue D.visible → reads (D.moments disk.new) ≡ reads (D.moments disk.old) }

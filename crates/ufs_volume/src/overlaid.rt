@@ -7,7 +7,7 @@ ghost use Rattle.ufs_image.specs.Journal.{committed};
 ghost use Rattle.ufs_image.specs.BadSectors.{bad_sector};
 ghost use Rattle.ufs_overlay.specs.Over.{rise_above};
 ghost use Rattle.ufs_overlay.specs.Seen.{HasAdded, geometry_of};
-ghost use Rattle.ufs_metadata.specs.Faults.{BlamesNone, HasFaultCause, IsOutside};
+ghost use Rattle.ufs_metadata.specs.Faults.{BlamesNone, HasFaultCause, IsOutside, LacksMemory};
 ghost use Rattle.ufs_metadata.specs.Reading.{IsReadOnly};
 ghost use Rattle.ufs_volume.specs.Journals.{AreFoldable, IsFoldable, IsJournalRefusal, of_scan};
 
@@ -22,6 +22,7 @@ use ufs_scan::{ScanFault, scan};
 fn of_scan(fault: ScanFault) -> RecoverFault
     ensures value { result ≡ of_scan fault }
     ensures blames_none { BlamesNone result }
+    ensures memory { LacksMemory result }
 {
     match fault {
         ScanFault::BadRecord { sector } => RecoverFault::BadRecord { sector },
@@ -38,9 +39,11 @@ pub(crate) fn read_journal<D: Disk>(
 ) -> Result<CommittedList, RecoverFault>
     requires { sector_count image.now.geometry ≤ D.size disk.old }
     ensures committed { IsTrue D.visible → IfOk result (λ list. list ≡ committed image.now.geometry image.now.superblock.epoch (reads (D.moments disk.old))) }
+    ensures few { IfOk result (λ list. length list ≤ image.now.geometry.journal) }
     ensures whole { IsTrue D.visible → OnOk result (bad_sector image.now.geometry image.now.superblock (reads (D.moments disk.old)) ≡ None) }
     ensures bad { IsTrue D.visible → IfErr result (IsJournalRefusal (bad_sector image.now.geometry image.now.superblock (reads (D.moments disk.old)))) }
     ensures blames_none { IfErr result BlamesNone }
+    ensures memory { IfErr result LacksMemory }
     ensures read_only { IsTrue D.visible → IsReadOnly D.keeps (D.moments disk.old) (D.moments disk.new) }
     ensures size { D.size disk.new ≡ D.size disk.old }
     ensures passed { OnOk result (D.faults disk.new ≡ D.faults disk.old) }
@@ -62,6 +65,7 @@ fn add_one(overlay: &mut Overlay, geometry: &Geometry, one: &Committed) -> Resul
     ensures outside { IsFoldable geometry.now one.now → IfErr result IsOutside }
     ensures calm { IfErr result (λ f. (before : ℕ) → HasFaultCause before before f) }
     ensures blames_none { IfErr result BlamesNone }
+    ensures memory { IfErr result LacksMemory }
 {
     if !can_fold(geometry, one.records.as_slice()) {
         return Err(RecoverFault::BadRecord {
@@ -86,6 +90,7 @@ pub(crate) fn overlay_of(
     ensures outside { AreFoldable geometry.now list.now → IfErr result IsOutside }
     ensures calm { IfErr result (λ f. (before : ℕ) → HasFaultCause before before f) }
     ensures blames_none { IfErr result BlamesNone }
+    ensures memory { IfErr result LacksMemory }
 {
     let mut overlay = Overlay::make(alloc, geometry);
     for at in 0..list.len() {

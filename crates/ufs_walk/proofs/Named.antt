@@ -1,5 +1,5 @@
 -- Names among slots.
-use Rattle.std.proofs.Common.{◌≡◌, ℕ, zero, suc, ◌+◌, ◌<◌, inl, inr, List, [], ◌∷◌, ◌++◌, Bool, true, false, Option, Some, None, length, take, get_or, refl, ap, sym, ◌∙◌, subst, arith, append_assoc}
+use Rattle.std.proofs.Common.{◌≡◌, ℕ, suc, ◌+◌, ◌<◌, List, [], ◌∷◌, ◌++◌, true, false, Option, Some, None, length, take, get_or, refl, ap, sym, ◌∙◌, arith, append_assoc}
 use Rattle.std.specs.Prelude.{flat_map, ◌==◌, nat_lt}
 use Rattle.std.proofs.lemmas.Bool.Decides.{nat_tests}
 use Rattle.std.specs.List.{enumerate_from, cons_option}
@@ -7,7 +7,6 @@ use Rattle.std.proofs.lemmas.List.{append-nil, length-take-le, take_more}
 use Rattle.ufs_base.specs.Choices.{some_if}
 use Rattle.ufs_layout.specs.DentryForm.{DentryForm, is_named}
 use Rattle.ufs_image.specs.Nodes.{NamedSlot, names_of}
-use Rattle.ufs_image.proofs.Lists.{IsIn}
 use Rattle.ufs_walk.specs.Walked.{Place, place_and_below}
 
 -- the names in some slots
@@ -64,29 +63,6 @@ module _ (deeper : List ℕ → ℕ → List Place) (path : List ℕ) (inode : �
       ap (flat_map (place_and_below deeper path)) (names_more inode xs k (Some d) less is ∙ ap (λ b. named_in inode (take k xs) ++ cons_option {X = NamedSlot} (some_if b (k, d)) []) named)
       ∙ flat_append (place_and_below deeper path) (named_in inode (take k xs)) ((k, d) ∷ [])
       ∙ ap (λ l. so_far k ++ l) (append-nil ((path ++ 47 ∷ d.name, d.inode) ∷ deeper (path ++ 47 ∷ d.name) d.inode))
-
--- what is noted then
-pub joined_on : (es before deep : List Place) (p : Place) → ((es ++ before) ++ p ∷ []) ++ deep ≡ es ++ (before ++ p ∷ deep)
-joined_on es before deep p = append_assoc (es ++ before) (p ∷ []) deep ∙ append_assoc es before (p ∷ deep)
-
--- a name that stands in a slot is one of the names
-in_cons : (o : Option NamedSlot) (xs : List NamedSlot) (n : NamedSlot) → IsIn n xs → IsIn n (cons_option o xs)
-in_cons None xs n is = is
-in_cons (Some m) xs n is = inr is
-
-pub in_named : (inode n : ℕ) (xs : List (Option DentryForm)) (k : ℕ) (d : DentryForm) → k < length xs → Some d ≡ get_or xs k (Some d) → is_named d ≡ true → IsIn (n + k, d) (names_of (record { inode = inode; slots = enumerate_from n xs }))
-in_named inode n [] k d less is named = absurd (omega (arith, less))
-in_named inode n (x ∷ xs) zero d less is named =
-    let at : n ≡ n + 0 = omega arith in
-    subst (λ (o : Option DentryForm). IsIn (n + 0, d) (names_of (record { inode = inode; slots = enumerate_from n (o ∷ xs) }))) is
-    (subst (λ (b : Bool). IsIn (n + 0, d) (cons_option {X = NamedSlot} (some_if b (n, d)) (names_of (record { inode = inode; slots = enumerate_from (n + 1) xs })))) (sym named) (inl (λ i. (sym at i, d))))
-in_named inode n (None ∷ xs) (suc k) d less is named =
-    let at : n + 1 + k ≡ n + suc k = omega arith in
-    subst (λ (m : ℕ). IsIn (m, d) (names_of (record { inode = inode; slots = enumerate_from (n + 1) xs }))) at (in_named inode (n + 1) xs k d (omega (arith, less)) is named)
-in_named inode n (Some e ∷ xs) (suc k) d less is named =
-    let at : n + 1 + k ≡ n + suc k = omega arith in
-    in_cons (some_if (is_named e) (n, e)) (names_of (record { inode = inode; slots = enumerate_from (n + 1) xs })) (n + suc k, d)
-    (subst (λ (m : ℕ). IsIn (m, d) (names_of (record { inode = inode; slots = enumerate_from (n + 1) xs }))) at (in_named inode (n + 1) xs k d (omega (arith, less)) is named))
 
 pub unnamed : (name : List ℕ) → (length name == 0) ≡ true → nat_lt 0 (length name) ≡ false
 unnamed [] is = refl

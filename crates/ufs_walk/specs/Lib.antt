@@ -1,3 +1,4 @@
 pub mod Walked
 pub mod Found
 pub mod Reached
+pub mod Waits

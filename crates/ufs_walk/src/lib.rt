@@ -4,6 +4,7 @@
 mod index;
 mod places;
 mod reaching;
+mod turns;
 mod walk;
 
 pub use places::PathAt;

@@ -1,22 +1,20 @@
 // A walk through the directories of an image.
-ghost use Rattle.std.specs.Prelude.{◌≡◌, ◌++◌, ◌∷◌, ℕ, List, None, OnOk, IfOk, IsTrue};
+ghost use Rattle.std.specs.Prelude.{◌≡◌, ◌++◌, List, None, OnOk, IfOk, IsTrue};
 ghost use Rattle.std.specs.List.{enumerate_from};
 ghost use Rattle.std.specs.FinMap as map;
 ghost use Rattle.ufs_base.specs.Images.{Image};
 ghost use Rattle.ufs_layout.specs.Areas.{IsGeometry};
-ghost use Rattle.ufs_layout.specs.declared.geometry.Geometry.{Geometry};
-ghost use Rattle.ufs_image.specs.Images.{form_at};
-ghost use Rattle.ufs_image.specs.Catalog.{IsInode};
 ghost use Rattle.ufs_image.specs.Damage.{bad_tree};
 ghost use Rattle.ufs_image.specs.Nodes.{names_of};
-ghost use Rattle.ufs_image.specs.Opens.{names_in};
 ghost use Rattle.ufs_model.specs.Order.{path_cmp};
 ghost use Rattle.ufs_damage.specs.Findings.{AreFindingsOf};
-ghost use Rattle.ufs_walk.specs.Found.{IsIndexOf, HasNames};
-ghost use Rattle.ufs_walk.specs.Walked.{AreInodes, Place, pairs_of, places, places_below};
+ghost use Rattle.ufs_walk.specs.Found.{IsIndexOf};
+ghost use Rattle.ufs_walk.specs.Waits.{below_in, left, names_at};
+ghost use Rattle.ufs_walk.specs.Walked.{AreInodes, Place, pairs_of, places};
 
 use crate::index::index_of;
 use crate::places::{PathAt, PlaceMap};
+use crate::turns::{Waiting, push_names};
 use std::alloc::Global;
 use std::collections::BTreeMap;
 use ufs_base::Memory;
@@ -31,8 +29,7 @@ fn slots_at<'a>(
     inode: u32,
 ) -> &'a [Option<Dentry>]
     requires { IsIndexOf dirs.now index.now }
-    ensures { (g : Geometry) (image : Image) → HasNames g image dirs.now → IsInode g inode
-        → names_of (record { inode = inode; slots = enumerate_from 0 result.now }) ≡ names_in image inode (form_at g image inode) }
+    ensures { names_of (record { inode = inode; slots = enumerate_from 0 result.now }) ≡ names_at dirs.now index.now inode }
 {
     match index.get(&inode).copied() {
         Some(place) => dirs[place].slots(),
@@ -40,46 +37,50 @@ fn slots_at<'a>(
     }
 }
 
-// One name deeper.
-fn enter(path: &mut Vec<u8>, name: &[u8]) -> Result<(), Memory>
-    ensures { OnOk result (path.new.items ≡ path.old.items ++ 47 ∷ name.now) }
-{
-    path.push(b'/')?;
-    path.extend_from_slice(name)?;
-    Ok(())
-}
-
-// Notes what stands below a directory with this path, at most so deep.
-fn walk(
+// The names in an inode's directory with this path wait from now on, unless the walk goes no deeper.
+fn push_below(
     alloc: Global,
     dirs: &[ReadDir],
     index: &BTreeMap<u32, usize>,
-    depth: u32,
-    path: &mut Vec<u8>,
+    path: &[u8],
     inode: u32,
-    found: &mut PlaceMap,
+    depth: u32,
+    waiting: &mut Vec<Waiting>,
 ) -> Result<(), Memory>
     requires { IsIndexOf dirs.now index.now }
-    ensures found { (g : Geometry) (image : Image) (es : List Place) → HasNames g image dirs.now → IsInode g inode → found.old ≡ map.from_entries es
-        → OnOk result (found.new ≡ map.from_entries (es ++ places_below depth g image path.old.items inode)) }
-    ensures path { OnOk result (path.new.items ≡ path.old.items) }
+    ensures { OnOk result (left dirs.now index.now waiting.new.items ≡ below_in depth dirs.now index.now path.now inode ++ left dirs.now index.now waiting.old.items) }
 {
     if depth == 0 {
         return Ok(());
     }
-    let length = path.len();
     let slots = slots_at(dirs, index, inode);
-    for place in 0..slots.len() {
-        let Some(dentry) = &slots[place] else {
-            continue;
-        };
-        if dentry.name_bytes().is_empty() {
-            continue;
-        }
-        enter(path, dentry.name_bytes())?;
-        found.note(alloc, path, dentry.inode)?;
-        walk(alloc, dirs, index, depth - 1, path, dentry.inode, found)?;
-        path.truncate(length);
+    push_names(alloc, slots, path, depth - 1, waiting)
+}
+
+// Notes what waits, each name before what stands below it. A call for each level would need as much stack as an
+// image has levels.
+fn note_all(
+    alloc: Global,
+    dirs: &[ReadDir],
+    index: &BTreeMap<u32, usize>,
+    mut waiting: Vec<Waiting>,
+    found: &mut PlaceMap,
+) -> Result<(), Memory>
+    requires { IsIndexOf dirs.now index.now }
+    ensures { (es : List Place) → found.old ≡ map.from_entries es → OnOk result (found.new ≡ map.from_entries (es ++ left dirs.now index.now waiting.items)) }
+{
+    while let Some(next) = waiting.pop() {
+        let path = next.path.as_slice();
+        found.note(alloc, path, next.inode)?;
+        push_below(
+            alloc,
+            dirs,
+            index,
+            path,
+            next.inode,
+            next.depth,
+            &mut waiting,
+        )?;
     }
     Ok(())
 }
@@ -103,15 +104,8 @@ pub fn places_of(
     let index = index_of(alloc, dirs)?;
     let mut found = PlaceMap::new(alloc);
     found.note(alloc, b"/", 1)?;
-    let mut path = Vec::new(alloc);
-    walk(
-        alloc,
-        dirs,
-        &index,
-        geometry.inodes,
-        &mut path,
-        1,
-        &mut found,
-    )?;
+    let mut waiting = Vec::new(alloc);
+    push_below(alloc, dirs, &index, b"", 1, geometry.inodes, &mut waiting)?;
+    note_all(alloc, dirs, &index, waiting, &mut found)?;
     found.into_places(alloc)
 }

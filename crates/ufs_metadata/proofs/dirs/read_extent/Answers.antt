@@ -10,7 +10,7 @@ use Rattle.ufs_image.proofs.Written.{rows}
 use Rattle.ufs_metadata.specs.Told.{slots_in}
 use Rattle.std.proofs.lemmas.Grind.{common_steps}
 use Rattle.ufs_metadata.proofs.Pieces.{sectors_long}
-use Rattle.ufs_metadata.proofs.Rows.{flat_more}
+use Rattle.ufs_metadata.proofs.Rows.{few_slots, flat_more}
 use Rattle.ufs_metadata.proofs.Quiet.{read_more}
 use Rattle.ufs_metadata.proofs.dirs.read_extent.Goals as goal
 
@@ -38,6 +38,9 @@ loop-place-preserved g c =
           ∙ ap (λ l. (old ++ before) ++ l) (sym (rows image (8 * block) 8 long))
           ∙ append_assoc old before (read_block image block)
           ∙ ap (λ l. old ++ l) (sym (flat_more (read_block image) c.args.extent.now.start c.loop-place.place));
+      few =
+          let more = few_slots c.loop-place.slots.items c.push_slots.new.slots.items c.read_block.new.buf c.in_ok-push_slots.ensures in
+          omega (arith, more, i.few);
       read_only = λ visible. read_more g.D.Disk.keeps (g.D.Disk.moments c.args.disk.now) (g.D.Disk.moments c.loop-place.disk) (g.D.Disk.moments c.read_block.new.disk) (i.read_only visible) (c.read_block.ensures.read_only visible);
       size = c.read_block.ensures.size ∙ i.size;
       faults = c.in_ok-read_block.ensures.passed ∙ i.faults;

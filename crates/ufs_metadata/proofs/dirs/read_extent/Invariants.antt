@@ -1,4 +1,4 @@
-use Rattle.std.proofs.Common.{◌≡◌, ◌++◌, IsTrue}
+use Rattle.std.proofs.Common.{◌≡◌, ◌≤◌, ◌+◌, ◌*◌, ◌++◌, length, IsTrue}
 use Rattle.std.specs.Prelude.{flat_map}
 use Rattle.std.specs.List.{range_with_len}
 use Rattle.ufs_base.specs.Images.{Image}
@@ -14,6 +14,7 @@ invariant-loop-place g l =
     let first = disk.moments l.fn.disk in
     record {
       slots : IsTrue disk.visible → (image : Image) → IsFolded l.overlay (reads first) image → l.slots.items ≡ l.fn.slots.items ++ flat_map (read_block image) (range_with_len l.extent.start l.place);
+      few : length l.slots.items ≤ length l.fn.slots.items + 64 * l.place;
       read_only : IsTrue disk.visible → IsReadOnly disk.keeps first (disk.moments l.disk);
       size : disk.size l.disk ≡ disk.size l.fn.disk;
       faults : disk.faults l.disk ≡ disk.faults l.fn.disk;

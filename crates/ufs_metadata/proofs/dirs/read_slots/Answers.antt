@@ -1,4 +1,4 @@
-use Rattle.std.proofs.Common.{◌≡◌, ◌<◌, [], ◌∷◌, ◌++◌, length, take, get_or, ap, sym, ◌∙◌, subst, arith}
+use Rattle.std.proofs.Common.{◌≡◌, ◌<◌, [], ◌∷◌, ◌++◌, List, length, take, get_or, ap, sym, ◌∙◌, subst, arith}
 use Rattle.std.specs.Prelude.{flat_map}
 use Rattle.std.specs.List.{range_with_len}
 use Rattle.std.proofs.lemmas.List.{append-nil, take_more}
@@ -6,8 +6,8 @@ use Rattle.ufs_base.specs.Images.{Image}
 use Rattle.ufs_disk.specs.Moments.{reads}
 use Rattle.ufs_metadata.specs.Folded.{IsFolded}
 use Rattle.ufs_layout.specs.declared.inode.Extent.{Extent}
-use Rattle.ufs_image.specs.Nodes.{read_block}
-use Rattle.ufs_metadata.proofs.Rows.{flat_append}
+use Rattle.ufs_image.specs.Nodes.{leaves_data, read_block}
+use Rattle.ufs_metadata.proofs.Rows.{each_not, ends_inside, few_after, few_in_all, flat_append}
 use Rattle.ufs_metadata.proofs.Quiet.{read_more}
 use Rattle.ufs_metadata.proofs.dirs.read_slots.Goals as goal
 
@@ -32,7 +32,16 @@ loop-extent-preserved g c =
           (ap (flat_map (λ (e : Extent). range_with_len e.start e.length)) (take_more xs k none less)
           ∙ flat_append (λ (e : Extent). range_with_len e.start e.length) (take k xs) (get_or xs k none ∷ [])
           ∙ ap (λ l. flat_map (λ (e : Extent). range_with_len e.start e.length) (take k xs) ++ l) (append-nil (range_with_len (get_or xs k none).start (get_or xs k none).length))));
+      within = omega (arith, less);
+      few =
+          let more = c.in_ok-read_extent.ensures.few in
+          let same : (get_or c.used_extents-extent-items.result.now k none).length ≡ (get_or xs k none).length = ap (λ (es : List Extent). (get_or es k none).length) items in
+          let inside = ends_inside c.args.geometry.now (get_or xs k none) (each_not (leaves_data c.args.geometry.now) xs k none less c.requires.inside) in
+          few_after k (length c.loop-extent.slots.items) (get_or c.used_extents-extent-items.result.now k none).length (length c.read_extent.new.slots.items) i.few (omega (arith, same, inside, c.requires.geometry.most_blocks)) more;
       read_only = λ visible. read_more g.D.Disk.keeps (g.D.Disk.moments c.args.disk.now) (g.D.Disk.moments c.loop-extent.disk) (g.D.Disk.moments c.read_extent.new.disk) (i.read_only visible) (c.read_extent.ensures.read_only visible);
       size = c.read_extent.ensures.size ∙ i.size;
       faults = c.in_ok-read_extent.ensures.passed ∙ i.faults;
     }
+
+pub returns-clause-few : goal.returns-clause-few
+returns-clause-few g c = few_in_all c.loop-extent.extent-index (length c.args.form.now.extents) (length c.loop-extent.slots.items) c.loop-extent.invariant.within c.requires.few c.loop-extent.invariant.few

@@ -1,13 +1,15 @@
 use Rattle.std.proofs.Common.{sym, subst}
-use Rattle.std.proofs.lemmas.Result.{err_from_is_err_and, on_ok_weaker}
+use Rattle.std.proofs.lemmas.Result.{IfErr-weaker, err_from_is_err_and, on_ok_weaker}
 use Rattle.ufs_disk.specs.Moments.{reads}
 use Rattle.ufs_disk.proofs.Runs.{started}
+use Rattle.ufs_metadata.specs.Faults.{LacksMemory}
 use Rattle.ufs_volume.specs.Volumes.{volume_in, folded_image}
 use Rattle.ufs_recovery.specs.Finished.{HasFinished, MayFinish}
 use Rattle.ufs_recovery.specs.Home.{HasBegun, KeepsTree}
+use Rattle.ufs_recovery.specs.Orphans.{LacksForPlan}
 use Rattle.ufs_recovery.proofs.Done.{was_done}
 use Rattle.ufs_recovery.proofs.Finished.{is_written, may_finish, may_follow, over}
-use Rattle.ufs_recovery.proofs.PlanLacks.{of_numbers}
+use Rattle.ufs_recovery.proofs.PlanLacks.{memory_for_plan, of_numbers}
 use Rattle.ufs_recovery.proofs.SuperblockPut.{kept_on, still_opens}
 use Rattle.ufs_recovery.proofs.finishing.write_back.Goals as goal
 
@@ -64,3 +66,18 @@ returns-in_err-of_device-clause-tree g c visible settled may =
     let v = c.args.volume.now in
     let f = c.args.findings.now in
     c.begin.ensures.tree visible (volume_in v image) settled (over size image v f may v.same) (may_follow size image v f may c.in_ok-plan.plan.superblock c.in_ok-plan.ensures.geometry c.in_ok-plan.ensures.epoch c.in_ok-plan.ensures.in_use)
+
+pub returns-in_err-plan-clause-lack : goal.returns-in_err-plan-clause-lack
+returns-in_err-plan-clause-lack g c =
+    let p = err_from_is_err_and c.from_residual.result c.from_residual.ensures.1 in
+    rw (p.1, p.2) c.in_err-plan.ensures.lack
+
+pub returns-in_err-of_device-clause-lack : goal.returns-in_err-of_device-clause-lack
+returns-in_err-of_device-clause-lack g c =
+    let p = err_from_is_err_and c.from_residual-in_err-of_device.result c.from_residual-in_err-of_device.ensures.1 in
+    rw (p.1, p.2) (memory_for_plan c.args.volume.now.superblock.superblock c.args.findings.now.forms c.args.volume.now.highest _ c.in_err-of_device.ensures.memory)
+
+pub returns-clause-lack : goal.returns-clause-lack
+returns-clause-lack g c =
+    let lacks = LacksForPlan c.args.volume.now.superblock.superblock c.args.findings.now.forms c.args.volume.now.highest in
+    IfErr-weaker c.finish.result LacksMemory lacks (memory_for_plan c.args.volume.now.superblock.superblock c.args.findings.now.forms c.args.volume.now.highest) c.finish.ensures.memory

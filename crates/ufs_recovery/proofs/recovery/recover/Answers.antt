@@ -7,6 +7,7 @@ use Rattle.ufs_image.specs.Volume.{superblock_of}
 use Rattle.ufs_layout.specs.declared.records.Committed.{Committed}
 use Rattle.ufs_layout.specs.declared.superblock.Super.{Super}
 use Rattle.ufs_recovery.proofs.Ends.{superblock_same, log_same, none_in_clean, only_outside, opens_not, opens_there}
+use Rattle.ufs_recovery.proofs.PlanLacks.{lacks_recovery, memory_for_recovery}
 use Rattle.ufs_recovery.proofs.Reread.{IsReadWhole, clean_behind, kept_behind, recovered_behind}
 use Rattle.ufs_recovery.proofs.SuperblockPut.{keeps_settled, still_settled}
 use Rattle.ufs_recovery.proofs.recovery.recover.Goals as goal
@@ -106,3 +107,15 @@ returns-in-Ok-clause-unopened g c visible refusal none =
 pub returns-clause-unopened : goal.returns-clause-unopened
 returns-clause-unopened g c visible refusal none =
     absurd (opens_not (g.D.Disk.size c.args.disk.now) (reads (g.D.Disk.moments c.args.disk.now)) c.in_ok-opened.opened.volume (c.in_ok-opened.ensures.taken visible) (c.in_ok-opened.ensures.whole visible) refusal none)
+
+pub returns-in_err-opened-clause-lack : goal.returns-in_err-opened-clause-lack
+returns-in_err-opened-clause-lack g c visible =
+    let p = err_from_is_err_and c.from_residual.result c.from_residual.ensures.1 in
+    rw (p.1, p.2) (memory_for_recovery (reads (g.D.Disk.moments c.args.disk.now)) c.in_err-opened.field-0.0 c.in_err-opened.ensures.memory)
+
+pub returns-clause-lack : goal.returns-clause-lack
+returns-clause-lack g c visible =
+    let here = c.in_ok-opened.ensures in
+    let is : IsReadWhole (g.D.Disk.size c.args.disk.now) (reads (g.D.Disk.moments c.args.disk.now)) c.in_ok-opened.opened.volume c.in_ok-opened.opened.findings =
+    record { taken = here.taken visible; added = here.added visible; highest = here.highest visible; found = here.found visible; whole = here.whole visible } in
+    lacks_recovery (g.D.Disk.size c.args.disk.now) (reads (g.D.Disk.moments c.args.disk.now)) c.in_ok-opened.opened.volume c.in_ok-opened.opened.findings is c.in-Err.fault c.in-Err.ensures.lack

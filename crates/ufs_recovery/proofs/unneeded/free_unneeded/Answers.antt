@@ -1,6 +1,9 @@
-use Rattle.std.proofs.lemmas.Result.{err_from_is_err_and, on_ok_weaker}
+use Rattle.std.proofs.lemmas.Result.{IfErr-weaker, err_from_is_err_and, on_ok_weaker}
 use Rattle.ufs_disk.specs.Moments.{reads}
+use Rattle.ufs_recovery.specs.Orphans.{LacksForPlan}
+use Rattle.ufs_recovery.specs.Recovered.{LacksForRecovery}
 use Rattle.ufs_recovery.proofs.Ends.{only_outside, opens_there}
+use Rattle.ufs_recovery.proofs.PlanLacks.{lacks_recovery, memory_for_recovery}
 use Rattle.ufs_recovery.proofs.Phases.{always_ok, on_ok_both}
 use Rattle.ufs_recovery.proofs.Reread.{IsReadWhole, clean_behind, kept_behind, recovered_behind}
 use Rattle.ufs_recovery.proofs.SuperblockPut.{keeps_settled}
@@ -40,3 +43,17 @@ returns-clause-recovered g c visible =
 pub returns-clause-opened : goal.returns-clause-opened
 returns-clause-opened g c visible = always_ok c.write_back.result
     (opens_there (g.D.Disk.size c.args.disk.now) (reads (g.D.Disk.moments c.args.disk.now)) c.in_ok-opened.opened.volume (c.in_ok-opened.ensures.taken visible) (c.in_ok-opened.ensures.whole visible))
+
+pub returns-in_err-opened-clause-lack : goal.returns-in_err-opened-clause-lack
+returns-in_err-opened-clause-lack g c visible =
+    let p = err_from_is_err_and c.from_residual.result c.from_residual.ensures.1 in
+    rw (p.1, p.2) (memory_for_recovery (reads (g.D.Disk.moments c.args.disk.now)) c.in_err-opened.field-0.0 c.in_err-opened.ensures.memory)
+
+pub returns-clause-lack : goal.returns-clause-lack
+returns-clause-lack g c visible =
+    let here = c.in_ok-opened.ensures in
+    let image = reads (g.D.Disk.moments c.args.disk.now) in
+    let v = c.in_ok-opened.opened.volume in
+    let f = c.in_ok-opened.opened.findings in
+    let is : IsReadWhole (g.D.Disk.size c.args.disk.now) image v f = record { taken = here.taken visible; added = here.added visible; highest = here.highest visible; found = here.found visible; whole = here.whole visible } in
+    IfErr-weaker c.write_back.result (LacksForPlan v.superblock.superblock f.forms v.highest) (LacksForRecovery image) (lacks_recovery (g.D.Disk.size c.args.disk.now) image v f is) c.write_back.ensures.lack

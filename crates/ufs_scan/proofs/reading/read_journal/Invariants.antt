@@ -1,4 +1,4 @@
-use Rattle.std.proofs.Common.{◌≡◌, ◌≤◌, ◌-◌, ◌*◌, IsTrue}
+use Rattle.std.proofs.Common.{◌≡◌, ◌≤◌, ◌-◌, ◌*◌, length, IsTrue}
 use Rattle.ufs_disk.specs.Disk.{IsImage}
 use Rattle.ufs_disk.specs.Moments.{IsStill, LeavesOnly, reads}
 use Rattle.ufs_layout.specs.Areas.{first_of_journal}
@@ -14,6 +14,7 @@ invariant-loop-at g l =
       within : l.at ≤ l.geometry.journal;
       found : IsTrue disk.visible → l.list.found.items ≡ well_spelled (read_from l.epoch (reads first) (8 * first_of_journal l.geometry) l.at);
       misspelled : IsTrue disk.visible → l.list.misspelled ≡ misspelled (read_from l.epoch (reads first) (8 * first_of_journal l.geometry) l.at);
+      few : length l.list.found.items ≤ l.at;
       content : IsTrue disk.visible → reads (disk.moments l.disk) ≡ reads first;
       crash : IsTrue disk.visible → LeavesOnly disk.keeps (IsImage first.state) first (disk.moments l.disk);
       still : IsTrue disk.visible → IsStill disk.keeps first (disk.moments l.disk);

@@ -11,6 +11,7 @@ use Rattle.ufs_scan.specs.Folding.{IsFoldable}
 use Rattle.ufs_scan.specs.Gathered.{transaction_in, HasParts}
 use Rattle.ufs_scan.specs.Standings.{out_of, marked_standings}
 use Rattle.ufs_scan.specs.declared.chains.Chain.{Chain}
+use Rattle.ufs_scan.proofs.Fewer.{few_copied}
 use Rattle.ufs_scan.proofs.Told.{read_is, told_bad, txns}
 use Rattle.ufs_scan.proofs.scanning.scan.Goals as goal
 
@@ -100,3 +101,10 @@ returns-clause-committed g c visible =
     ∙ txns c.args.geometry.now c.requires.geometry c.args.superblock.now (reads (g.D.Disk.moments c.args.disk.now)) c.in_ok-sectors.sectors.found.items (map (λ b. b.now) c.in_ok-parts.parts.items) (map (λ b. b.now) c.in_ok-commits.commits.items) c.in_ok-chains.chains.items
     (read_is c.args.geometry.now c.args.superblock.now (reads (g.D.Disk.moments c.args.disk.now)) c.in_ok-sectors.sectors.found.items c.deref-2.result.now c.deref-3.result.now (map (λ b. b.now) c.in_ok-parts.parts.items) (map (λ b. b.now) c.deref-4.result.now) (map (λ b. b.now) c.in_ok-commits.commits.items) c.in_ok-chains.chains.items
     c.deref-2.ensures.value c.deref-3.ensures.value (ap (map (λ b. b.now)) c.deref-4.ensures.value) (c.in_ok-sectors.ensures.found visible) c.in_ok-parts.ensures.parts c.in_ok-parts.ensures.same c.in_ok-parts.ensures.small c.in_ok-chains.ensures.chains c.in_ok-chains.ensures.fit c.in_ok-commits.ensures.commits c.in_ok-commits.ensures.small))
+
+pub returns-clause-few : goal.returns-clause-few
+returns-clause-few g c =
+    few_copied c.in_ok-sectors.sectors.found.items c.in_ok-sectors.sectors.found.items c.deref-3.result.now (map (λ b. b.now) c.in_ok-commits.commits.items) (map (λ b. b.now) c.deref-in-None-2.result.now) c.in_ok-list-in-None.list.items c.deref-in-None-3.result.now c.in_ok-copy_all-in-None.field-0 c.args.geometry.now.journal
+    c.in_ok-sectors.ensures.few c.deref-3.ensures.value c.in_ok-commits.ensures.commits (ap (map (λ b. b.now)) c.deref-in-None-2.ensures.value)
+    (c.in_ok-list-in-None.ensures c.in_ok-sectors.sectors.found.items (subst (λ l. HasParts c.in_ok-sectors.sectors.found.items (map (λ b. b.now) l)) (sym c.deref-in-None.ensures.value) (subst (λ l. HasParts l (map (λ b. b.now) c.in_ok-parts.parts.items)) c.deref-2.ensures.value c.in_ok-parts.ensures.parts)))
+    c.deref-in-None-3.ensures.value c.in_ok-copy_all-in-None.ensures

@@ -1,4 +1,4 @@
-use Rattle.std.proofs.Common.{◌≡◌, ℕ, length, ap, sym, ◌∙◌, subst}
+use Rattle.std.proofs.Common.{◌≡◌, ℕ, length, ap, sym, ◌∙◌, subst, arith}
 use Rattle.std.proofs.lemmas.Result.{err_from_is_err_and}
 use Rattle.ufs_disk.specs.Moments.{reads}
 use Rattle.ufs_image.specs.Volume.{volume}
@@ -80,3 +80,9 @@ returns-clause-read_only g c visible =
 pub returns-clause-cause : goal.returns-clause-cause
 returns-clause-cause g c =
     subst (λ (n : ℕ). HasFaultCause (g.D.Disk.faults c.args.disk.now) n c.in-Err.fault) (sym (c.in_ok-list.ensures.passed ∙ c.in_ok-superblock.ensures.passed)) (c.in-Err.ensures.calm (g.D.Disk.faults c.args.disk.now))
+
+pub with_list-requires : goal.with_list-requires
+with_list-requires g c =
+    let few = c.in_ok-list.ensures.few in
+    let most = c.in_ok-superblock.superblock.limits.most_journal in
+    omega (arith, few, most)
