@@ -18,7 +18,7 @@ use std::alloc::AllocGlobal;
 use std::collections::VecDeque;
 use std::marker::Brand;
 use std::process::Abort;
-use ufs_caller::{Client, Told, Turn, client_hand};
+use ufs_caller::{Client, ClientRoom, Told, Turn, client_hand};
 use ufs_disk::PlainDisk;
 use ufs_joint::{Begun, Hand, HandTable, Naming, Opened};
 use ufs_joint_tests::{SECTORS, mounted, small_parts};
@@ -127,7 +127,8 @@ fn session<N: Naming, D: Door, R: Abort + AllocGlobal>(
     let _ = store;
     let Begun { table, mut hand } = opened.named::<N>();
     let own = client_hand(&table, &mut hand, 0);
-    let mut client = Client::new(rt.alloc(), geometry, 0, own, requests(rt)).expect(rt, "memory");
+    let room = ClientRoom::make(rt.alloc(), requests(rt)).expect(rt, "memory");
+    let mut client = Client::new(room, geometry, 0, own);
     let post = PlainPost::make(rt.alloc(), 1, 3).expect(rt, "memory");
     let mut post = Shy {
         post,

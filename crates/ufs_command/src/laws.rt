@@ -3,7 +3,7 @@ ghost use Rattle.ufs_command.specs.Laws.{StandsAsBegun};
 
 use ufs_crash_laws::trees_are_explained;
 use ufs_model::a_start_is_a_tree;
-use ufs_tree_laws::image_start_law;
+use ufs_promise_laws::image_start_law;
 
 /// A proper disk that is left as it is stands for what a session on it begins with.
 pub fn unserved_law(sectors: u32)

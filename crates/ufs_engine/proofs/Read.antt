@@ -18,8 +18,8 @@ use Rattle.ufs_model.specs.Laws.{KeepsTrees}
 use Rattle.ufs_model.specs.PosixTree.{PosixTree}
 use Rattle.ufs_model.proofs.ContentLemmas.{start_has_contents}
 use Rattle.ufs_model.proofs.Facts.Starts.{start_is_tree}
-use Rattle.ufs_tree_laws.specs.Starts.{image_start}
-use Rattle.ufs_tree_laws.proofs.Started.{image_is_tree}
+use Rattle.ufs_promise_laws.specs.Starts.{image_start}
+use Rattle.ufs_promise_laws.proofs.Started.{image_is_tree}
 use Rattle.ufs_crash_laws.proofs.Facts.Ends.{start_explained}
 use Rattle.ufs_opening.specs.Told.{TellsWhy}
 use Rattle.ufs_recovery.specs.Home.{KeepsTree, OpensAlike}

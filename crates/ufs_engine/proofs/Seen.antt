@@ -7,7 +7,7 @@ use Rattle.ufs_image.specs.Proper.{IsProperImage}
 use Rattle.ufs_image.specs.Volume.{superblock_of}
 use Rattle.ufs_ledger.specs.Kept.{path_node_of, paths_of}
 use Rattle.ufs_model.specs.Start.{start_of}
-use Rattle.ufs_tree_laws.specs.Starts.{image_start}
+use Rattle.ufs_promise_laws.specs.Starts.{image_start}
 use Rattle.ufs_one_hand.specs.OneHand.{IsStart, disk_with, in_store, seeing, state_in}
 use Rattle.ufs_crash_laws.specs.Mapped.{mapped}
 use Rattle.ufs_recovery.specs.Recovered.{IsCleanDisk}

@@ -29,7 +29,7 @@ use Rattle.ufs_model.specs.Order.{fd_cmp}
 use Rattle.ufs_model.specs.PosixTree.{PosixTree}
 use Rattle.ufs_model.proofs.Facts.Lookups.{same_some}
 use Rattle.ufs_names.proofs.NotedLemmas.{beside}
-use Rattle.ufs_tree_laws.specs.Starts.{image_start}
+use Rattle.ufs_promise_laws.specs.Starts.{image_start}
 use Rattle.ufs_session.specs.Played.{MayBegin}
 use Rattle.ufs_store.specs.Laws.{CleanDisksMount}
 use Rattle.ufs_store.specs.Ledgers.{HasLedger}

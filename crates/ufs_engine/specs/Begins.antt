@@ -4,7 +4,7 @@ use Rattle.std.specs.FinMap as map
 use Rattle.ufs_base.specs.Images as images
 use Rattle.ufs_image.specs.Opens.{ImageTree, opens}
 use Rattle.ufs_model.specs.PosixTree.{PosixTree}
-use Rattle.ufs_tree_laws.specs.Starts.{image_start}
+use Rattle.ufs_promise_laws.specs.Starts.{image_start}
 use Rattle.ufs_opening.specs.Told.{TellsWhy}
 use Rattle.ufs_start.specs.declared.fault.StartFault.{StartFault}
 use Rattle.ufs_start.specs.declared.fault.StartFault.TheVariants.{Image, Unreached, Unnamed, ExtraBlocks}

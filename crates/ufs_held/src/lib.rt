@@ -1,4 +1,4 @@
-//! A file at a server, with the right to its cell: requests on it are served, drawn, and answered.
+//! A file at a server, with the right to its cell: requests on it are served, drawn, and answered; and a file on its way between servers.
 #![tactic(auto)]
 
 mod births;

@@ -10,7 +10,7 @@ use Rattle.ufs_model.specs.Start.{IsPathTree, PathNodes}
 use Rattle.ufs_model.specs.declared.data.PathNode.{PathNode}
 use Rattle.ufs_model.specs.declared.data.PathNode.TheVariants as path_node
 use Rattle.ufs_model.proofs.Facts.Orders.{path_total, path_same}
-use Rattle.ufs_tree_laws.specs.Starts.{ImagesArePathTrees}
+use Rattle.ufs_promise_laws.specs.Starts.{ImagesArePathTrees}
 use Rattle.ufs_opening.specs.Shown.{bytes_of_node, image_tree}
 use Rattle.ufs_crash_laws.proofs.Facts.Mapped.{get-mapped}
 use Rattle.ufs_image_paths.specs.Opened.{IsTreeOf}

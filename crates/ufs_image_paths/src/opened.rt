@@ -13,7 +13,7 @@ use ufs_disk::Disk;
 use ufs_metadata::RecoverFault;
 use ufs_model::PathTree;
 use ufs_opening::tree_of;
-use ufs_tree_laws::image_start_law;
+use ufs_promise_laws::image_start_law;
 
 const ROOT: u32 = 1;
 

@@ -1,7 +1,7 @@
 -- What is known as committed is acknowledged.
 use Rattle.std.proofs.Common.{ap, refl}
 use Rattle.ufs_model.specs.Laws.{KeepsTrees}
-use Rattle.ufs_event_laws.proofs.Going.{entries_keep}
+use Rattle.ufs_promise_laws.proofs.EventsGoing.{entries_keep}
 use Rattle.ufs_crash_laws.specs.StepLaws.{DirFsyncsAcknowledge, FsyncsAcknowledge}
 use Rattle.ufs_store.specs.State.{geometry_of_store}
 use Rattle.ufs_promise_laws.specs.Laws.{leaves_tree}

@@ -13,8 +13,8 @@ use Rattle.ufs_model.specs.History.{entries_of, tree_after}
 use Rattle.ufs_model.specs.PosixTree.{PosixTree, desc_at}
 use Rattle.ufs_model.specs.declared.data.Entry.{Entry}
 use Rattle.ufs_model.proofs.Facts.Histories.{own-push, others-push, numbers-push}
-use Rattle.ufs_event_laws.specs.FileRequests.{with_free}
-use Rattle.ufs_event_laws.proofs.Sound.{sound_by_free_blocks}
+use Rattle.ufs_promise_laws.specs.FileRequests.{with_free}
+use Rattle.ufs_promise_laws.proofs.Sound.{sound_by_free_blocks}
 use Rattle.ufs_crash_laws.specs.Changes.{changes_of, name_changes}
 use Rattle.ufs_hand_laws.specs.declared.fresh.Fresh.{Fresh}
 use Rattle.ufs_hand_laws.specs.Asked.{IsAnswered, IsStill}

@@ -16,7 +16,7 @@ use Rattle.ufs_model.specs.Laws.{KeepsTrees}
 use Rattle.ufs_model.proofs.Facts.Lookups.{there_or_not}
 use Rattle.ufs_names.specs.Laws.{KeepsNames}
 use Rattle.ufs_names.specs.declared.holding.Holding.{Holding}
-use Rattle.ufs_names_laws.specs.Names.{TablesNameSoundly}
+use Rattle.ufs_promise_laws.specs.Names.{TablesNameSoundly}
 use Rattle.ufs_crash_laws.specs.Explained.{IsAckCovered}
 use Rattle.ufs_crash_laws.specs.Laws.{NamesGoByChanges}
 use Rattle.ufs_crash_laws.specs.StepLaws.{OthersAcknowledgeNothing}
@@ -28,12 +28,12 @@ use Rattle.ufs_promise_laws.proofs.Entries.{excuse_leaves, no_ok}
 use Rattle.ufs_promise_laws.proofs.FileEntries.{file_entry_kept, parts_after}
 use Rattle.ufs_promise_laws.proofs.Spaced.{pool_apart}
 use Rattle.ufs_crash_laws.proofs.Facts.Histories.{tree_after-append}
-use Rattle.ufs_event_laws.proofs.Going.{entries_keep, readable}
-use Rattle.ufs_event_laws.proofs.Numbers.{born_next, parts_now}
-use Rattle.ufs_event_laws.proofs.OnDisk.{readable_now, stored_now}
+use Rattle.ufs_promise_laws.proofs.EventsGoing.{entries_keep, readable}
+use Rattle.ufs_promise_laws.proofs.Numbers.{born_next, parts_now}
+use Rattle.ufs_promise_laws.proofs.RequestOnDisk.{readable_now, stored_now}
 use Rattle.ufs_model.specs.PosixTree.{PosixTree}
-use Rattle.ufs_event_laws.specs.Requests.{IsNamesRequest}
-use Rattle.ufs_event_laws.proofs.Serving.{served_is_request}
+use Rattle.ufs_promise_laws.specs.Requests.{IsNamesRequest}
+use Rattle.ufs_promise_laws.proofs.Serving.{served_is_request}
 use Rattle.ufs_promise_laws.specs.Stored.{ArePartsOf}
 use Rattle.ufs_joint.specs.Lent.{LentRequestsStayKept}
 use Rattle.ufs_joint.proofs.Lent.{lent_served}

@@ -16,7 +16,7 @@ use Rattle.ufs_names.specs.NamesPart.{NamesPart}
 use Rattle.ufs_model.specs.History.{entries_of, tree_after}
 use Rattle.ufs_model.specs.PosixTree.{PosixTree}
 use Rattle.ufs_model.specs.declared.data.Entry.{Entry}
-use Rattle.ufs_event_laws.specs.FileRequests.{with_free}
+use Rattle.ufs_promise_laws.specs.FileRequests.{with_free}
 use Rattle.ufs_crash_laws.specs.Changes.{changes_of, name_changes}
 use Rattle.ufs_hand_laws.specs.Owned.{Has, Held, count, find, present, times}
 use Rattle.ufs_hand_laws.specs.Parts.{AskedPart, ClientPart, only_one}

@@ -40,11 +40,11 @@ use Rattle.ufs_promise_laws.specs.Parts.{Parts, durable_in}
 use Rattle.ufs_promise_laws.specs.Stored.{IsFileWhole}
 use Rattle.ufs_promise_laws.proofs.FileCommits.{other_file_is}
 use Rattle.ufs_promise_laws.proofs.Reading.{begun_readable, home_readable, settled_readable, stored_readable}
-use Rattle.ufs_event_laws.specs.Syncs.{HasFailed}
+use Rattle.ufs_promise_laws.specs.Syncs.{HasFailed}
 use Rattle.ufs_store.proofs.SameStates.{same_or_other}
 use Rattle.ufs_joint.proofs.Born.{file_by_history, file_on_disk, file_to_commit, same_writes, whole_file, has_birth}
 use Rattle.ufs_model.specs.Laws.{KeepsTrees}
-use Rattle.ufs_event_laws.proofs.Failing.{one_of, tried_kept}
+use Rattle.ufs_promise_laws.proofs.Failing.{one_of, tried_kept}
 use Rattle.ufs_joint.specs.Files.{FailedFilesStayKept}
 use Rattle.ufs_promise_laws.specs.Known.{Covers, IsKeptGoing, IsKeptStopped, Known}
 use Rattle.ufs_joint.proofs.Covering.{shown_covers}

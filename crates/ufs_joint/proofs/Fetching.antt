@@ -4,8 +4,8 @@ use Rattle.std.specs.Prelude.{IsSome}
 use Rattle.ufs_bitmap.specs.Space.{Space}
 use Rattle.ufs_file.specs.Hand.{FileState}
 use Rattle.ufs_model.specs.History.{tree_after}
-use Rattle.ufs_event_laws.specs.Fetches.{with_read}
-use Rattle.ufs_event_laws.proofs.Fetching.{parts_by_fetches, readable_read, reads, stored}
+use Rattle.ufs_promise_laws.specs.Fetches.{with_read}
+use Rattle.ufs_promise_laws.proofs.Fetching.{parts_by_fetches, readable_read, reads, stored}
 use Rattle.ufs_store.specs.State.{StoreState, geometry_of_store}
 use Rattle.ufs_promise_laws.specs.OnDisk.{AreReadable}
 use Rattle.ufs_promise_laws.specs.Stored.{IsStored}

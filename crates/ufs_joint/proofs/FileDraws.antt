@@ -28,8 +28,8 @@ use Rattle.ufs_model.specs.declared.data.Op.TheVariants as op
 use Rattle.ufs_model.specs.declared.data.Reply.{Reply}
 use Rattle.ufs_model.proofs.Facts.Histories.{legal-push, tree_after-push}
 use Rattle.ufs_names.specs.Laws.{KeepsNames}
-use Rattle.ufs_event_laws.proofs.Going.{parts_by_requests}
-use Rattle.ufs_event_laws.proofs.Sound.{sound_by_requests}
+use Rattle.ufs_promise_laws.proofs.EventsGoing.{parts_by_requests}
+use Rattle.ufs_promise_laws.proofs.Sound.{sound_by_requests}
 use Rattle.ufs_crash_laws.specs.Changes.{change_asked, changes_names, changes_of, file_changed, name_changes, names_of}
 use Rattle.ufs_crash_laws.specs.Steps.{is_served}
 use Rattle.ufs_crash_laws.proofs.Facts.Histories.{changes_of-push, name_changes-push}

@@ -12,7 +12,7 @@ use Rattle.ufs_files.proofs.MapLemmas.{one_or_apart}
 use Rattle.ufs_layout.specs.declared.geometry.Geometry.{Geometry}
 use Rattle.ufs_model.specs.PosixTree.{PosixTree}
 use Rattle.ufs_model.specs.declared.data.Entry.{Entry}
-use Rattle.ufs_event_laws.specs.Syncs.{HasFailed, HasWritten, LeavesStages}
+use Rattle.ufs_promise_laws.specs.Syncs.{HasFailed, HasWritten, LeavesStages}
 use Rattle.ufs_hand_laws.specs.Owned.{Has, count, find}
 use Rattle.ufs_hand_laws.specs.Parts.{Cells, only_one}
 use Rattle.ufs_store.specs.State.{StoreState, geometry_of_store}

@@ -33,7 +33,7 @@ use Rattle.ufs_joint.specs.Picks.{HasPicked, IsUnpicked, Pick, bytes_at, pick_at
 use Rattle.ufs_joint.proofs.Reading.{as_long, content_read, picks_once, read_has, read_is, unpicked, was_absent}
 use Rattle.ufs_file.specs.Hand.{FileState}
 use Rattle.ufs_model.specs.FileBytes.{bytes_of}
-use Rattle.ufs_event_laws.specs.Fetches.{FetchesAreExplained, FetchesReadTheTree, PartsByFetches, SoundByFetches, with_read}
+use Rattle.ufs_promise_laws.specs.Fetches.{FetchesAreExplained, FetchesReadTheTree, PartsByFetches, SoundByFetches, with_read}
 use Rattle.ufs_joint.proofs.Disks.{among, drop_behind}
 use Rattle.ufs_joint.proofs.Kept.{since_kept}
 use Rattle.ufs_joint.proofs.Forgetting.{less_is_kept}

@@ -17,8 +17,8 @@ use Rattle.ufs_layout.specs.declared.geometry.Geometry.{Geometry}
 use Rattle.ufs_model.specs.History.{tree_after}
 use Rattle.ufs_model.specs.PosixTree.{PosixTree}
 use Rattle.ufs_model.specs.declared.data.Entry.{Entry}
-use Rattle.ufs_event_laws.specs.Syncs.{HasSynced, LeavesStages}
-use Rattle.ufs_event_laws.proofs.Sound.{sound_by_syncs}
+use Rattle.ufs_promise_laws.specs.Syncs.{HasSynced, LeavesStages}
+use Rattle.ufs_promise_laws.proofs.Sound.{sound_by_syncs}
 use Rattle.ufs_crash_laws.specs.Changes.{changes_of}
 use Rattle.ufs_hand_laws.specs.Owned.{Has, count, find}
 use Rattle.ufs_hand_laws.specs.Parts.{Cells, only_one}

@@ -6,8 +6,8 @@ use Rattle.std.specs.FinSet as setof
 use Rattle.ufs_bitmap.specs.Blocks.{BlockSet}
 use Rattle.ufs_model.specs.History.{tree_after}
 use Rattle.ufs_names.specs.NamesPart.{NamesPart}
-use Rattle.ufs_event_laws.specs.FileRequests.{with_free}
-use Rattle.ufs_event_laws.proofs.Sound.{sound_by_free_blocks}
+use Rattle.ufs_promise_laws.specs.FileRequests.{with_free}
+use Rattle.ufs_promise_laws.proofs.Sound.{sound_by_free_blocks}
 use Rattle.ufs_hand_laws.specs.Owned.{Has}
 use Rattle.ufs_promise_laws.specs.Laws.{MovesBlocks}
 use Rattle.ufs_joint.specs.Cells.{NamesCell, Start, StoreCell, View, Word, World, store_of}

@@ -21,9 +21,9 @@ use Rattle.ufs_model.specs.declared.data.Reply.{Reply}
 use Rattle.ufs_model.proofs.Facts.Lookups.{from_some, same_some, there_or_not}
 use Rattle.ufs_names.specs.Calls.{HasNoByte, HaveInodes, IsServed, IsTouched}
 use Rattle.ufs_names.specs.Space.{AreApart, HasBlock, HaveTheSame}
-use Rattle.ufs_event_laws.specs.Serving.{HasServed}
-use Rattle.ufs_event_laws.proofs.Blocks.{at_from}
-use Rattle.ufs_event_laws.proofs.Serving.{may_lend}
+use Rattle.ufs_promise_laws.specs.Serving.{HasServed}
+use Rattle.ufs_promise_laws.proofs.ListedBlocks.{at_from}
+use Rattle.ufs_promise_laws.proofs.Serving.{may_lend}
 use Rattle.ufs_promise_laws.specs.Parts.{Parts}
 use Rattle.ufs_promise_laws.specs.Stored.{ArePartsOf}
 use Rattle.ufs_joint.specs.Lent.{HasServedLent, LentAreApart, LentIsServed}

@@ -31,9 +31,9 @@ use Rattle.ufs_model.proofs.Facts.Live.{number_is}
 use Rattle.ufs_model.proofs.Facts.Lookups.{from_some, inserted_else, inserted_here, removed_else, removed_here, same_some, there_or_not}
 use Rattle.ufs_names.specs.Calls.{FilesGoOn, HasNoByte, IsAsked, IsServed, IsTouched}
 use Rattle.ufs_names.specs.NamesPart.{IsNamesPart, NamesPart}
-use Rattle.ufs_event_laws.specs.Laws.{RequestsAreSound, RequestsGoOn}
-use Rattle.ufs_event_laws.specs.Requests.{IsNamesRequest}
-use Rattle.ufs_event_laws.specs.Serving.{HasLeft, HasServed, HasSettled, ServedIsRequest, emptied_commits}
+use Rattle.ufs_promise_laws.specs.RequestLaws.{RequestsAreSound, RequestsGoOn}
+use Rattle.ufs_promise_laws.specs.Requests.{IsNamesRequest}
+use Rattle.ufs_promise_laws.specs.Serving.{HasLeft, HasServed, HasSettled, ServedIsRequest, emptied_commits}
 use Rattle.ufs_crash_laws.specs.Changes.{change_asked, change_of, changes_of, file_changed, name_changes}
 use Rattle.ufs_crash_laws.specs.Steps.{is_served}
 use Rattle.ufs_crash_laws.specs.declared.data.FileChange.{FileChange}

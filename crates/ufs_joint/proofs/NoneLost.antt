@@ -13,8 +13,8 @@ use Rattle.ufs_files.proofs.MapLemmas.{one_or_apart}
 use Rattle.ufs_model.specs.PosixTree.{PosixTree}
 use Rattle.ufs_model.proofs.Facts.Lookups.{same_some, there_or_not}
 use Rattle.ufs_names.specs.Space as space
-use Rattle.ufs_event_laws.specs.Requests.{IsNamesRequest, StaysOrEmptied, emptied}
-use Rattle.ufs_event_laws.proofs.Blocks.{at_from, at_there, has_same, held_case, held_dropped, held_own}
+use Rattle.ufs_promise_laws.specs.Requests.{IsNamesRequest, StaysOrEmptied, emptied}
+use Rattle.ufs_promise_laws.proofs.ListedBlocks.{at_from, at_there, has_same, held_case, held_dropped, held_own}
 use Rattle.ufs_promise_laws.specs.Parts.{FileOwns, Parts, durable_in, with_file}
 use Rattle.ufs_promise_laws.proofs.Puts.{durable_else, durable_here, here, other_file}
 use Rattle.ufs_joint.specs.NoneLost.{IsDropped, IsFree, IsHad, OfDir, OfFile, OfPool}

@@ -5,8 +5,8 @@ use Rattle.ufs_bitmap.specs.Blocks.{BlockSet}
 use Rattle.ufs_bitmap.proofs.SetLemmas.{has-union}
 use Rattle.ufs_model.specs.PosixTree.{PosixTree}
 use Rattle.ufs_model.specs.declared.data.Entry.{Entry}
-use Rattle.ufs_event_laws.specs.FileRequests.{with_free}
-use Rattle.ufs_event_laws.proofs.Going.{same_ledger}
+use Rattle.ufs_promise_laws.specs.FileRequests.{with_free}
+use Rattle.ufs_promise_laws.proofs.EventsGoing.{same_ledger}
 use Rattle.ufs_store.specs.State.{StoreState}
 use Rattle.ufs_promise_laws.specs.Known.{IsKeptGoing, IsKeptStopped, Known}
 use Rattle.ufs_promise_laws.specs.Parts.{Parts, ThePool, Unassigned}

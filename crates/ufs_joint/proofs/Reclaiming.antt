@@ -17,8 +17,8 @@ use Rattle.ufs_model.specs.PosixTree.{PosixTree}
 use Rattle.ufs_model.specs.declared.data.Entry.{Entry}
 use Rattle.ufs_model.proofs.Facts.Lookups.{same_some}
 use Rattle.ufs_names.specs.NamesPart.{NamesPart}
-use Rattle.ufs_event_laws.specs.FileRequests.{with_free}
-use Rattle.ufs_event_laws.proofs.Sound.{sound_by_free_blocks}
+use Rattle.ufs_promise_laws.specs.FileRequests.{with_free}
+use Rattle.ufs_promise_laws.proofs.Sound.{sound_by_free_blocks}
 use Rattle.ufs_hand_laws.specs.Owned.{Has, count, find}
 use Rattle.ufs_hand_laws.specs.Parts.{Cells, only_one}
 use Rattle.ufs_hand_laws.proofs.Keys.{alike, itself}

@@ -7,7 +7,7 @@ use lib.ListN.{get_elem?}
 use Rattle.atomic_table.proofs.Lists.{set_else}
 use Rattle.ufs_model.specs.declared.data.Entry.{Entry}
 use Rattle.ufs_model.specs.declared.data.Op.{Op}
-use Rattle.ufs_event_laws.specs.FileRequests.{with_free}
+use Rattle.ufs_promise_laws.specs.FileRequests.{with_free}
 use Rattle.ufs_hand_laws.specs.Asked.{IsAnswered, IsStill}
 use Rattle.ufs_hand_laws.specs.Marks.{asked_by, asking_asked, asking_client}
 use Rattle.ufs_hand_laws.specs.Owned.{Has, Held, count, one, present, replaced}

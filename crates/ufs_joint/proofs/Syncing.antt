@@ -27,7 +27,7 @@ use Rattle.ufs_promise_laws.specs.OnDisk.{IsGoing}
 use Rattle.ufs_promise_laws.specs.Parts.{Parts, durable_in, with_file}
 use Rattle.ufs_promise_laws.specs.Stored.{IsFileStored, IsFileWhole, IsStored}
 use Rattle.ufs_promise_laws.proofs.Whole.{fits_whole, tree_may}
-use Rattle.ufs_event_laws.specs.Syncs.{HasSynced}
+use Rattle.ufs_promise_laws.specs.Syncs.{HasSynced}
 use Rattle.ufs_store.proofs.SameStates.{same_or_other}
 use Rattle.ufs_joint.proofs.Born.{has_birth}
 use Rattle.ufs_joint.specs.Files.{FilesAreKnown}

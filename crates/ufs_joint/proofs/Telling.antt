@@ -7,7 +7,7 @@ use Rattle.std.specs.FinSet as setof
 use Rattle.std.specs.List.{slice_get}
 use Rattle.ufs_file_commits.specs.State.{DurableState}
 use Rattle.ufs_model.specs.declared.data.Entry.{Entry}
-use Rattle.ufs_event_laws.specs.FileRequests.{with_free}
+use Rattle.ufs_promise_laws.specs.FileRequests.{with_free}
 use Rattle.ufs_crash_laws.specs.Changes.{changes_of}
 use Rattle.ufs_hand_laws.specs.Owned.{Has, count, one, replaced}
 use Rattle.ufs_hand_laws.specs.Parts.{only_one}

@@ -12,8 +12,8 @@ use Rattle.ufs_model.specs.FileBytes.{bytes_of}
 use Rattle.ufs_model.specs.History.{tree_after}
 use Rattle.ufs_model.specs.PosixTree.{PosixTree}
 use Rattle.ufs_model.specs.declared.data.Entry.{Entry}
-use Rattle.ufs_event_laws.specs.FileRequests.{with_free}
-use Rattle.ufs_event_laws.proofs.Sound.{sound_by_free_blocks}
+use Rattle.ufs_promise_laws.specs.FileRequests.{with_free}
+use Rattle.ufs_promise_laws.proofs.Sound.{sound_by_free_blocks}
 use Rattle.ufs_crash_laws.specs.Changes.{changes_of, name_changes}
 use Rattle.ufs_hand_laws.specs.Marks.{value_after}
 use Rattle.ufs_hand_laws.specs.Owned.{Has, count, find, replaced}

@@ -34,7 +34,7 @@ use Rattle.ufs_promise_laws.specs.Stored.{IsFileStored, IsFileWhole, IsStored, w
 use Rattle.ufs_promise_laws.proofs.Alike.{same_stored}
 use Rattle.ufs_promise_laws.proofs.FileCommits.{inode_on_disk, other_file_is, writes_born}
 use Rattle.ufs_promise_laws.proofs.Whole.{tree_has, tree_may}
-use Rattle.ufs_event_laws.specs.Syncs.{HasWritten}
+use Rattle.ufs_promise_laws.specs.Syncs.{HasWritten}
 use Rattle.ufs_joint.proofs.Born.{has_birth}
 use Rattle.ufs_joint.specs.Files.{WrittenFilesStayKept}
 use Rattle.ufs_promise_laws.specs.Known.{IsKeptGoing, Known}

@@ -26,8 +26,8 @@ use Rattle.ufs_model.specs.declared.data.Ask.{Ask}
 use Rattle.ufs_model.specs.declared.data.Desc.{Desc}
 use Rattle.ufs_model.specs.declared.data.Op.TheVariants as op
 use Rattle.ufs_model.specs.declared.data.Reply.TheVariants as reply
-use Rattle.ufs_event_laws.specs.Fetches.{IsFetched}
-use Rattle.ufs_event_laws.specs.Syncs.{HasFailed, HasSynced, HasWritten, LeavesStages}
+use Rattle.ufs_promise_laws.specs.Fetches.{IsFetched}
+use Rattle.ufs_promise_laws.specs.Syncs.{HasFailed, HasSynced, HasWritten, LeavesStages}
 use Rattle.ufs_crash_laws.specs.Changes.{asks_commit}
 use Rattle.ufs_hand_laws.specs.Draws.{entry_of}
 use Rattle.ufs_hand_laws.specs.Owned.{times}

@@ -10,8 +10,8 @@ use Rattle.ufs_crash_laws.specs.Changes.{changes_of}
 use Rattle.ufs_file_commits.specs.Committing.{FitsInode}
 use Rattle.ufs_file_commits.specs.Stamping.{MayLeaveSynced}
 use Rattle.ufs_file_commits.specs.State.{file_committed}
-use Rattle.ufs_event_laws.specs.Fetches.{IsFetched, with_read}
-use Rattle.ufs_event_laws.specs.Syncs.{HasFailed, HasSynced, HasWritten, LeavesStages}
+use Rattle.ufs_promise_laws.specs.Fetches.{IsFetched, with_read}
+use Rattle.ufs_promise_laws.specs.Syncs.{HasFailed, HasSynced, HasWritten, LeavesStages}
 use Rattle.ufs_store.specs.State.{StoreState, geometry_of_store}
 use Rattle.ufs_promise_laws.specs.OnDisk.{IsExplainedBetween, IsExplainedImage}
 use Rattle.ufs_promise_laws.specs.Parts.{Parts, durable_in, with_file}

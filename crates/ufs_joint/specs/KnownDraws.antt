@@ -16,7 +16,7 @@ use Rattle.ufs_crash_laws.specs.Changes.{asks_commit}
 use Rattle.ufs_crash_laws.specs.Steps.{is_ok}
 use Rattle.ufs_file_commits.specs.Serving.{IsApplied}
 use Rattle.ufs_file_commits.specs.State.{DurableState}
-use Rattle.ufs_event_laws.specs.Requests.{IsNamesRequest}
+use Rattle.ufs_promise_laws.specs.Requests.{IsNamesRequest}
 use Rattle.ufs_store.specs.State.{StoreState, geometry_of_store}
 use Rattle.ufs_promise_laws.specs.Laws.{leaves_tree}
 use Rattle.ufs_promise_laws.specs.Parts.{Parts, durable_in, with_file}

@@ -19,7 +19,7 @@ use Rattle.ufs_name_tree.specs.NameTable.{IsNameTable}
 use Rattle.ufs_name_tree.specs.Notes.{GoesByNotes}
 use Rattle.ufs_names.specs.Calls.{AreGathered, HaveInodes, IsServed, IsTouched, KeepInodes}
 use Rattle.ufs_names.specs.Space.{AreApart, HaveTheSame}
-use Rattle.ufs_event_laws.specs.Serving.{HasLeft, HasServed, HasSettled}
+use Rattle.ufs_promise_laws.specs.Serving.{HasLeft, HasServed, HasSettled}
 use Rattle.ufs_crash_laws.specs.Changes.{asks_commit}
 use Rattle.ufs_store.specs.State.{StoreState, geometry_of_store}
 use Rattle.ufs_promise_laws.specs.Known.{IsDiskKept, Known}

@@ -18,7 +18,7 @@ use Rattle.ufs_model.specs.declared.data.Op.TheVariants as op
 use Rattle.ufs_model.specs.declared.data.Reply.TheVariants as reply
 use Rattle.ufs_names.specs.Calls.{AreGathered, IsAsked, KeepInodes}
 use Rattle.ufs_names.specs.NamesPart.{IsNamesPart}
-use Rattle.ufs_event_laws.specs.Serving.{HasServed}
+use Rattle.ufs_promise_laws.specs.Serving.{HasServed}
 use Rattle.ufs_crash_laws.specs.Changes.{asks_commit}
 use Rattle.ufs_hand_laws.specs.Owned.{Has, count, times}
 use Rattle.ufs_hand_laws.specs.Parts.{ClientPart, OwnFds}

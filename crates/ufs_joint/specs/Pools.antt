@@ -5,7 +5,7 @@ use Rattle.ufs_bitmap.specs.Blocks.{BlockSet}
 use Rattle.ufs_model.specs.PosixTree.{PosixTree}
 use Rattle.ufs_model.specs.declared.data.Entry.{Entry}
 use Rattle.std.specs.FinSet as set
-use Rattle.ufs_event_laws.specs.FileRequests.{with_free}
+use Rattle.ufs_promise_laws.specs.FileRequests.{with_free}
 use Rattle.ufs_store.specs.State.{StoreState}
 use Rattle.ufs_promise_laws.specs.Laws.{MovesBlocks}
 use Rattle.ufs_promise_laws.specs.Parts.{Parts}

@@ -14,7 +14,7 @@ use Rattle.ufs_model.specs.History.{IsLegal, entries_of, tree_after}
 use Rattle.ufs_model.specs.PosixTree.{IsTree, PosixTree, desc_at}
 use Rattle.ufs_model.specs.declared.data.Entry.{Entry}
 use Rattle.ufs_model.specs.declared.data.Op.{Op}
-use Rattle.ufs_event_laws.specs.FileRequests.{with_free}
+use Rattle.ufs_promise_laws.specs.FileRequests.{with_free}
 use Rattle.ufs_crash_laws.specs.Changes.{changes_of, name_changes}
 use Rattle.ufs_hand_laws.specs.Asked.{IsAnswered, IsStill}
 use Rattle.ufs_hand_laws.specs.DiskBytes.{state_of}

@@ -1,4 +1,4 @@
-// Laws of the definitions, each the contract of a function that does nothing.
+// Laws of single events, by what is known as committed. Each law is the contract of a function that does nothing.
 ghost use Rattle.ufs_layout.specs.Areas.{IsGeometry};
 ghost use Rattle.ufs_joint.specs.Files.{FailedFilesStayKept, FetchesStayKept, FilesAreExplained, FilesAreKnown, FilesMayLeave, WrittenFilesStayKept};
 ghost use Rattle.ufs_joint.specs.KnownDraws.{BesideStaysKept, ExcusesStayKept, FileRequestsStayKept, NameRequestsStayKept, StillStaysKept};
@@ -18,8 +18,7 @@ use ufs_layout::Geometry;
 use ufs_ledger::promise_law;
 use ufs_model::a_request_keeps_the_tree;
 use ufs_names::a_file_request_keeps_the_names;
-use ufs_names_laws::names_law;
-use ufs_promise_laws::{always_law, entry_law, file_commit_law, notes_law, ready_law};
+use ufs_promise_laws::{always_law, entry_law, file_commit_law, names_law, notes_law, ready_law};
 
 /// An `fsync` is acknowledged where what it asks for is known as committed.
 pub fn ack_law()

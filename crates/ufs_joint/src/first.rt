@@ -1,4 +1,4 @@
-// Laws of the definitions, each the contract of a function that does nothing.
+// A session on hands may begin over an image. Each law is the contract of a function that does nothing.
 ghost use Rattle.ufs_joint.specs.Ready.{ReadyCanBegin};
 ghost use Rattle.ufs_layout.specs.Areas.{IsGeometry};
 

@@ -1,4 +1,4 @@
-// Laws of the definitions, each the contract of a function that does nothing.
+// Laws of the steps of hands. Each law is the contract of a function that does nothing.
 ghost use Rattle.ufs_layout.specs.Areas.{IsGeometry};
 ghost use Rattle.ufs_joint.specs.Checkpoints.{CheckpointsGoOn, CheckpointsMayEnd};
 ghost use Rattle.ufs_joint.specs.FileHands.{AcknowledgementsMayDraw, ExcusesMayDraw, FileCommitsGoOn, FileCommitsMayEnd, FileFailuresGoOn, FileFailuresMayEnd, FileFetchesGoOn, FileFetchesMayEnd, FileRequestsMayDraw};
@@ -11,12 +11,11 @@ use crate::{
     ack_law, beside_law, draw_law, file_fetch_law, file_law, file_moments_law, lent_law,
     names_draw_law, sync_law,
 };
-use ufs_event_laws::{fetch_law, served_names_law};
 use ufs_layout::Geometry;
 use ufs_ledger::promise_law;
 use ufs_names::a_file_request_keeps_the_names;
 use ufs_names_commit::reclaim_law;
-use ufs_promise_laws::{always_law, ready_law};
+use ufs_promise_laws::{always_law, fetch_law, ready_law, served_names_law};
 
 /// The first hand, with every cell, is sound; and what the last one knows, with every cell again.
 pub fn a_session_is_whole()

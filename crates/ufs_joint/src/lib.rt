@@ -1,4 +1,5 @@
-//! The sound state of all hands over the values that they have, and the laws of its steps.
+//! The sound state of all hands over the values that they have: the laws of its steps, and of single events by what is known as
+//! committed; the hands themselves; and how a session on them begins over an image.
 #![tactic(auto)]
 
 mod events;

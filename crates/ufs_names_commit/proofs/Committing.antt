@@ -16,7 +16,7 @@ use Rattle.ufs_ledger.specs.Laws.{LedgersAreSound}
 use Rattle.ufs_ledger.specs.Ledger.{CoversDirs, IsDataBlock, Ledger}
 use Rattle.ufs_model.specs.PosixTree.{PosixTree}
 use Rattle.ufs_model.specs.declared.data.Entry.{Entry}
-use Rattle.ufs_names_laws.specs.Laws.{AreOlder}
+use Rattle.ufs_promise_laws.specs.ChangeLaws.{AreOlder}
 use Rattle.ufs_name_tree.specs.NameTable.{IsNameTable}
 use Rattle.ufs_store.specs.Ledgers.{HasAny, HasLedger, IsLeftByAny, MayCommitNext, after_commit, checkpointed, stages, with_room}
 use Rattle.ufs_store.specs.State.{StoreState, has_room, next_commit, next_superblock}

@@ -17,14 +17,14 @@ use Rattle.ufs_model.specs.History.{tree_after}
 use Rattle.ufs_model.specs.PosixTree.{PosixTree}
 use Rattle.ufs_model.specs.declared.data.Entry.{Entry}
 use Rattle.ufs_model.proofs.Facts.Lookups.{same_some}
-use Rattle.ufs_names_laws.specs.Files.{KeepsInode, MayGoOn, NamesStandOn}
-use Rattle.ufs_names_laws.specs.Held.{HasSoundNames}
-use Rattle.ufs_names_laws.specs.Laws.{AreOlder, change}
-use Rattle.ufs_names_laws.specs.Steps.{records_of}
+use Rattle.ufs_promise_laws.specs.Files.{KeepsInode, MayGoOn, NamesStandOn}
+use Rattle.ufs_promise_laws.specs.Held.{HasSoundNames}
+use Rattle.ufs_promise_laws.specs.ChangeLaws.{AreOlder, change}
+use Rattle.ufs_promise_laws.specs.Steps.{records_of}
 use Rattle.ufs_name_tree.specs.NameTable.{IsNameTable}
 use Rattle.ufs_name_tree.specs.Notes.{AreKindsOf}
-use Rattle.ufs_names_laws.specs.Going.{NamesMayGoOn}
-use Rattle.ufs_names_laws.specs.PathNumbers.{numbers_of}
+use Rattle.ufs_promise_laws.specs.Going.{NamesMayGoOn}
+use Rattle.ufs_promise_laws.specs.PathNumbers.{numbers_of}
 use Rattle.ufs_crash_laws.specs.Changes.{NameState, name_changes, names_after}
 use Rattle.ufs_crash_laws.specs.Laws.{NamesGoByChanges}
 use Rattle.ufs_crash_laws.specs.Stored.{IsNamed}

@@ -6,8 +6,9 @@ use ufs_crash_laws::a_history_goes_by_its_changes;
 use ufs_layout::Geometry;
 use ufs_ledger::{form_law, promise_law};
 use ufs_model::a_request_keeps_the_tree;
-use ufs_names_laws::{files_law, names_go_on_law};
-use ufs_promise_laws::{always_law, names_commit_law, ready_law, stopping_law};
+use ufs_promise_laws::{
+    always_law, files_law, names_commit_law, names_go_on_law, ready_law, stopping_law,
+};
 
 /// The blocks that directories took are made ready for a commit of names.
 pub fn zeros_law(geometry: &Geometry)

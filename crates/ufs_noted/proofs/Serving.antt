@@ -17,7 +17,7 @@ use Rattle.ufs_model.specs.declared.data.Desc.{Desc}
 use Rattle.ufs_model.specs.declared.data.Reply.{Reply}
 use Rattle.ufs_names.specs.Calls.{KeepInodes}
 use Rattle.ufs_names.specs.NamesPart.{NamesPart}
-use Rattle.ufs_event_laws.specs.Serving.{HasLeft, HasServed, HasSettled, emptied_commits}
+use Rattle.ufs_promise_laws.specs.Serving.{HasLeft, HasServed, HasSettled, emptied_commits}
 use Rattle.ufs_promise_laws.specs.Parts.{Parts}
 use Rattle.ufs_noted.specs.Known.{IsSettledWith, commits_in, file_in}
 use Rattle.ufs_noted.specs.Noted.{HasApplied, HasServedWith, Noted, one_file, one_known, parts_with}

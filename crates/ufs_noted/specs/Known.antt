@@ -5,7 +5,7 @@ use Rattle.ufs_bitmap.specs.Blocks.{BlockSet}
 use Rattle.ufs_bitmap.specs.Taking.{set_of}
 use Rattle.ufs_file_commits.specs.State.{CommitState}
 use Rattle.ufs_file.specs.Hand.{FileState}
-use Rattle.ufs_event_laws.specs.Serving.{emptied_commits}
+use Rattle.ufs_promise_laws.specs.Serving.{emptied_commits}
 use Rattle.ufs_noted.specs.declared.known.KnownFile.{KnownFile}
 
 abbrev pub file_in : Option KnownFile → Option FileState

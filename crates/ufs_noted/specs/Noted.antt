@@ -21,7 +21,7 @@ use Rattle.ufs_names.specs.Calls.{HaveInodes, IsAsked, IsServed, KeepInodes}
 use Rattle.ufs_names.specs.NamesPart.{NamesPart, part_code}
 use Rattle.ufs_names.specs.Notes.{with_notes}
 use Rattle.ufs_names.specs.Space.{AreApart, HaveTheSame}
-use Rattle.ufs_event_laws.specs.Serving.{HasServed}
+use Rattle.ufs_promise_laws.specs.Serving.{HasServed}
 use Rattle.ufs_promise_laws.specs.Parts.{Commits, Parts}
 
 pub record Noted : Type 0 where

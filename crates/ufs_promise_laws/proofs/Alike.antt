@@ -20,7 +20,7 @@ use Rattle.ufs_model.specs.History.{tree_after}
 use Rattle.ufs_model.specs.PosixTree.{PosixTree}
 use Rattle.ufs_model.specs.declared.data.Entry.{Entry}
 use Rattle.ufs_dir_tree.specs.Steps.{after_all}
-use Rattle.ufs_names_laws.specs.Held.{HasSoundNames, HasState, MaySteps}
+use Rattle.ufs_promise_laws.specs.Held.{HasSoundNames, HasState, MaySteps}
 use Rattle.ufs_file_commits.specs.Standing.{HaveOnly, IsFileBlock, StandsFor}
 use Rattle.ufs_file_commits.specs.State.{DurableState, whole_of}
 use Rattle.ufs_file_commits.proofs.Others.{stands_still}

@@ -33,9 +33,9 @@ use Rattle.ufs_model.specs.History.{tree_after}
 use Rattle.ufs_model.specs.PosixTree.{PosixTree}
 use Rattle.ufs_model.specs.declared.data.Entry.{Entry}
 use Rattle.ufs_model.proofs.Facts.Lookups.{same_some}
-use Rattle.ufs_names_laws.specs.Held.{HasSoundNames, HasState, MaySteps}
+use Rattle.ufs_promise_laws.specs.Held.{HasSoundNames, HasState, MaySteps}
 use Rattle.ufs_dir_tree.specs.Steps.{after_all}
-use Rattle.ufs_names_laws.proofs.Forms.{form_here}
+use Rattle.ufs_promise_laws.proofs.Forms.{form_here}
 use Rattle.ufs_name_tree.specs.NameTable.{file_at}
 use Rattle.ufs_store.specs.Ledgers.{HasLedger, after_commit, checkpointed}
 use Rattle.ufs_store.specs.State.{StoreState, has_room, next_commit, next_superblock}

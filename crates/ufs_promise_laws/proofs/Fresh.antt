@@ -8,7 +8,7 @@ use Rattle.ufs_dir_tree.specs.Space.{extents_of}
 use Rattle.ufs_dir_tree.specs.Steps.{DirState, Step, Born, Grown, Put, Freed, after, after_all}
 use Rattle.ufs_dirs.specs.Changes.{IsSlot}
 use Rattle.ufs_image.proofs.Empty.{apart_false}
-use Rattle.ufs_names_laws.specs.Held.{MayStep, MaySteps}
+use Rattle.ufs_promise_laws.specs.Held.{MayStep, MaySteps}
 
 -- The second state has the first one's directories and inodes, and more blocks of zeros: these among them, which the first one hasn't.
 pub record HasMore (lent : ℕ → Bool) (s more : DirState) : Type 0 where

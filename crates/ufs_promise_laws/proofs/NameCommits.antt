@@ -31,17 +31,17 @@ use Rattle.ufs_model.specs.History.{tree_after}
 use Rattle.ufs_model.specs.PosixTree.{PosixTree}
 use Rattle.ufs_model.specs.declared.data.Entry.{Entry}
 use Rattle.ufs_model.proofs.Facts.Lookups.{from_some}
-use Rattle.ufs_names_laws.specs.Files.{BornAreEmpty, KeepsInode, MayGoOn, NamesStandOn, OthersStay}
-use Rattle.ufs_names_laws.specs.Held.{HasState}
-use Rattle.ufs_names_laws.specs.Laws.{AreOlder, StepsAreNoted, StepsMayCommit, change}
+use Rattle.ufs_promise_laws.specs.Files.{BornAreEmpty, KeepsInode, MayGoOn, NamesStandOn, OthersStay}
+use Rattle.ufs_promise_laws.specs.Held.{HasState}
+use Rattle.ufs_promise_laws.specs.ChangeLaws.{AreOlder, StepsAreNoted, StepsMayCommit, change}
 use Rattle.ufs_dir_tree.specs.Steps.{DirState, Step, after_all}
-use Rattle.ufs_names_laws.proofs.Covers.{covers_table}
-use Rattle.ufs_names_laws.proofs.Forms.{form_here}
+use Rattle.ufs_promise_laws.proofs.Covers.{covers_table}
+use Rattle.ufs_promise_laws.proofs.Forms.{form_here}
 use Rattle.ufs_name_tree.specs.NameTable.{IsNameTable, file_at}
 use Rattle.ufs_name_tree.specs.Notes.{is_touched}
 use Rattle.ufs_names.specs.declared.holding.Holding.{Holding}
-use Rattle.ufs_names_laws.specs.Going.{NamesMayGoOn}
-use Rattle.ufs_names_laws.specs.PathNumbers.{numbers_of}
+use Rattle.ufs_promise_laws.specs.Going.{NamesMayGoOn}
+use Rattle.ufs_promise_laws.specs.PathNumbers.{numbers_of}
 use Rattle.ufs_crash_laws.specs.Changes.{NameState, name_changes, names_after}
 use Rattle.ufs_crash_laws.specs.Laws.{NamesGoByChanges}
 use Rattle.ufs_crash_laws.specs.Stored.{IsNamed}

@@ -18,17 +18,17 @@ use Rattle.ufs_layout.specs.declared.records.LogRecord.{LogRecord}
 use Rattle.ufs_ledger.specs.Kept.{Numbers}
 use Rattle.ufs_ledger.specs.Ledger.{Ledger}
 use Rattle.ufs_model.proofs.Facts.Lookups.{from_some, same_some}
-use Rattle.ufs_names_laws.specs.Files.{KeepsInode}
-use Rattle.ufs_names_laws.specs.Held.{HasName, HasSoundNames, MaySteps}
-use Rattle.ufs_names_laws.specs.Laws.{ChangesJoin}
-use Rattle.ufs_names_laws.specs.Noted.{NotedMayBeMade, NotesAreRecords, NotesLeadOn}
-use Rattle.ufs_names_laws.specs.Steps.{records_of}
+use Rattle.ufs_promise_laws.specs.Files.{KeepsInode}
+use Rattle.ufs_promise_laws.specs.Held.{HasName, HasSoundNames, MaySteps}
+use Rattle.ufs_promise_laws.specs.ChangeLaws.{ChangesJoin}
+use Rattle.ufs_promise_laws.specs.Noted.{NotedMayBeMade, NotesAreRecords, NotesLeadOn}
+use Rattle.ufs_promise_laws.specs.Steps.{records_of}
 use Rattle.ufs_name_tree.specs.NameTable.{file_at}
 use Rattle.ufs_name_tree.specs.Notes.{AreKindsOf, GoesNoted, IsStateOf, is_of, is_touched}
 use Rattle.ufs_name_tree.specs.Records as tables
 use Rattle.ufs_names.specs.NamesPart.{AreInodesOf, NamesPart}
 use Rattle.ufs_names.specs.declared.holding.Holding.{Holding}
-use Rattle.ufs_names_laws.specs.PathNumbers.{numbers_of}
+use Rattle.ufs_promise_laws.specs.PathNumbers.{numbers_of}
 use Rattle.ufs_promise_laws.specs.Laws.{KeepsNumbers}
 use Rattle.ufs_promise_laws.specs.Stored.{AreNamesNoted, IsKnownBlock, with_fresh}
 use Rattle.ufs_promise_laws.proofs.Blocks.{blocks_stay}

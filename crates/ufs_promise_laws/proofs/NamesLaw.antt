@@ -12,9 +12,9 @@ use Rattle.ufs_ledger.specs.Ledger.{CoversDirs, Ledger}
 use Rattle.ufs_model.specs.PosixTree.{PosixTree}
 use Rattle.ufs_model.specs.declared.data.Entry.{Entry}
 use Rattle.ufs_model.proofs.Facts.Lookups.{same_some}
-use Rattle.ufs_names_laws.specs.Files.{BornAreEmpty, NamesStandOn, OthersStay}
-use Rattle.ufs_names_laws.specs.Laws.{AreOlder, StepsAreNoted, StepsMayCommit, change}
-use Rattle.ufs_names_laws.specs.Going.{NamesMayGoOn}
+use Rattle.ufs_promise_laws.specs.Files.{BornAreEmpty, NamesStandOn, OthersStay}
+use Rattle.ufs_promise_laws.specs.ChangeLaws.{AreOlder, StepsAreNoted, StepsMayCommit, change}
+use Rattle.ufs_promise_laws.specs.Going.{NamesMayGoOn}
 use Rattle.ufs_crash_laws.specs.Laws.{NamesGoByChanges}
 use Rattle.ufs_promise_laws.specs.Laws.{HasNamesToCommit, all_named, with_names_committed}
 use Rattle.ufs_promise_laws.specs.Parts.{Parts}

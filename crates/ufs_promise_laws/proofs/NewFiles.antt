@@ -17,7 +17,7 @@ use Rattle.ufs_model.specs.FileBytes.{bytes_of}
 use Rattle.ufs_model.specs.History.{IsLegal, tree_after}
 use Rattle.ufs_model.specs.PosixTree.{PosixTree}
 use Rattle.ufs_model.specs.declared.data.Entry.{Entry}
-use Rattle.ufs_names_laws.proofs.Forms.{form_here}
+use Rattle.ufs_promise_laws.proofs.Forms.{form_here}
 use Rattle.ufs_names.specs.Calls.{no_bytes}
 use Rattle.ufs_crash_laws.specs.Explained.{IsAckCovered}
 use Rattle.ufs_file_commits.specs.State.{CommitState, IsNoted, state_of, whole_of}

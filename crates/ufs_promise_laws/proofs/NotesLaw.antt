@@ -10,9 +10,9 @@ use Rattle.ufs_ledger.specs.Kept.{Counts}
 use Rattle.ufs_ledger.specs.Ledger.{Ledger}
 use Rattle.ufs_model.specs.PosixTree.{PosixTree}
 use Rattle.ufs_model.specs.declared.data.Entry.{Entry}
-use Rattle.ufs_names_laws.specs.Held.{HasSoundNames}
-use Rattle.ufs_names_laws.specs.Laws.{ChangesJoin}
-use Rattle.ufs_names_laws.specs.Noted.{NotedMayBeMade, NotesAreRecords, NotesLeadOn}
+use Rattle.ufs_promise_laws.specs.Held.{HasSoundNames}
+use Rattle.ufs_promise_laws.specs.ChangeLaws.{ChangesJoin}
+use Rattle.ufs_promise_laws.specs.Noted.{NotedMayBeMade, NotesAreRecords, NotesLeadOn}
 use Rattle.ufs_name_tree.specs.Notes.{GoesNoted, IsStateOf}
 use Rattle.ufs_names.specs.NamesPart.{AreInodesOf, NamesPart}
 use Rattle.ufs_promise_laws.specs.Laws.{KeepsNumbers}

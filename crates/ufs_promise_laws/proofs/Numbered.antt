@@ -16,7 +16,7 @@ use Rattle.ufs_model.proofs.Facts.Lookups.{from_some, same_some}
 use Rattle.ufs_name_tree.specs.NameTable.{file_at}
 use Rattle.ufs_names.specs.NamesPart.{NamesPart}
 use Rattle.ufs_names.specs.declared.holding.Holding.{Holding}
-use Rattle.ufs_names_laws.specs.PathNumbers.{numbers_of}
+use Rattle.ufs_promise_laws.specs.PathNumbers.{numbers_of}
 use Rattle.ufs_crash_laws.specs.Changes.{NameState, name_changes, names_after, names_of}
 use Rattle.ufs_crash_laws.specs.Laws.{NamesGoByChanges}
 use Rattle.ufs_crash_laws.specs.Stored.{IsNamed}

@@ -17,7 +17,7 @@ use Rattle.ufs_layout.specs.declared.records.LogRecord.{LogRecord}
 use Rattle.ufs_layout.specs.declared.records.LogRecord.TheVariants.{Delta}
 use Rattle.ufs_dir_laws.specs.Tables.{IsTableOf, dir_blocks}
 use Rattle.ufs_files.proofs.MapLemmas.{one_or_apart}
-use Rattle.ufs_names_laws.specs.Held.{HasState}
+use Rattle.ufs_promise_laws.specs.Held.{HasState}
 use Rattle.ufs_dir_tree.specs.Steps.{DirState}
 use Rattle.ufs_image.proofs.Empty.{apart_false}
 

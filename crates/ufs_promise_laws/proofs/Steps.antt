@@ -13,15 +13,15 @@ use Rattle.ufs_dir_tree.specs.Space.{extents_of}
 use Rattle.ufs_ilog.specs.Deltas as log
 use Rattle.ufs_ledger.specs.Ledger.{is_set_in}
 use Rattle.ufs_dir_tree.specs.Steps.{DirState, Step, Born, Grown, Put, Freed, after}
-use Rattle.ufs_names_laws.specs.Steps.{record_of, records_of}
-use Rattle.ufs_names_laws.specs.Held.{HasState, MayStep, MaySteps}
-use Rattle.ufs_names_laws.specs.Laws.{AreOlder}
+use Rattle.ufs_promise_laws.specs.Steps.{record_of, records_of}
+use Rattle.ufs_promise_laws.specs.Held.{HasState, MayStep, MaySteps}
+use Rattle.ufs_promise_laws.specs.ChangeLaws.{AreOlder}
 use Rattle.ufs_name_tree.specs.Notes.{is_of, is_touched}
-use Rattle.ufs_names_laws.proofs.Covers.{Covers, covered_all, covers_catalog}
-use Rattle.ufs_names_laws.proofs.Files.{stays_all}
-use Rattle.ufs_names_laws.proofs.Forms.{form_here}
-use Rattle.ufs_names_laws.proofs.Putting.{holds, is_dir}
-use Rattle.ufs_names_laws.proofs.Told.{kept_none, newer, ranged, told}
+use Rattle.ufs_promise_laws.proofs.Covers.{Covers, covered_all, covers_catalog}
+use Rattle.ufs_promise_laws.proofs.Files.{stays_all}
+use Rattle.ufs_promise_laws.proofs.Forms.{form_here}
+use Rattle.ufs_promise_laws.proofs.Putting.{holds, is_dir}
+use Rattle.ufs_promise_laws.proofs.RecordsTold.{kept_none, newer, ranged, told}
 
 -- what has no blocks, unless it is a directory
 abbrev pub IsBareOrDir : InodeForm → Type 0

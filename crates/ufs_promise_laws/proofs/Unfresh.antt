@@ -7,7 +7,7 @@ use Rattle.ufs_dir_tree.specs.Steps.{DirState}
 use Rattle.ufs_layout.specs.DentryForm.{DentryForm}
 use Rattle.ufs_layout.specs.declared.geometry.Geometry.{Geometry}
 use Rattle.ufs_model.specs.PosixTree.{PosixTree}
-use Rattle.ufs_names_laws.specs.Held.{HasName, HasSoundNames}
+use Rattle.ufs_promise_laws.specs.Held.{HasName, HasSoundNames}
 use Rattle.ufs_names.specs.NamesPart.{IsNamesPart}
 use Rattle.ufs_promise_laws.specs.Laws.{with_names_committed}
 use Rattle.ufs_promise_laws.specs.Parts.{NamesOwn, OneFile, Owner, Owns, Parts, TheNames, ThePool, Unassigned}

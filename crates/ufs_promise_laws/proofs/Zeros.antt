@@ -29,7 +29,7 @@ use Rattle.ufs_model.specs.FileBytes.{bytes_of}
 use Rattle.ufs_model.specs.History.{tree_after}
 use Rattle.ufs_model.specs.PosixTree.{PosixTree}
 use Rattle.ufs_model.specs.declared.data.Entry.{Entry}
-use Rattle.ufs_names_laws.specs.Laws.{ZerosAreTaken}
+use Rattle.ufs_promise_laws.specs.ChangeLaws.{ZerosAreTaken}
 use Rattle.ufs_file_commits.specs.Standing.{HaveOnly, IsFileBlock, StandsFor}
 use Rattle.ufs_file_commits.specs.State.{DurableState, whole_of}
 use Rattle.ufs_file_commits.proofs.Standing.{settled_has}

@@ -30,13 +30,13 @@ use Rattle.ufs_model.specs.declared.data.Entry.{Entry}
 use Rattle.ufs_model.specs.declared.data.Op.{Op}
 use Rattle.ufs_model.specs.declared.data.Op.TheVariants as op
 use Rattle.ufs_dir_tree.specs.Steps.{DirState, Step, after_all}
-use Rattle.ufs_names_laws.specs.Held.{HasSoundNames}
-use Rattle.ufs_names_laws.specs.Laws.{AreOlder}
+use Rattle.ufs_promise_laws.specs.Held.{HasSoundNames}
+use Rattle.ufs_promise_laws.specs.ChangeLaws.{AreOlder}
 use Rattle.ufs_name_tree.specs.NameTable.{IsNameTable}
 use Rattle.ufs_name_tree.specs.Notes.{GoesNoted, IsStateOf, is_touched}
 use Rattle.ufs_names.specs.Calls.{no_bytes}
 use Rattle.ufs_names.specs.NamesPart.{AreInodesOf, NamesPart}
-use Rattle.ufs_names_laws.specs.PathNumbers.{numbers_of}
+use Rattle.ufs_promise_laws.specs.PathNumbers.{numbers_of}
 use Rattle.ufs_crash_laws.specs.Changes.{asks_commit, changes_of, name_changes}
 use Rattle.ufs_crash_laws.specs.Explained.{IsAckCovered}
 use Rattle.ufs_store.specs.Ledgers.{HasLedger}

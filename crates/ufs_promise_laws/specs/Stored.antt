@@ -18,15 +18,15 @@ use Rattle.ufs_model.specs.FileBytes.{bytes_of}
 use Rattle.ufs_model.specs.History.{IsLegal, tree_after}
 use Rattle.ufs_model.specs.PosixTree.{IsTree, PosixTree}
 use Rattle.ufs_model.specs.declared.data.Entry.{Entry}
-use Rattle.ufs_names_laws.specs.Files.{KeepsInode}
-use Rattle.ufs_names_laws.specs.Held.{HasSoundNames, HasState, MaySteps}
+use Rattle.ufs_promise_laws.specs.Files.{KeepsInode}
+use Rattle.ufs_promise_laws.specs.Held.{HasSoundNames, HasState, MaySteps}
 use Rattle.ufs_dir_tree.specs.DirTable.{blocks_at}
 use Rattle.ufs_dir_tree.specs.Steps.{DirState, Step, after_all}
-use Rattle.ufs_names_laws.specs.Steps.{records_of}
+use Rattle.ufs_promise_laws.specs.Steps.{records_of}
 use Rattle.ufs_name_tree.specs.Notes.{AreKindsOf, is_touched}
 use Rattle.ufs_names.specs.Calls.{HaveInodes}
 use Rattle.ufs_names.specs.NamesPart.{IsNamesPart, NamesPart}
-use Rattle.ufs_names_laws.specs.PathNumbers.{numbers_of}
+use Rattle.ufs_promise_laws.specs.PathNumbers.{numbers_of}
 use Rattle.ufs_crash_laws.specs.Changes.{changes_of, names_after}
 use Rattle.ufs_file_commits.specs.Committing.{HasOwnBlocks}
 use Rattle.ufs_file_commits.specs.Standing.{IsFileBlock, StandsFor}

@@ -1,4 +1,4 @@
-// Laws of the definitions, each the contract of a function that does nothing.
+// What stands on a disk once everything is synced. Each law is the contract of a function that does nothing.
 ghost use Rattle.ufs_promise_laws.specs.Last.{SyncedIsLast};
 ghost use Rattle.ufs_promise_laws.specs.LastLaws.{AllIsLast};
 ghost use Rattle.ufs_layout.specs.Areas.{IsGeometry};

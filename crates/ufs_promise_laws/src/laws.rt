@@ -1,15 +1,15 @@
-// Laws of the definitions, each the contract of a function that does nothing.
+// How a server on its disk goes on by entries, commits, reads and stops. Each law is the contract of a function that does nothing.
 ghost use Rattle.ufs_layout.specs.Areas.{IsGeometry};
 ghost use Rattle.ufs_promise_laws.specs.AlwaysLaws.{CheckpointImagesAreExplained, CheckpointsAreExplained, CommitImagesAreExplained, CommitsAreExplained, ImagesAreExplained, LedgersAreExplained, RestIsExplained, StagesAreExplained};
 ghost use Rattle.ufs_promise_laws.specs.OnDiskLaws.{AllIsSynced, BarriersStop, CheckpointsStop, CommitsStop, FileIsSynced, NamesAreSynced, OnDiskIsExcused, OnDiskIsExplained, OnDiskIsProper, OnDiskIsRefused, OnDiskReads, OnDiskStaysBeside, OnDiskStaysStill, WritesStop};
 ghost use Rattle.ufs_promise_laws.specs.Laws.{BlocksMove, CallsAreExplained, DirFsyncsKeep, EmptiedIsStored, ExcusesKeep, FileEntriesKeep, FilesAreCommitted, FilesAreSettled, FsyncsKeep, NameEntriesKeep, NamesAreCommitted, NamesAreCommitting, NamesMayCommit, NotesGoOn, QuietEntriesKeep, SettledIsStored, SpelledIsStored, StillEntriesKeep, StoredIsExplained, SyncsKeep, WrittenIsStored};
 
+use crate::{change_law, files_law, names_go_on_law, noted_law, state_law};
 use ufs_crash_laws::{a_history_goes_by_its_changes, an_entry_keeps_what_is_shown};
 use ufs_file_commits::{committing_law, others_law, standing_law};
 use ufs_layout::Geometry;
 use ufs_ledger::{opening_law, promise_law, proper_law};
 use ufs_names::a_file_request_keeps_the_names;
-use ufs_names_laws::{change_law, files_law, names_go_on_law, noted_law, state_law};
 
 /// Whatever a crash leaves is explained.
 pub fn stored_explains(geometry: &Geometry)

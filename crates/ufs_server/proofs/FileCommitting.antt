@@ -22,7 +22,7 @@ use Rattle.ufs_file_commits.specs.Stamping.{MayLeaveSynced}
 use Rattle.ufs_file_commits.specs.State.{CommitState, DurableState, file_committed, state_of}
 use Rattle.ufs_file_commits.specs.Writes.{AreDataBlocks}
 use Rattle.ufs_file_commits.proofs.Stamping.{synced_more}
-use Rattle.ufs_event_laws.specs.Syncs.{CommittedIsForgotten, FailedSyncsGoOn, FileSyncsAreExplained, FileSyncsGoOn, FileSyncsMayLeave, HasFailed, HasSynced, HasWritten, IsSpaceOf, LeavesStages, OnDiskAsTold, PutBackAsItWas, SoundAsTold, SoundByFileSyncs, SyncedAsTold, SyncsMayBegin, WrittenSyncsGoOn}
+use Rattle.ufs_promise_laws.specs.Syncs.{CommittedIsForgotten, FailedSyncsGoOn, FileSyncsAreExplained, FileSyncsGoOn, FileSyncsMayLeave, HasFailed, HasSynced, HasWritten, IsSpaceOf, LeavesStages, OnDiskAsTold, PutBackAsItWas, SoundAsTold, SoundByFileSyncs, SyncedAsTold, SyncsMayBegin, WrittenSyncsGoOn}
 use Rattle.ufs_store.specs.Blocks.{MayReturn}
 use Rattle.ufs_store.specs.State.{StoreState, geometry_of_store}
 use Rattle.ufs_promise_laws.specs.OnDisk.{HasFiles, HasNames, IsExplainedBetween, IsOnDisk}

@@ -26,8 +26,8 @@ use Rattle.ufs_model.specs.declared.data.Op.TheVariants as op
 use Rattle.ufs_model.proofs.Facts.Lookups as lookups
 use Rattle.ufs_model.proofs.Facts.Lookups.{from_some, same_some}
 use Rattle.ufs_file_commits.specs.State.{CommitState, DurableState, IsNoted, state_of}
-use Rattle.ufs_event_laws.specs.Fetches.{FetchesAreExplained, FetchesGoOn, IsFetched, SoundByFetches, with_read}
-use Rattle.ufs_event_laws.specs.Syncs.{TellsTheSame}
+use Rattle.ufs_promise_laws.specs.Fetches.{FetchesAreExplained, FetchesGoOn, IsFetched, SoundByFetches, with_read}
+use Rattle.ufs_promise_laws.specs.Syncs.{TellsTheSame}
 use Rattle.ufs_store.specs.State.{StoreState, geometry_of_store}
 use Rattle.ufs_promise_laws.specs.OnDisk.{IsOnDisk}
 use Rattle.ufs_promise_laws.specs.Parts.{Parts, committed_as, durable_in, with_file}

@@ -28,8 +28,8 @@ use Rattle.ufs_model.specs.declared.data.Reply.{Reply}
 use Rattle.ufs_crash_laws.specs.Changes.{asks_commit}
 use Rattle.ufs_file_commits.specs.Serving.{IsApplied}
 use Rattle.ufs_file_commits.specs.State.{CommitState, DurableState, blocks_held, state_of}
-use Rattle.ufs_event_laws.specs.FileRequests.{FileRequestsGoOn, PartsByExcuses, PartsByFileRequests, SoundByFileRequests}
-use Rattle.ufs_event_laws.specs.Syncs.{OnDiskAsTold, PutBackAsItWas}
+use Rattle.ufs_promise_laws.specs.FileRequests.{FileRequestsGoOn, PartsByExcuses, PartsByFileRequests, SoundByFileRequests}
+use Rattle.ufs_promise_laws.specs.Syncs.{OnDiskAsTold, PutBackAsItWas}
 use Rattle.ufs_store.specs.State.{StoreState, geometry_of_store}
 use Rattle.ufs_promise_laws.specs.OnDisk.{IsOnDisk}
 use Rattle.ufs_promise_laws.specs.Parts.{FileOwns, Parts, durable_in, with_file}

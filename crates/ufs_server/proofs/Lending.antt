@@ -14,7 +14,7 @@ use Rattle.ufs_model.specs.declared.data.Reply.{Reply}
 use Rattle.ufs_model.specs.declared.data.Reply.TheVariants as reply
 use Rattle.ufs_names.specs.NamesPart.{NamesPart}
 use Rattle.ufs_names.specs.Space.{IsCause}
-use Rattle.ufs_event_laws.specs.FileRequests.{with_free}
+use Rattle.ufs_promise_laws.specs.FileRequests.{with_free}
 use Rattle.ufs_pouring.specs.Lent.{listed}
 use Rattle.ufs_store.specs.Blocks.{AreApart}
 use Rattle.ufs_store.specs.Refusals.{stop_after}

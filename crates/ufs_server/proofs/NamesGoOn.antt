@@ -17,8 +17,8 @@ use Rattle.ufs_model.specs.declared.data.Entry.{Entry}
 use Rattle.ufs_model.specs.declared.data.Excuse.{Excuse}
 use Rattle.ufs_model.specs.declared.data.Reply.TheVariants as reply
 use Rattle.ufs_names.specs.Calls.{IsTouched}
-use Rattle.ufs_event_laws.specs.Laws.{RequestsAreOnDisk, RequestsAreSound}
-use Rattle.ufs_event_laws.specs.Requests.{IsNamesRequest}
+use Rattle.ufs_promise_laws.specs.RequestLaws.{RequestsAreOnDisk, RequestsAreSound}
+use Rattle.ufs_promise_laws.specs.Requests.{IsNamesRequest}
 use Rattle.ufs_crash_laws.specs.Changes.{asks_commit}
 use Rattle.ufs_crash_laws.proofs.Facts.Histories.{tree_after-append}
 use Rattle.ufs_store.specs.State.{StoreState, geometry_of_store}

@@ -16,7 +16,7 @@ use Rattle.ufs_name_tree.specs.Notes.{GoesByNotes}
 use Rattle.ufs_names.specs.Calls.{HaveInodes, IsServed, IsTouched}
 use Rattle.ufs_names.specs.NamesPart.{NamesPart}
 use Rattle.ufs_names.specs.Space.{AreApart, HaveTheSame}
-use Rattle.ufs_event_laws.specs.Serving.{HasLeft, HasServed}
+use Rattle.ufs_promise_laws.specs.Serving.{HasLeft, HasServed}
 use Rattle.ufs_pouring.specs.Lent.{listed}
 use Rattle.ufs_promise_laws.specs.Parts.{Commits, Parts}
 use Rattle.ufs_server.specs.Touching.{IsSettled}

@@ -14,8 +14,8 @@ use Rattle.ufs_model.specs.declared.data.Excuse.{Excuse}
 use Rattle.ufs_model.specs.declared.data.Excuse.TheVariants as excuse
 use Rattle.ufs_model.specs.declared.data.Reply.TheVariants as reply
 use Rattle.ufs_names.proofs.FitsLemmas.{fits_memory}
-use Rattle.ufs_event_laws.specs.FileRequests.{FreeBlocksGoOn, SoundByFreeBlocks, with_free}
-use Rattle.ufs_event_laws.specs.Syncs.{OnDiskAsTold, SoundAsTold, TellsTheSame}
+use Rattle.ufs_promise_laws.specs.FileRequests.{FreeBlocksGoOn, SoundByFreeBlocks, with_free}
+use Rattle.ufs_promise_laws.specs.Syncs.{OnDiskAsTold, SoundAsTold, TellsTheSame}
 use Rattle.ufs_store.specs.Refusals.{IsTold, stop_after}
 use Rattle.ufs_store.specs.State.{StoreState, geometry_of_store}
 use Rattle.ufs_promise_laws.specs.AlwaysLaws.{RestIsExplained}

@@ -15,7 +15,7 @@ use Rattle.ufs_model.specs.declared.data.Ask.{Ask}
 use Rattle.ufs_model.proofs.Facts.Lookups.{from_some, inserted_else, inserted_here, same_some}
 use Rattle.ufs_names.specs.Calls.{IsAsked}
 use Rattle.ufs_names.specs.Needs.{listed}
-use Rattle.ufs_event_laws.specs.Syncs.{TellsTheSame}
+use Rattle.ufs_promise_laws.specs.Syncs.{TellsTheSame}
 use Rattle.ufs_promise_laws.specs.Parts.{Commits, Parts, committed_as, durable_in}
 use Rattle.ufs_promise_laws.specs.Stored.{ArePartsOf}
 use Rattle.ufs_server.specs.Server.{commits_in}

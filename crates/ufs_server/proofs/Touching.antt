@@ -14,7 +14,7 @@ use Rattle.ufs_extent.specs.declared.Run.{Run}
 use Rattle.ufs_file.specs.Hand.{FileState}
 use Rattle.ufs_files.specs.Files.{Files}
 use Rattle.ufs_model.proofs.Facts.Lookups.{from_some, inserted_else, inserted_here, removed_else, removed_here, same_some, there_or_not}
-use Rattle.ufs_event_laws.specs.Serving.{HasLeft, emptied_commits}
+use Rattle.ufs_promise_laws.specs.Serving.{HasLeft, emptied_commits}
 use Rattle.ufs_promise_laws.specs.Parts.{Commits, Parts}
 use Rattle.ufs_server.specs.Touching.{IsSettled}
 use Rattle.ufs_server.proofs.NamesServed.{on_one, one_on}

@@ -11,7 +11,7 @@ use Rattle.ufs_model.specs.declared.data.Excuse.{Excuse}
 use Rattle.ufs_model.specs.declared.data.Excuse.TheVariants as excuse
 use Rattle.ufs_model.specs.declared.data.Op.{Op}
 use Rattle.ufs_model.specs.declared.data.Op.TheVariants as op
-use Rattle.ufs_event_laws.specs.Syncs.{TellsTheSame}
+use Rattle.ufs_promise_laws.specs.Syncs.{TellsTheSame}
 use Rattle.ufs_promise_laws.specs.Parts.{Parts}
 
 -- The request gives or changes bytes of a file: no other needs a block of one.

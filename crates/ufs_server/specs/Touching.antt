@@ -11,8 +11,8 @@ use Rattle.ufs_model.specs.declared.data.Ask.{Ask}
 use Rattle.ufs_model.specs.declared.data.Desc.{Desc}
 use Rattle.ufs_model.specs.declared.data.Reply.{Reply}
 use Rattle.ufs_names.specs.Calls.{IsTouched}
-use Rattle.ufs_event_laws.specs.Requests.{IsNamesRequest}
-use Rattle.ufs_event_laws.specs.Serving.{HasLeft, HasSettled}
+use Rattle.ufs_promise_laws.specs.Requests.{IsNamesRequest}
+use Rattle.ufs_promise_laws.specs.Serving.{HasLeft, HasSettled}
 use Rattle.ufs_promise_laws.specs.Parts.{Commits, Parts}
 use Rattle.ufs_promise_laws.specs.Stored.{ArePartsOf}
 use Rattle.ufs_server.specs.Answered.{IsAnswered}

@@ -20,10 +20,9 @@ ghost use Rattle.ufs_server.specs.Served.{StaysOnDisk};
 
 use crate::disk_server::DiskServer;
 use ufs_base::Lack;
-use ufs_event_laws::{fetch_law, file_sync_law};
 use ufs_file_commits::fetch;
 use ufs_model::{Ask, Desc, Excuse, Op, a_file_goes_on_by_itself};
-use ufs_promise_laws::always_law;
+use ufs_promise_laws::{always_law, fetch_law, file_sync_law};
 use ufs_store::{Door, StoreFault};
 
 impl DiskServer {

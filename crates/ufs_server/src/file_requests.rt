@@ -8,7 +8,7 @@ ghost use Rattle.ufs_model.specs.FileCalls.{is_on_file};
 ghost use Rattle.ufs_model.specs.History.{is_excused};
 ghost use Rattle.ufs_model.specs.declared.data.Excuse.TheVariants as excuse;
 ghost use Rattle.ufs_model.specs.declared.data.Reply.TheVariants as reply;
-ghost use Rattle.ufs_event_laws.specs.FileRequests.{with_free};
+ghost use Rattle.ufs_promise_laws.specs.FileRequests.{with_free};
 ghost use Rattle.ufs_crash_laws.specs.Changes.{asks_commit};
 ghost use Rattle.ufs_store.specs.State.{geometry_of_store};
 ghost use Rattle.ufs_promise_laws.specs.Laws.{MovesBlocks};
@@ -20,11 +20,10 @@ ghost use Rattle.ufs_server.specs.Served.{IsServedOn, KeepsPromise, StaysOnDisk}
 
 use crate::disk_server::DiskServer;
 use ufs_base::Lack;
-use ufs_event_laws::{file_request_law, told_law};
 use ufs_file::{Applied, out_of_memory};
 use ufs_file_commits::apply;
 use ufs_model::{Actor, Ask};
-use ufs_promise_laws::{always_law, on_disk_law};
+use ufs_promise_laws::{always_law, file_request_law, on_disk_law, told_law};
 use ufs_store::{Door, StoreFault};
 
 impl DiskServer {

@@ -12,7 +12,7 @@ ghost use Rattle.ufs_file_commits.specs.Committing.{FitsInode};
 ghost use Rattle.ufs_file_commits.specs.Stamping.{MayLeaveSynced};
 ghost use Rattle.ufs_file_commits.specs.State.{IsNoted, file_committed, state_of};
 ghost use Rattle.ufs_file_commits.specs.Writes.{AreDataBlocks};
-ghost use Rattle.ufs_event_laws.specs.Syncs.{HasFailed, HasSynced, HasWritten, LeavesStages};
+ghost use Rattle.ufs_promise_laws.specs.Syncs.{HasFailed, HasSynced, HasWritten, LeavesStages};
 ghost use Rattle.ufs_store.specs.Numbers.{HasRaised};
 ghost use Rattle.ufs_store.specs.Blocks.{MayReturn};
 ghost use Rattle.ufs_store.specs.Refusals.{IsTold, stop_after};
@@ -25,13 +25,12 @@ ghost use Rattle.ufs_server.specs.Served.{CommitEnds};
 
 use crate::disk_server::DiskServer;
 use crate::syncing::excuse_of;
-use ufs_event_laws::{
-    file_failure_law, file_memory_law, file_moments_law, file_sync_law, told_law,
-};
 use ufs_file::FileHand;
 use ufs_file_commits::{FileCommits, fitting_law, fsync};
 use ufs_model::Excuse;
-use ufs_promise_laws::always_law;
+use ufs_promise_laws::{
+    always_law, file_failure_law, file_memory_law, file_moments_law, file_sync_law, told_law,
+};
 use ufs_store::Door;
 
 impl DiskServer {

@@ -29,11 +29,12 @@ ghost use Rattle.ufs_store.specs.Numbers.{HasRaised};
 use crate::disk_server::DiskServer;
 use crate::touched::Touched;
 use ufs_base::Lack;
-use ufs_event_laws::{file_request_law, names_request_law, served_names_law, told_law};
 use ufs_file::{Applied, answered, out_of_memory};
 use ufs_model::{Actor, Ask, Entry, Excuse, Reply};
 use ufs_pouring::{lend, pour};
-use ufs_promise_laws::on_disk_law;
+use ufs_promise_laws::{
+    file_request_law, names_request_law, on_disk_law, served_names_law, told_law,
+};
 use ufs_store::Door;
 
 impl DiskServer {

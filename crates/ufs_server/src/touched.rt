@@ -2,7 +2,7 @@
 ghost use Rattle.std.specs.Prelude.{◌≡◌, [], Some, IsSome};
 ghost use Rattle.std.specs.FinMap as map;
 ghost use Rattle.ufs_file_commits.specs.State.{CommitState};
-ghost use Rattle.ufs_event_laws.specs.Serving.{emptied_commits};
+ghost use Rattle.ufs_promise_laws.specs.Serving.{emptied_commits};
 
 use crate::commit_table::CommitTable;
 use crate::disk_server::DiskServer;
@@ -29,8 +29,8 @@ impl DiskServer {
     ghost use Rattle.ufs_file_commits.specs.State.{CommitState};
     ghost use Rattle.ufs_file.specs.Hand.{FileState};
     ghost use Rattle.ufs_layout.specs.declared.geometry.Geometry.{Geometry};
-    ghost use Rattle.ufs_event_laws.specs.Serving.{emptied_commits};
-    ghost use Rattle.ufs_event_laws.specs.Syncs.{TellsTheSame};
+    ghost use Rattle.ufs_promise_laws.specs.Serving.{emptied_commits};
+    ghost use Rattle.ufs_promise_laws.specs.Syncs.{TellsTheSame};
     ghost use Rattle.ufs_promise_laws.specs.Sound.{IsSoundServer};
     ghost use Rattle.ufs_server.specs.Touching.{AreReadied, IsReadied, IsSettled, file_touched};
 

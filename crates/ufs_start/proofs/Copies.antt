@@ -22,12 +22,12 @@ use Rattle.ufs_layout.specs.declared.geometry.Geometry.{Geometry}
 use Rattle.ufs_layout.specs.declared.records.Committed.{Committed}
 use Rattle.ufs_layout.specs.declared.superblock.Super.{Super}
 use Rattle.ufs_ledger.specs.Kept.{paths_of}
-use Rattle.ufs_tree_laws.specs.Starts.{image_start}
+use Rattle.ufs_promise_laws.specs.Starts.{image_start}
 use Rattle.ufs_names.specs.NamesPart.{IsNamesPart}
-use Rattle.ufs_tree_laws.specs.Loaded.{AreRead}
-use Rattle.ufs_tree_laws.specs.Numbered.{IsNumberedAs}
-use Rattle.ufs_tree_laws.specs.Parts.{IsNamesOf}
-use Rattle.ufs_tree_laws.proofs.Started.{image_is_tree, image_part}
+use Rattle.ufs_promise_laws.specs.Loaded.{AreRead}
+use Rattle.ufs_promise_laws.specs.Numbered.{IsNumberedAs}
+use Rattle.ufs_promise_laws.specs.TreeParts.{IsNamesOf}
+use Rattle.ufs_promise_laws.proofs.Started.{image_is_tree, image_part}
 use Rattle.ufs_file.specs.Content.{block_count}
 use Rattle.ufs_files.specs.Files.{AreFilesOf}
 use Rattle.ufs_one_hand.specs.OneHand.{start_with}

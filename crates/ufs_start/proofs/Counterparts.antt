@@ -27,9 +27,9 @@ use Rattle.ufs_load_image.specs.Loaded.{is_free_block}
 use Rattle.ufs_model.specs.PosixTree.{Paths, PosixTree}
 use Rattle.ufs_name_tree.specs.NameTable.{NameTable, file_at}
 use Rattle.ufs_names.specs.NamesPart.{NamesPart}
-use Rattle.ufs_tree_laws.specs.Loaded.{AreRead}
-use Rattle.ufs_tree_laws.specs.Numbered.{IsNumberedAs}
-use Rattle.ufs_tree_laws.specs.Parts.{IsNamesOf}
+use Rattle.ufs_promise_laws.specs.Loaded.{AreRead}
+use Rattle.ufs_promise_laws.specs.Numbered.{IsNumberedAs}
+use Rattle.ufs_promise_laws.specs.TreeParts.{IsNamesOf}
 use Rattle.ufs_start.specs.Extents.{run_of}
 use Rattle.ufs_start.specs.Files.{AreLaid, AreUnread}
 use Rattle.ufs_start.specs.Refused.{HasNoneCutOff, IsCutOff, IsUnnamedFile}

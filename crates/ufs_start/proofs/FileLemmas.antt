@@ -16,7 +16,7 @@ use Rattle.ufs_layout.specs.InodeForm.{InodeForm, free_inode}
 use Rattle.ufs_layout.specs.declared.geometry.Geometry.{Geometry}
 use Rattle.ufs_model.proofs.Facts.Lookups.{same_some}
 use Rattle.ufs_names.specs.NamesPart.{NamesPart}
-use Rattle.ufs_tree_laws.specs.Loaded.{IsRead, AreRead}
+use Rattle.ufs_promise_laws.specs.Loaded.{IsRead, AreRead}
 use Rattle.ufs_walk.proofs.Marked.{get_replicate}
 use Rattle.ufs_start.specs.Files.{AreFormsOf, AreLaid, AreUnread, IsLaid, IsSoundFile}
 use Rattle.ufs_start.specs.Refused.{NamesFile}

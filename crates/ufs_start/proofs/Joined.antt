@@ -26,8 +26,8 @@ use Rattle.ufs_model.specs.declared.data.PathNode.{PathNode}
 use Rattle.ufs_model.proofs.Facts.Orders.{path_total, path_same}
 use Rattle.ufs_model.proofs.Facts.Rising.{entries-rising, entries-rise}
 use Rattle.ufs_ledger.specs.Kept.{path_node_of, paths_of}
-use Rattle.ufs_tree_laws.specs.Numbered.{IsFileAt}
-use Rattle.ufs_tree_laws.specs.Starts.{image_start}
+use Rattle.ufs_promise_laws.specs.Numbered.{IsFileAt}
+use Rattle.ufs_promise_laws.specs.Starts.{image_start}
 use Rattle.ufs_walk.specs.Walked.{AreInodes, Place, places}
 use Rattle.ufs_walk.proofs.Maps.{mapped_same}
 use Rattle.ufs_walk.proofs.Reached.{IsMetAtPlace, found_in, from_places, in_found, in_places}

@@ -21,18 +21,18 @@ use Rattle.ufs_ledger.specs.Kept.{path_node_of, paths_of}
 use Rattle.ufs_name_tree.specs.NameTable.{NameTable, IsNameTable}
 use Rattle.ufs_names.specs.Closed.{AreClosed}
 use Rattle.ufs_names.specs.NamesPart.{NamesPart}
-use Rattle.ufs_tree_laws.specs.Numbered.{HasImage, IsNumberedAs}
-use Rattle.ufs_tree_laws.specs.Parts.{IsNamesOf}
-use Rattle.ufs_tree_laws.specs.Starts.{image_start}
+use Rattle.ufs_promise_laws.specs.Numbered.{HasImage, IsNumberedAs}
+use Rattle.ufs_promise_laws.specs.TreeParts.{IsNamesOf}
+use Rattle.ufs_promise_laws.specs.Starts.{image_start}
 use Rattle.ufs_bitmap.specs.Blocks.{BlockSet}
 use Rattle.ufs_files.specs.Files.{Files, AreFilesOf}
 use Rattle.ufs_names.specs.Calls.{HaveInodes}
 use Rattle.ufs_names.specs.Space.{AreApart}
-use Rattle.ufs_tree_laws.specs.Loaded.{AreRead, IsUntaken}
-use Rattle.ufs_tree_laws.proofs.BlocksApart.{are_apart}
-use Rattle.ufs_tree_laws.proofs.Filed.{are_files, have_inodes}
-use Rattle.ufs_tree_laws.proofs.Named.{is_name_table, named_once}
-use Rattle.ufs_tree_laws.proofs.Started.{image_is_tree, image_part}
+use Rattle.ufs_promise_laws.specs.Loaded.{AreRead, IsUntaken}
+use Rattle.ufs_promise_laws.proofs.BlocksApart.{are_apart}
+use Rattle.ufs_promise_laws.proofs.Filed.{are_files, have_inodes}
+use Rattle.ufs_promise_laws.proofs.TreeNamed.{is_name_table, named_once}
+use Rattle.ufs_promise_laws.proofs.Started.{image_is_tree, image_part}
 use Rattle.ufs_start.specs.Starts.{AreNumbersOf, AreStartNames, IsLoaded, tree_in}
 
 -- three facts of a success together

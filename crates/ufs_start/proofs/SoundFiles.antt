@@ -21,9 +21,9 @@ use Rattle.ufs_layout.specs.InodeForm.{is_used}
 use Rattle.ufs_layout.specs.declared.geometry.Geometry.{Geometry}
 use Rattle.ufs_ledger.specs.Kept.{paths_of}
 use Rattle.ufs_model.proofs.ContentLemmas.{start_is_numbered}
-use Rattle.ufs_tree_laws.specs.Numbered.{IsFileAt}
-use Rattle.ufs_tree_laws.specs.Starts.{image_start}
-use Rattle.ufs_tree_laws.proofs.Named.{named_once}
+use Rattle.ufs_promise_laws.specs.Numbered.{IsFileAt}
+use Rattle.ufs_promise_laws.specs.Starts.{image_start}
+use Rattle.ufs_promise_laws.proofs.TreeNamed.{named_once}
 use Rattle.ufs_walk.proofs.Reached.{IsMetAtPlace}
 use Rattle.ufs_start.specs.Files.{AreSoundFiles, IsSoundFile}
 use Rattle.ufs_start.specs.Starts.{AreNumbersOf, IsUndamaged, tree_in}

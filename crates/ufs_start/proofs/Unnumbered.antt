@@ -27,7 +27,7 @@ use Rattle.ufs_model.specs.declared.data.PathNode.TheVariants as path_node
 use Rattle.ufs_model.proofs.ContentLemmas.{start_has_contents}
 use Rattle.ufs_model.proofs.Facts.Orders.{path_total}
 use Rattle.ufs_crash_laws.proofs.Facts.Mapped.{get-mapped}
-use Rattle.ufs_tree_laws.specs.Starts.{image_start}
+use Rattle.ufs_promise_laws.specs.Starts.{image_start}
 use Rattle.ufs_start.specs.Numbers.{is_file_form, is_unnamed_in}
 use Rattle.ufs_start.specs.Refused.{IsUnnamedFile}
 use Rattle.ufs_start.specs.Starts.{AreNumbersOf, HaveNumbers, IsUndamaged, tree_in}

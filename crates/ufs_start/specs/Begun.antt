@@ -19,9 +19,9 @@ use Rattle.ufs_name_tree.specs.NameTable.{file_at}
 use Rattle.ufs_names.specs.Calls.{HaveInodes}
 use Rattle.ufs_names.specs.NamesPart.{IsNamesPart}
 use Rattle.ufs_names.specs.Space.{AreApart}
-use Rattle.ufs_tree_laws.specs.Loaded.{AreRead}
-use Rattle.ufs_tree_laws.specs.Parts.{IsNamesOf}
-use Rattle.ufs_tree_laws.specs.Starts.{image_start}
+use Rattle.ufs_promise_laws.specs.Loaded.{AreRead}
+use Rattle.ufs_promise_laws.specs.TreeParts.{IsNamesOf}
+use Rattle.ufs_promise_laws.specs.Starts.{image_start}
 use Rattle.ufs_one_hand.specs.OneHand.{IsStart, start_with}
 use Rattle.ufs_hand_laws.specs.Parts as sound
 use Rattle.ufs_start.specs.Files.{AreLaid, AreUnread}

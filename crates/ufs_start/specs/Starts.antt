@@ -15,13 +15,13 @@ use Rattle.ufs_files.specs.Files.{Files, AreFilesOf}
 use Rattle.ufs_name_tree.specs.NameTable.{NameTable, file_at}
 use Rattle.ufs_names.specs.Calls.{HaveInodes}
 use Rattle.ufs_names.specs.Space.{AreApart}
-use Rattle.ufs_tree_laws.specs.Loaded.{AreRead, IsUntaken}
-use Rattle.ufs_tree_laws.specs.Numbered.{IsFileAt}
+use Rattle.ufs_promise_laws.specs.Loaded.{AreRead, IsUntaken}
+use Rattle.ufs_promise_laws.specs.Numbered.{IsFileAt}
 use Rattle.ufs_dir_tree.specs.DirTable.{DirTable}
 use Rattle.ufs_dir_laws.specs.Tables.{IsTableOf}
 use Rattle.ufs_names.specs.NamesPart.{NamesPart, IsNamesPart}
-use Rattle.ufs_tree_laws.specs.Parts.{IsNamesOf}
-use Rattle.ufs_tree_laws.specs.Starts.{image_start}
+use Rattle.ufs_promise_laws.specs.TreeParts.{IsNamesOf}
+use Rattle.ufs_promise_laws.specs.Starts.{image_start}
 
 -- the root, and what stands below it
 abbrev pub tree_in : Geometry → Image → ImageTree

@@ -11,7 +11,7 @@ ghost use Rattle.ufs_image.specs.Nodes as nodes;
 ghost use Rattle.ufs_layout.specs.InodeForm.{InodeForm};
 ghost use Rattle.ufs_layout.specs.declared.geometry.Geometry.{Geometry};
 ghost use Rattle.ufs_names.specs.NamesPart.{NamesPart};
-ghost use Rattle.ufs_tree_laws.specs.Loaded.{AreRead};
+ghost use Rattle.ufs_promise_laws.specs.Loaded.{AreRead};
 ghost use Rattle.ufs_start.specs.Extents.{run_of};
 ghost use Rattle.ufs_start.specs.Files.{AreFormsOf, AreLaid, AreSized, AreSoundFiles, AreUnread, HasNumbers, IsSoundFile};
 ghost use Rattle.ufs_start.specs.Refused.{HasStartCause, IsRefusedFile, NamesFile};

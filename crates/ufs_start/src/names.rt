@@ -3,7 +3,7 @@ ghost use Rattle.ufs_base.specs.Images.{Image};
 ghost use Rattle.ufs_layout.specs.Areas.{IsGeometry};
 ghost use Rattle.ufs_layout.specs.declared.superblock.Super.{Super};
 ghost use Rattle.ufs_dir_tree.specs.DirTable.{IsReached};
-ghost use Rattle.ufs_tree_laws.specs.Starts.{image_start};
+ghost use Rattle.ufs_promise_laws.specs.Starts.{image_start};
 ghost use Rattle.ufs_start.specs.Refused.{HasNoneCutOff, IsNamesFault};
 ghost use Rattle.ufs_image.specs.Catalog.{catalog_at};
 ghost use Rattle.ufs_start.specs.Starts.{AreDirsOf, AreFilesNamed, AreNumbersOf, AreStartNames, HaveNumbers, IsLoaded, IsOfSome, IsUndamaged, tree_in};

@@ -3,7 +3,7 @@ ghost use Rattle.std.specs.Prelude.{ℕ, ◌≡◌, ◌≤◌, ◌<◌, ◌+◌,
 ghost use Rattle.ufs_layout.specs.Areas.{IsGeometry};
 ghost use Rattle.ufs_walk.specs.Walked.{AreInodes, pairs_of};
 ghost use Rattle.ufs_base.specs.Images.{Image};
-ghost use Rattle.ufs_tree_laws.specs.Starts.{image_start};
+ghost use Rattle.ufs_promise_laws.specs.Starts.{image_start};
 ghost use Rattle.ufs_metadata.specs.Lacks.{IsOfNumbers};
 ghost use Rattle.ufs_start.specs.Starts.{AreNumbersOf, IsUndamaged, tree_in};
 ghost use Rattle.ufs_start.specs.Numbers.{after, is_dir_in, next_number, noted, numbers_from};

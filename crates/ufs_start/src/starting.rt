@@ -19,9 +19,9 @@ ghost use Rattle.ufs_name_tree.specs.NameTable.{file_at};
 ghost use Rattle.ufs_names.specs.Calls.{HaveInodes};
 ghost use Rattle.ufs_names.specs.NamesPart.{IsNamesPart};
 ghost use Rattle.ufs_names.specs.Space.{AreApart};
-ghost use Rattle.ufs_tree_laws.specs.Loaded.{AreRead};
-ghost use Rattle.ufs_tree_laws.specs.Parts.{IsNamesOf};
-ghost use Rattle.ufs_tree_laws.specs.Starts.{image_start};
+ghost use Rattle.ufs_promise_laws.specs.Loaded.{AreRead};
+ghost use Rattle.ufs_promise_laws.specs.TreeParts.{IsNamesOf};
+ghost use Rattle.ufs_promise_laws.specs.Starts.{image_start};
 ghost use Rattle.ufs_start.specs.Begun.{IsBegun, catalog_under, image_under, session_start, tree_under, volume_under};
 ghost use Rattle.ufs_start.specs.Files.{AreLaid, AreSized, AreUnread};
 ghost use Rattle.ufs_front.specs.Fronts.{bytes_of};
@@ -48,7 +48,7 @@ use ufs_image::damage_law;
 use ufs_layout::Geometry;
 use ufs_load_image::load;
 use ufs_names::Names;
-use ufs_tree_laws::{files_part_law, image_start_law};
+use ufs_promise_laws::{files_part_law, image_start_law};
 
 // The files of an image, by the numbers that its names tell.
 fn files_in(

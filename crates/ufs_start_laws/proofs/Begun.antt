@@ -28,13 +28,13 @@ use Rattle.ufs_ledger.specs.Ledger.{Ledger}
 use Rattle.ufs_model.specs.PosixTree.{PosixTree}
 use Rattle.ufs_model.proofs.Facts.Lookups.{same_some}
 use Rattle.ufs_ledger.proofs.SuperblockPut.{none_committed}
-use Rattle.ufs_names_laws.specs.Laws.{SoundHasState, SpelledHaveSlots}
-use Rattle.ufs_names_laws.specs.Numbers.{NamesNumberPaths}
+use Rattle.ufs_promise_laws.specs.ChangeLaws.{SoundHasState, SpelledHaveSlots}
+use Rattle.ufs_promise_laws.specs.Numbers.{NamesNumberPaths}
 use Rattle.ufs_name_tree.specs.NameTable.{file_at}
 use Rattle.ufs_names.specs.NamesPart.{NamesPart}
 use Rattle.ufs_names.specs.declared.holding.Holding.{Holding}
 use Rattle.ufs_names.proofs.NotedLemmas.{beside}
-use Rattle.ufs_names_laws.specs.PathNumbers.{PartsHaveNumbers, PartsTellPaths, UnbornHaveNone, numbers_of}
+use Rattle.ufs_promise_laws.specs.PathNumbers.{PartsHaveNumbers, PartsTellPaths, UnbornHaveNone, numbers_of}
 use Rattle.ufs_store.specs.Mounting.{in_use}
 use Rattle.ufs_promise_laws.specs.Parts.{Parts}
 use Rattle.ufs_promise_laws.specs.Sound.{IsSoundServer}

@@ -35,8 +35,8 @@ use Rattle.ufs_model.proofs.Facts.Orders.{path_total}
 use Rattle.ufs_name_tree.specs.NameTable.{IsNameTable, file_at}
 use Rattle.ufs_name_tree.specs.Notes.{AreKindsOf}
 use Rattle.ufs_names.specs.NamesPart.{NamesPart}
-use Rattle.ufs_tree_laws.specs.Numbered.{HasImage}
-use Rattle.ufs_tree_laws.proofs.Named.{is_name_table}
+use Rattle.ufs_promise_laws.specs.Numbered.{HasImage}
+use Rattle.ufs_promise_laws.proofs.TreeNamed.{is_name_table}
 use Rattle.ufs_crash_laws.proofs.Facts.Mapped.{get-mapped}
 use Rattle.ufs_start_laws.specs.Parts.{AreOrphaned, IsOpened, start_in}
 

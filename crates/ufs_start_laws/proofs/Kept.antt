@@ -32,14 +32,14 @@ use Rattle.ufs_model.specs.FileBytes.{bytes_of}
 use Rattle.ufs_model.specs.PosixTree.{PosixTree}
 use Rattle.ufs_model.proofs.Facts.Live.{held_has}
 use Rattle.ufs_model.proofs.Facts.Lookups.{same_some}
-use Rattle.ufs_names_laws.specs.Held.{HasSoundNames, HasState}
-use Rattle.ufs_names_laws.specs.Laws.{SoundHasState, SpelledHaveSlots, state_of}
-use Rattle.ufs_names_laws.specs.Numbers.{NamesNumberPaths}
+use Rattle.ufs_promise_laws.specs.Held.{HasSoundNames, HasState}
+use Rattle.ufs_promise_laws.specs.ChangeLaws.{SoundHasState, SpelledHaveSlots, state_of}
+use Rattle.ufs_promise_laws.specs.Numbers.{NamesNumberPaths}
 use Rattle.ufs_name_tree.specs.NameTable.{file_at}
 use Rattle.ufs_names.specs.NamesPart.{NamesPart}
 use Rattle.ufs_names.specs.declared.holding.Holding.{Holding}
-use Rattle.ufs_tree_laws.proofs.Filed.{has_bytes}
-use Rattle.ufs_names_laws.specs.PathNumbers.{PartsHaveNumbers, PartsTellPaths, UnbornHaveNone, numbers_of}
+use Rattle.ufs_promise_laws.proofs.Filed.{has_bytes}
+use Rattle.ufs_promise_laws.specs.PathNumbers.{PartsHaveNumbers, PartsTellPaths, UnbornHaveNone, numbers_of}
 use Rattle.ufs_crash_laws.specs.Changes.{changes_of, file_synced, name_changes, names_after, names_synced}
 use Rattle.ufs_crash_laws.specs.FileChanges.{byte_at}
 use Rattle.ufs_crash_laws.specs.Stored.{IsNamed}

@@ -41,7 +41,7 @@ use Rattle.ufs_model.specs.PosixTree.{PosixTree}
 use Rattle.ufs_name_tree.specs.NameTable.{file_at}
 use Rattle.ufs_names.specs.NamesPart.{NamesPart}
 use Rattle.ufs_names.specs.Notes.{with_notes}
-use Rattle.ufs_names_laws.specs.PathNumbers.{numbers_of}
+use Rattle.ufs_promise_laws.specs.PathNumbers.{numbers_of}
 use Rattle.ufs_crash_laws.specs.FileChanges.{byte_at}
 use Rattle.ufs_store.specs.Mounting.{in_use}
 use Rattle.ufs_promise_laws.specs.Parts.{FileOwns, NamesOwn, OneFile, Owner, Owns, Parts, TheNames, ThePool, Unassigned, committed_as, durable_in}

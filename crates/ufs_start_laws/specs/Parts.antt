@@ -23,10 +23,10 @@ use Rattle.ufs_names.specs.Calls.{HaveInodes}
 use Rattle.ufs_names.specs.NamesPart.{IsNamesPart, NamesPart}
 use Rattle.ufs_names.specs.Notes.{with_notes}
 use Rattle.ufs_names.specs.Space.{AreApart}
-use Rattle.ufs_tree_laws.specs.Loaded.{AreRead}
-use Rattle.ufs_tree_laws.specs.Parts.{IsNamesOf}
-use Rattle.ufs_tree_laws.specs.Starts.{image_start}
-use Rattle.ufs_names_laws.specs.PathNumbers.{numbers_of}
+use Rattle.ufs_promise_laws.specs.Loaded.{AreRead}
+use Rattle.ufs_promise_laws.specs.TreeParts.{IsNamesOf}
+use Rattle.ufs_promise_laws.specs.Starts.{image_start}
+use Rattle.ufs_promise_laws.specs.PathNumbers.{numbers_of}
 use Rattle.ufs_promise_laws.specs.Parts.{Parts}
 
 -- ---- of an image

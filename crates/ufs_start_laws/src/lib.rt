@@ -1,4 +1,4 @@
-//! What a server begins with is on its disk.
+//! What a server begins with, as it is read of an image, is on its disk.
 #![tactic(auto)]
 
 mod laws;

@@ -7,7 +7,7 @@ use Rattle.ufs_bitmap.specs.Blocks.{BlockSet}
 use Rattle.ufs_extent.specs.Runs.{IsRun}
 use Rattle.ufs_layout.specs.declared.geometry.Geometry.{Geometry}
 use Rattle.ufs_file_commits.specs.State.{DurableState, file_committed}
-use Rattle.ufs_event_laws.specs.Syncs.{IsSpaceOf, MaySync, SyncsMayBegin}
+use Rattle.ufs_promise_laws.specs.Syncs.{IsSpaceOf, MaySync, SyncsMayBegin}
 use Rattle.ufs_hand_laws.specs.DiskBytes as disk_bytes
 use Rattle.ufs_hand_laws.specs.Owned.{Has}
 use Rattle.ufs_store.specs.State.{StoreState, geometry_of_store}
@@ -23,8 +23,8 @@ use Rattle.ufs_joint.proofs.Disks.{drop_behind, store_as_cell}
 use Rattle.ufs_joint.proofs.OneFile.{durable_is}
 use Rattle.ufs_disk.specs.Disk.{IsWhole}
 use Rattle.ufs_disk.specs.Moments.{all}
-use Rattle.ufs_event_laws.specs.Fetches.{IsFetched, IsNotedOn}
-use Rattle.ufs_event_laws.specs.Syncs.{HasFailed, HasSynced, HasWritten, LeavesStages}
+use Rattle.ufs_promise_laws.specs.Fetches.{IsFetched, IsNotedOn}
+use Rattle.ufs_promise_laws.specs.Syncs.{HasFailed, HasSynced, HasWritten, LeavesStages}
 use Rattle.ufs_hand_laws.specs.Owned.{each}
 use Rattle.ufs_hand_laws.proofs.Owning.{has_append}
 use Rattle.ufs_store_steps.specs.Cells.{cells_of}

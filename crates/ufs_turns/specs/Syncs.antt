@@ -7,7 +7,7 @@ use Rattle.ufs_file_commits.specs.Committing.{FitsInode}
 use Rattle.ufs_file_commits.specs.State.{DurableState, file_committed}
 use Rattle.ufs_joint.specs.Checkpoints.{HasBegunAnew}
 use Rattle.ufs_ledger.specs.Ledger.{Ledger}
-use Rattle.ufs_event_laws.specs.Syncs.{HasFailed, HasSynced, HasWritten, LeavesStages}
+use Rattle.ufs_promise_laws.specs.Syncs.{HasFailed, HasSynced, HasWritten, LeavesStages}
 use Rattle.ufs_store.specs.Ledgers.{HasLedger, IsLeftByAny, beginning_next}
 use Rattle.ufs_store.specs.Refusals.{IsTold, stop_after}
 use Rattle.ufs_store.specs.State.{StoreState, geometry_of_store}

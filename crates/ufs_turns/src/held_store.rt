@@ -23,7 +23,6 @@ use crate::syncs::{sync_store, told_by, told_of};
 use std::marker::{Brand, Model};
 use std::sync::ledger::{Book, Ledger, Share};
 use ufs_bitmap::Pool;
-use ufs_event_laws::file_sync_law;
 use ufs_file::FileHand;
 use ufs_file_commits::{FileCommits, fetch};
 use ufs_joint::{
@@ -32,6 +31,7 @@ use ufs_joint::{
 use ufs_layout::Geometry;
 use ufs_model::{Desc, Op, PartName};
 use ufs_names::Names;
+use ufs_promise_laws::file_sync_law;
 use ufs_store::{Door, StoreFault};
 
 /// A store, and the hand of the store's cell of session `N`, which goes with it. Contracts see the hand. The book counts the checkpoints

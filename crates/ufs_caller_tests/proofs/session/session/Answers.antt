@@ -16,8 +16,8 @@ client_hand-own-requires-clause-idle g c =
 pub client_hand-own-requires-clause-closed : goal.client_hand-own-requires-clause-closed
 client_hand-own-requires-clause-closed g c = λ fd. subst (λ (k : Start). desc_at k.tree 0 fd ≡ None) (sym c.requires.start) (fin.get-empty _ (0, fd))
 
-pub new-requires-clause-closed : goal.new-requires-clause-closed
-new-requires-clause-closed g c = λ fd. subst (λ (k : Start). desc_at k.tree 0 fd ≡ None) (sym c.requires.start) (fin.get-empty _ (0, fd))
+pub new-client-requires-clause-closed : goal.new-client-requires-clause-closed
+new-client-requires-clause-closed g c = λ fd. subst (λ (k : Start). desc_at k.tree 0 fd ≡ None) (sym c.requires.start) (fin.get-empty _ (0, fd))
 
 pub close-requires-clause-all : goal.close-requires-clause-all
 close-requires-clause-all g c =

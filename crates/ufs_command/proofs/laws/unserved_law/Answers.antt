@@ -2,7 +2,7 @@ use Rattle.std.proofs.Common.{[], subst, sym}
 use Rattle.ufs_disk.specs.Disk.{seen}
 use Rattle.ufs_ledger.specs.Kept.{OpensExplained, paths_of}
 use Rattle.ufs_model.specs.PosixTree.{PosixTree}
-use Rattle.ufs_tree_laws.specs.Starts.{image_start}
+use Rattle.ufs_promise_laws.specs.Starts.{image_start}
 use Rattle.ufs_crash_laws.specs.Explained.{IsExplained}
 use Rattle.ufs_command.proofs.laws.unserved_law.Goals as goal
 

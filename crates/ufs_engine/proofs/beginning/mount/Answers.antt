@@ -10,7 +10,7 @@ use Rattle.ufs_layout.specs.Areas.{sector_count}
 use Rattle.ufs_layout.specs.declared.geometry.Geometry.{Geometry}
 use Rattle.ufs_ledger.specs.Ledger.{IsLeftBy}
 use Rattle.ufs_model.specs.PosixTree.{PosixTree}
-use Rattle.ufs_tree_laws.specs.Starts.{image_start}
+use Rattle.ufs_promise_laws.specs.Starts.{image_start}
 use Rattle.ufs_one_hand.specs.OneHand.{IsStart, seeing}
 use Rattle.ufs_one_hand.proofs.Started.{seeing_starts}
 use Rattle.ufs_session.specs.Played.{MayBegin}

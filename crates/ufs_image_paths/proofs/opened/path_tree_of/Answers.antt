@@ -1,6 +1,6 @@
 use Rattle.std.proofs.Common.{false, true, ◌≡◌, ◌∙◌, subst, sym}
 use Rattle.ufs_disk.specs.Moments.{reads}
-use Rattle.ufs_tree_laws.specs.Starts.{ImagesArePathTrees}
+use Rattle.ufs_promise_laws.specs.Starts.{ImagesArePathTrees}
 use Rattle.ufs_image_paths.proofs.OpenedLemmas.{is_paths, tree_of}
 use Rattle.ufs_image_paths.proofs.opened.path_tree_of.Goals as goal
 

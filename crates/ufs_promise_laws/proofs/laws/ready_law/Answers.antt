@@ -1,5 +1,5 @@
 use Rattle.std.proofs.Common.{sym, subst}
-use Rattle.ufs_names_laws.specs.Laws.{ZerosAreTaken}
+use Rattle.ufs_promise_laws.specs.ChangeLaws.{ZerosAreTaken}
 use Rattle.ufs_promise_laws.proofs.Zeros.{emptied_stored, settled_stored, spelled_kept, spelled_stored, written_stored}
 use Rattle.ufs_promise_laws.proofs.laws.ready_law.Goals as goal
 

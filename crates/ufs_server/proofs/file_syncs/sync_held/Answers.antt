@@ -1,6 +1,6 @@
 use Rattle.std.proofs.Common.{◌≡◌, ◌⊎◌, inl, inr, true, false, Err, is_some, ap, sym, refl, ◌∙◌}
 use Rattle.ufs_file_commits.specs.State.{state_of}
-use Rattle.ufs_event_laws.specs.Syncs.{HasFailed, HasWritten}
+use Rattle.ufs_promise_laws.specs.Syncs.{HasFailed, HasWritten}
 use Rattle.ufs_store.specs.Refusals.{fault_in, is_no_space, stop_after}
 use Rattle.ufs_store.specs.declared.fault.StoreFault.{StoreFault}
 use Rattle.ufs_store.specs.declared.fault.StoreFault.TheVariants as refusal

@@ -11,7 +11,7 @@ use Rattle.ufs_image.specs.Opens.{file_bytes}
 use Rattle.ufs_layout.specs.InodeForm.{InodeForm}
 use Rattle.ufs_model.proofs.Facts.Lookups.{same_some}
 use Rattle.ufs_name_tree.specs.NameTable.{file_at}
-use Rattle.ufs_tree_laws.specs.Loaded.{AreRead}
+use Rattle.ufs_promise_laws.specs.Loaded.{AreRead}
 use Rattle.ufs_start.specs.Extents.{run_of}
 use Rattle.ufs_start.specs.Files.{AreLaid, AreUnread}
 use Rattle.ufs_start.proofs.FileLemmas.{alone_with, form_there, here_with, inode_within, kept_with, laid_with, marks_of, may_be, read_with, sound_form, unread_with}

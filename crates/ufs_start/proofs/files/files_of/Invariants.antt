@@ -6,7 +6,7 @@ use Rattle.ufs_damage.specs.Findings.{AreFindingsOf}
 use Rattle.ufs_image.specs.Catalog.{catalog_at}
 use Rattle.ufs_layout.specs.declared.geometry.Geometry.{Geometry}
 use Rattle.ufs_names.specs.NamesPart.{NamesPart}
-use Rattle.ufs_tree_laws.specs.Loaded.{AreRead}
+use Rattle.ufs_promise_laws.specs.Loaded.{AreRead}
 use Rattle.ufs_start.specs.Files.{AreLaid, AreSized, AreUnread, HasNumbers}
 use Rattle.ufs_start.proofs.files.files_of.Given as goal
 

@@ -8,7 +8,7 @@ use Rattle.ufs_image.specs.Catalog.{catalog_at}
 use Rattle.ufs_walk.specs.Walked.{Place, pairs_of}
 use Rattle.ufs_walk.specs.declared.places.PathAt.{PathAt}
 use Rattle.ufs_walk.proofs.Maps.{if_ok}
-use Rattle.ufs_tree_laws.specs.Starts.{image_start}
+use Rattle.ufs_promise_laws.specs.Starts.{image_start}
 use Rattle.ufs_start.specs.Numbers.{is_dir_in, next_number, numbers_from}
 use Rattle.ufs_start.specs.Starts.{AreNumbersOf, IsUndamaged, tree_in}
 use Rattle.ufs_start.specs.declared.numbers.Numbers.{Numbers}

@@ -13,8 +13,8 @@ use Rattle.ufs_layout.specs.Areas.{first_of_data, is_data_sector}
 use Rattle.ufs_ledger.specs.Kept.{paths_of}
 use Rattle.ufs_opening.proofs.Lengths.{file_sized}
 use Rattle.ufs_one_hand.specs.OneHand.{start_with}
-use Rattle.ufs_tree_laws.specs.Loaded.{AreRead, IsUntaken}
-use Rattle.ufs_tree_laws.specs.Starts.{image_start}
+use Rattle.ufs_promise_laws.specs.Loaded.{AreRead, IsUntaken}
+use Rattle.ufs_promise_laws.specs.Starts.{image_start}
 use Rattle.ufs_start.specs.Begun.{catalog_under, image_under, tree_or, tree_under, volume_under}
 use Rattle.ufs_start.specs.Files.{AreSized}
 use Rattle.ufs_start.specs.Starts.{AreStartNames, IsLoaded, IsUndamaged}

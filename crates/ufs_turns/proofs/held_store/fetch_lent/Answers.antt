@@ -8,8 +8,8 @@ use Rattle.ufs_joint.specs.Disks.{cell_of}
 use Rattle.ufs_joint.specs.FileHands.{FileFetchesGoOn, FileFetchesMayEnd, IsFurther}
 use Rattle.ufs_layout.specs.Areas.{first_of_data}
 use Rattle.ufs_layout.specs.declared.geometry.Geometry.{Geometry}
-use Rattle.ufs_event_laws.specs.Fetches.{IsFetched}
-use Rattle.ufs_event_laws.specs.Syncs.{IsSpaceOf, MaySync}
+use Rattle.ufs_promise_laws.specs.Fetches.{IsFetched}
+use Rattle.ufs_promise_laws.specs.Syncs.{IsSpaceOf, MaySync}
 use Rattle.ufs_joint.specs.Turns.{MayEndTurn}
 use Rattle.ufs_store.specs.Refusals.{fault_in}
 use Rattle.ufs_store.specs.State.{StoreState, geometry_of_store}

@@ -8,7 +8,7 @@ use Rattle.ufs_joint.specs.Disks.{cell_of}
 use Rattle.ufs_joint.specs.FileHands.{FileCommitsGoOn, FileCommitsMayEnd, FileFailuresGoOn, FileFailuresMayEnd}
 use Rattle.ufs_layout.specs.Areas.{first_of_data, is_inode_number}
 use Rattle.ufs_layout.specs.declared.geometry.Geometry.{Geometry}
-use Rattle.ufs_event_laws.specs.Syncs.{IsSpaceOf, MaySync}
+use Rattle.ufs_promise_laws.specs.Syncs.{IsSpaceOf, MaySync}
 use Rattle.ufs_hand_laws.specs.Owned.{Has}
 use Rattle.ufs_joint.specs.Turns.{MayEndTurn}
 use Rattle.ufs_store.specs.Refusals.{fault_in, fault_of, stop_after}

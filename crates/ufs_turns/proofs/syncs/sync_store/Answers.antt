@@ -2,7 +2,7 @@ use Rattle.std.proofs.Common.{◌≡◌, ◌⊎◌, inl, inr, ℕ, true, false, 
 use Rattle.std.specs.Prelude.{IsTrue}
 use Rattle.ufs_bitmap.specs.Space.{Space}
 use Rattle.ufs_file_commits.specs.State.{state_of}
-use Rattle.ufs_event_laws.specs.Syncs.{HasFailed, HasWritten}
+use Rattle.ufs_promise_laws.specs.Syncs.{HasFailed, HasWritten}
 use Rattle.ufs_store.specs.Refusals.{IsTold, fault_in, fault_of, is_no_space, stop_after}
 use Rattle.ufs_store.specs.State.{StoreState}
 use Rattle.ufs_store.specs.declared.fault.StoreFault.{StoreFault}

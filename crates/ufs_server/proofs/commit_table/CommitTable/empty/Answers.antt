@@ -6,7 +6,7 @@ use Rattle.std.specs.FinMap.{nat_cmp-IsAntisymmetric}
 use Rattle.std.specs.Ordering.{nat_cmp}
 use Rattle.ufs_calls.proofs.Facts.Maps.{get-seen}
 use Rattle.ufs_model.proofs.Facts.Lookups.{same_some}
-use Rattle.ufs_event_laws.specs.Serving.{emptied_commits}
+use Rattle.ufs_promise_laws.specs.Serving.{emptied_commits}
 use Rattle.ufs_promise_laws.specs.Parts.{Commits}
 use Rattle.ufs_server.proofs.Known.{put_back, told}
 use Rattle.ufs_server.proofs.commit_table.CommitTable.empty.Goals as goal

@@ -13,8 +13,8 @@ use Rattle.ufs_model.specs.declared.data.Ask.{Ask}
 use Rattle.ufs_name_tree.specs.NameTable.{IsNameTable}
 use Rattle.ufs_names.specs.Calls.{IsAsked}
 use Rattle.ufs_names.specs.Space.{AreApart, IsCause}
-use Rattle.ufs_event_laws.specs.Requests.{IsNamesRequest}
-use Rattle.ufs_event_laws.specs.Serving.{HasServed}
+use Rattle.ufs_promise_laws.specs.Requests.{IsNamesRequest}
+use Rattle.ufs_promise_laws.specs.Serving.{HasServed}
 use Rattle.ufs_pouring.specs.Lent.{listed}
 use Rattle.ufs_promise_laws.specs.Parts.{Parts}
 use Rattle.ufs_promise_laws.specs.Stored.{ArePartsOf}

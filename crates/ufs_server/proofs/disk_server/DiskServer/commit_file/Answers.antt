@@ -10,7 +10,7 @@ use Rattle.ufs_layout.specs.Areas.{first_of_data}
 use Rattle.ufs_layout.specs.declared.geometry.Geometry.{Geometry}
 use Rattle.ufs_names.specs.NamesPart.{NamesPart}
 use Rattle.ufs_file_commits.specs.State.{CommitState, DurableState, state_of}
-use Rattle.ufs_event_laws.specs.Syncs.{IsSpaceOf}
+use Rattle.ufs_promise_laws.specs.Syncs.{IsSpaceOf}
 use Rattle.ufs_store.specs.State.{geometry_of_store}
 use Rattle.ufs_promise_laws.specs.Parts.{Commits, Parts, with_file}
 use Rattle.ufs_server.proofs.FileServing.{IsOut, whole}

@@ -9,7 +9,7 @@ use Rattle.ufs_files.specs.Files.{AreNumbered}
 use Rattle.ufs_layout.specs.Areas.{first_of_data}
 use Rattle.ufs_layout.specs.declared.geometry.Geometry.{Geometry}
 use Rattle.ufs_model.specs.declared.data.Desc.{Desc}
-use Rattle.ufs_event_laws.specs.Syncs.{IsSpaceOf}
+use Rattle.ufs_promise_laws.specs.Syncs.{IsSpaceOf}
 use Rattle.ufs_store.specs.State.{geometry_of_store}
 use Rattle.ufs_promise_laws.specs.Parts.{Parts}
 use Rattle.ufs_server.specs.Served.{StaysOnDisk}

@@ -2,7 +2,7 @@ use Rattle.std.proofs.Common.{◌≡◌, Some, ap, subst, sym, ◌∙◌}
 use Rattle.std.specs.Prelude.{IsSome}
 use Rattle.std.specs.FinMap as map
 use Rattle.ufs_files.specs.Files.{AreNumbered}
-use Rattle.ufs_event_laws.specs.Syncs.{TellsTheSame}
+use Rattle.ufs_promise_laws.specs.Syncs.{TellsTheSame}
 use Rattle.ufs_promise_laws.specs.Parts.{Commits, Parts}
 use Rattle.ufs_server.specs.Server.{commits_in}
 use Rattle.ufs_server.proofs.Touch.{known_here, notes_runs, tells_the_same}

@@ -1,6 +1,0 @@
-use Rattle.ufs_event_laws.proofs.OnDisk.{request_on_disk}
-use Rattle.ufs_event_laws.proofs.laws.names_request_law.Goals as goal
-
-pub returns : goal.returns
-returns c =
-    request_on_disk c.args.geometry.now c.promise_law.ensures.entry c.an_entry_keeps_what_is_shown.ensures.other c.entry_law.ensures.names c.notes_law.ensures c.names_law.ensures.table

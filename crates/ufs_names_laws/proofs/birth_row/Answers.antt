@@ -1,8 +1,0 @@
-use Rattle.std.proofs.Common.{refl}
-use Rattle.ufs_names_laws.proofs.birth_row.Goals as goal
-
-pub returns-clause-records : goal.returns-clause-records
-returns-clause-records c = refl
-
-pub returns-clause-met : goal.returns-clause-met
-returns-clause-met c = refl

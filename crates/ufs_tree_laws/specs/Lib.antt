@@ -1,4 +1,0 @@
-pub mod Numbered
-pub mod Parts
-pub mod Starts
-pub mod Loaded
