@@ -5,3 +5,4 @@ pub mod Turns
 pub mod Tied
 pub mod Own
 pub mod Codes
+pub mod Rooms

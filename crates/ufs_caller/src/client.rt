@@ -1,26 +1,24 @@
 // A client.
-ghost use Rattle.std.specs.Prelude.{ℕ, ◌≡◌, ◌⊎◌, ◌<◌, ◌≤◌, ◌+◌, [], None, Some, false, true, length, is_some, IfOk};
+ghost use Rattle.std.specs.Prelude.{ℕ, ◌≡◌, ◌⊎◌, ◌<◌, ◌≤◌, ◌+◌, [], None, Some, false, true, length, is_some};
 ghost use Rattle.ufs_hints.specs.Hints.{hint_of, renewed};
 ghost use Rattle.ufs_layout.specs.Areas.{IsGeometry};
-ghost use Rattle.ufs_model.specs.Bounds.{IsBounded};
 ghost use Rattle.ufs_model.specs.PosixTree.{desc_at};
 ghost use Rattle.ufs_msg.specs.Answers as answers;
 ghost use Rattle.ufs_msg.specs.Requests.{Asked};
 ghost use Rattle.ufs_msg.specs.There.{IsClientThere};
 ghost use Rattle.std.specs.FinMap as fin;
-ghost use Rattle.std.specs.List.{AllByRecursion};
 ghost use Rattle.ufs_caller.specs.Callers.{entries_in, new_caller};
 ghost use Rattle.ufs_caller.specs.Hands.{IsHome};
 ghost use Rattle.ufs_caller.specs.Turns.{AreRenewed, AreRenewedBy, HasKept, HasSent, IsAnswered, IsTry, IsTurn, SendsOn};
 
 use crate::hands::{see_by, send_off, take_home};
 use crate::own::answer_itself;
+use crate::room::{ClientRoom, RoomParts};
 use crate::trip::{Trip, file_told};
 use crate::{Told, Turn};
 use std::alloc::Global;
 use std::collections::VecDeque;
 use std::marker::Model;
-use ufs_base::Memory;
 use ufs_client::{answer_own, ask, keep};
 use ufs_fds::FdTable;
 use ufs_hints::Hints;
@@ -61,28 +59,23 @@ impl<N: Naming> Model for Client<N> {
 }
 
 impl<N: Naming> Client<N> {
-    /// A client that has asked nothing. The room of its transcript is taken here, with the servers of each answer up to 8.
-    pub fn new(
-        alloc: Global,
-        geometry: Geometry,
-        number: u8,
-        hand: Hand<N>,
-        left: VecDeque<Op>,
-    ) -> Result<Client<N>, Memory>
+    /// A client that has asked nothing. Takes no memory.
+    pub fn new(room: ClientRoom, geometry: Geometry, number: u8, hand: Hand<N>) -> Client<N>
         requires formed { IsGeometry geometry }
         requires its { geometry ≡ N.start.geometry }
         requires low { number < 16 }
         requires there { IsClientThere N.start number }
         requires closed { (fd : ℕ) → desc_at N.start.tree number fd ≡ None }
         requires home { IsHome number [] fin.empty hand }
-        requires few { length left.items ≤ 65536 }
-        requires bounded { AllByRecursion IsBounded left.items }
-        ensures { IfOk result (λ c. c ≡ new_caller number left.items hand.seen) }
+        ensures { result ≡ new_caller number room hand.seen }
     {
-        let mut told = Vec::new(alloc);
-        told.reserve(left.len())?;
-        let hints = Hints::new(alloc)?;
-        Ok(Client {
+        let RoomParts {
+            alloc,
+            told,
+            left,
+            hints,
+        } = room.into_parts();
+        Client {
             alloc,
             geometry,
             number,
@@ -93,7 +86,7 @@ impl<N: Naming> Client<N> {
             trip: None,
             kept: None,
             hints,
-        })
+        }
     }
 
     /// Its answers, in order.

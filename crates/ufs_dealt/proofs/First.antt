@@ -1,5 +1,5 @@
 -- What a first hand has for those to whom it is dealt.
-use Rattle.std.proofs.Common.{◌≡◌, ◌≢◌, inl, inr, ℕ, zero, suc, ◌+◌, ◌-◌, ◌<◌, ◌≤◌, ◌^◌, Bool, true, false, cond, eqb, List, [], ◌∷◌, length, map, Some, is_some, ap, sym, refl, ◌∙◌, arith}
+use Rattle.std.proofs.Common.{◌≡◌, ◌≢◌, inl, inr, ℕ, zero, suc, ◌+◌, ◌-◌, ◌<◌, ◌≤◌, ◌^◌, Bool, true, false, cond, eqb, List, [], ◌∷◌, length, map, Some, None, is_some, ap, sym, refl, ◌∙◌, arith}
 use Rattle.std.specs.Cmp.{eq_by_cmp_equiv, nat_cmp_total}
 use Rattle.std.specs.Ordering.{eq_by_cmp, is_eq, nat_cmp}
 use Rattle.std.specs.FinMap as fin
@@ -14,7 +14,7 @@ use Rattle.ufs_joint.specs.Ready.{IsReady}
 use Rattle.ufs_joint.specs.Ends.{CanBegin}
 use Rattle.ufs_joint.specs.Whole.{no_blocks}
 use Rattle.ufs_model.specs.declared.data.PartName.TheVariants.{Asked, Client}
-use Rattle.ufs_model.proofs.Facts.Lookups.{one_key}
+use Rattle.ufs_model.proofs.Facts.Lookups.{from_some, one_key}
 use Rattle.ufs_model.proofs.Facts.Rising.{entries-rise, less}
 use Rattle.ufs_noted.specs.declared.known.KnownFile.{KnownFile}
 use Rattle.ufs_hand_laws.specs.Owned.{Has, count, one, only, without}
@@ -24,7 +24,7 @@ use Rattle.ufs_hand_laws.proofs.Keys.{alike, itself}
 use Rattle.ufs_hand_laws.proofs.Owning.{has_count}
 use Rattle.ufs_store.specs.State.{StoreState}
 use Rattle.ufs_dealt.specs.Dealt.{AreApart, values_in, values_of}
-use Rattle.ufs_dealt.specs.First.{ClientsAreIdle, ClientsLeaveRest, FirstFilesAreHere, FirstIsApart, OthersStayIdle, PoolsAreThere, TakePart, rest_first}
+use Rattle.ufs_dealt.specs.First.{ClientsAreIdle, ClientsLeaveRest, FirstFilesAreHere, FirstFilesAreLow, FirstIsApart, LiveFilesAreThere, OthersStayIdle, PoolsAreThere, TakePart, rest_first}
 use Rattle.ufs_dealt.proofs.Cutting.{without_none}
 
 -- ---- the same for each of so many
@@ -200,3 +200,24 @@ values_first (e ∷ es) numbered (k ∷ files) same =
 
 pub first_files_are_here : FirstFilesAreHere
 first_files_are_here b s files r same = values_first (fin.entries b.files) (numbered b s r) files same
+
+pub first_files_are_low : FirstFilesAreLow
+first_files_are_low b s r file some = low_number b s r file some
+
+-- ---- what stands in a map is counted among its entries
+
+module _ {X D : Type 0} (f : X → D) where
+  counted : (n : ℕ) (x : X) (es : List (ℕ × X)) → fin.find nat_cmp n es ≡ Some x → 1 ≤ count eqb n (map (λ e. (e.0, f e.1)) es)
+  counted n x [] found = (let none : None ≡ Some x = found in absurd cc)
+  counted n x (e ∷ es) found = by (eq_by_cmp nat_cmp n e.0) refl found (counted n x es)
+    where
+      by : (b : Bool) → eq_by_cmp nat_cmp n e.0 ≡ b → cond b (Some e.1) (fin.find nat_cmp n es) ≡ Some x → (fin.find nat_cmp n es ≡ Some x → 1 ≤ count eqb n (map (λ q. (q.0, f q.1)) es)) → 1 ≤ one (eqb n e.0) + count eqb n (map (λ q. (q.0, f q.1)) es)
+      by true is at rest =
+          let here : one (eqb n e.0) ≡ 1 = ap (λ (m : ℕ). one (eqb n m)) (sym (one_key nat_cmp_total nat_cmp-IsAntisymmetric n e.0 is)) ∙ ap one (itself n) in
+          omega (arith, here)
+      by false is at rest = let more = rest at in omega (arith, more)
+
+pub live_files_are_there : LiveFilesAreThere
+live_files_are_there b s r file live =
+    let it = from_some (fin.get b.files file) (r.parts.here file live) in
+    counted file_first file it.0 (fin.entries b.files) (sym (get-entries b.files file) ∙ it.1)

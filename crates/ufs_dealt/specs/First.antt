@@ -1,5 +1,5 @@
 -- What is left of the first hand of a session over an image, once names and store are dealt.
-use Rattle.std.specs.Prelude.{ℕ, ◌≡◌, ◌≢◌, ◌<◌, ◌≤◌, ◌^◌, eqb, List, map}
+use Rattle.std.specs.Prelude.{ℕ, ◌≡◌, ◌≢◌, ◌<◌, ◌≤◌, ◌^◌, eqb, List, map, IsSome}
 use Rattle.std.specs.FinMap as fin
 use Rattle.ufs_bitmap.specs.Blocks.{BlockSet}
 use Rattle.ufs_caller.specs.Hands.{IsIdleIn}
@@ -12,7 +12,7 @@ use Rattle.ufs_joint.specs.Whole.{no_blocks}
 use Rattle.ufs_model.specs.declared.data.PartName.TheVariants as part
 use Rattle.ufs_msg.specs.There.{client_count, worker_count}
 use Rattle.ufs_noted.specs.declared.known.KnownFile.{KnownFile}
-use Rattle.ufs_hand_laws.specs.Owned.{Has, without}
+use Rattle.ufs_hand_laws.specs.Owned.{Has, count, without}
 use Rattle.ufs_store.specs.State.{StoreState}
 use Rattle.ufs_dealt.specs.Dealt.{AreApart, rest_of, values_in, values_of}
 
@@ -47,3 +47,11 @@ FirstIsApart = (b : Beginning) (s : StoreState) → IsReady b s → CanBegin (st
 -- Files that are committed as they are have what stands in the cells.
 abbrev pub FirstFilesAreHere : Type 0
 FirstFilesAreHere = (b : Beginning) (s : StoreState) (files : List KnownFile) → IsReady b s → map (λ k. state_of k.hand k.commits) files ≡ map (λ e. (file_first e.1).value) (fin.entries b.files) → values_in (rest_first b).files ≡ values_of files
+
+-- Each file has a number below the next one of the names.
+abbrev pub FirstFilesAreLow : Type 0
+FirstFilesAreLow = (b : Beginning) (s : StoreState) → IsReady b s → (file : ℕ) → 1 ≤ count eqb file (rest_first b).files → file < b.names.next
+
+-- Each live file is there.
+abbrev pub LiveFilesAreThere : Type 0
+LiveFilesAreThere = (b : Beginning) (s : StoreState) → IsReady b s → (file : ℕ) → IsSome (fin.get b.names.held file) → 1 ≤ count eqb file (rest_first b).files

@@ -4,3 +4,5 @@ mod Histories
 mod AllThere
 mod AtEnd
 pub mod Cleaned
+mod Remaining
+mod Left

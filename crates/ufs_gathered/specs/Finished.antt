@@ -3,6 +3,7 @@
 use Rattle.std.specs.Prelude.{ℕ, ◌≡◌, ◌⊎◌, Bool, true, false, List, IfErr, OnOk, Option, None, Some, Result, Ok, Err}
 use Rattle.ufs_base.specs.Faults.{RoseTo}
 use Rattle.ufs_base.specs.declared.lack.Lack.TheVariants as lack
+use Rattle.ufs_base.specs.declared.memory.Memory.{Memory}
 use Rattle.ufs_disk.specs.Disk.{Leaves}
 use Rattle.ufs_disk.specs.Moments.{Moments, reads}
 use Rattle.ufs_engine.specs.Closes.{closing_fault, stopped_at, tells_unsound}
@@ -29,6 +30,11 @@ ended_by (refusal.Device fault) = cause.Device fault
 ended_by (refusal.Stopped fault) = cause.Stopped fault
 ended_by (refusal.NoSpace need had) = cause.Lack lack.Unsound
 ended_by (refusal.Lack why) = cause.Lack why
+
+-- What ends it where there was no memory to commit anything, by where the store has stopped.
+abbrev pub left_by : Option ℕ → Memory → CloseFault
+left_by None memory = cause.Lack (lack.Memory memory)
+left_by (Some n) memory = cause.Stopped n
 
 -- Once everything was committed the image was made clean, or that failed; else the disk was left with its count.
 abbrev pub EndsBehind : Result (Unit {0}) StoreFault → (before now : ℕ) → Result (Unit {0}) CloseFault → Type 0

@@ -29,6 +29,13 @@ pub record HasPoolsAlone (v : View) : Type 0 where
   pub names : v.names ≡ []
   pub store : v.store ≡ []
 
+-- The hand has pools and these files, and nothing else.
+pub record HasFilesToo (cells : List FileCell) (v : View) : Type 0 where
+  pub clients : v.clients ≡ []
+  pub files : v.files ≡ under_numbers cells
+  pub names : v.names ≡ []
+  pub store : v.store ≡ []
+
 -- The hands are those of clients, from this one on, each at home with its transcript.
 abbrev pub AreHomeFrom : ℕ → List (List Entry) → List View → Type 0
 AreHomeFrom n [] [] = Unit {0}

@@ -1,9 +1,10 @@
 // A session on hands ends.
-ghost use Rattle.std.specs.Prelude.{List};
+ghost use Rattle.std.specs.Prelude.{◌≡◌, List};
 ghost use Rattle.ufs_gathered.specs.Ended.{HasEnded};
-ghost use Rattle.ufs_gathered.specs.Gathered.{AreAllBack, AreHome, HasPoolsAlone};
+ghost use Rattle.ufs_gathered.specs.Gathered.{AreAllBack, AreHome, HasAllOf, HasPoolsAlone};
+ghost use Rattle.ufs_joint.specs.Cells.{FileCell, NamesCell, View};
 ghost use Rattle.ufs_model.specs.declared.data.Entry.{Entry};
-ghost use Rattle.ufs_turns.specs.HeldStore.{IsHeldStore};
+ghost use Rattle.ufs_turns.specs.HeldStore.{IsHeldStore, IsStoreIn};
 
 use crate::gathering::{Actors, Gathered, gather};
 use std::marker::Brand;
@@ -32,7 +33,22 @@ pub fn end<N: Naming, S: Door, L: Ledger>(table: HandTable<N>, actors: Actors<N,
     ensures ended { (lists : List (List Entry)) → AreHome lists actors.clients.items → HasEnded N.start result.tickets lists actors.names actors.files.items (S.store result.store) }
     ensures store { IsHeldStore N.start S.visible S.keeps actors.store (S.store result.store) }
 {
-    let Gathered { mut hand, store } = gather(&table, actors);
+    let gathered = gather(&table, actors);
+    close_gathered(table, gathered)
+}
+
+// Closes the hand to which all came.
+pub(crate) fn close_gathered<N: Naming, S: Door>(
+    table: HandTable<N>,
+    gathered: Gathered<N, S>,
+) -> Ended<S>
+    requires store { IsStoreIn N.start S.visible S.keeps gathered.hand (S.store gathered.store) }
+    requires back { (names : NamesCell) × (files : List FileCell) × (pools : View) × (clients : List View) × HasAllOf names files pools clients gathered.hand × AreAllBack N.start names files pools clients }
+    ensures ended { (names : NamesCell) (files : List FileCell) (pools : View) (clients : List View) → HasAllOf names files pools clients gathered.hand → AreAllBack N.start names files pools clients
+        → (lists : List (List Entry)) → AreHome lists clients → HasEnded N.start result.tickets lists names files (S.store result.store) }
+    ensures same { S.store result.store ≡ S.store gathered.store }
+{
+    let Gathered { mut hand, store } = gathered;
     let geometry = store.geometry();
     always_law(&geometry);
     all_law(&geometry);

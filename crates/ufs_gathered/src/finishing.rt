@@ -1,15 +1,17 @@
 // A session on hands is ended over a disk: everything is committed, and the image is made clean.
-ghost use Rattle.std.specs.Prelude.{ℕ, ◌≡◌, ◌<◌, ◌↔◌, eqb, List, IfErr, IsTrue, OnOk, Some, Err, false, true};
+ghost use Rattle.std.specs.Prelude.{ℕ, ◌≡◌, ◌<◌, ◌↔◌, eqb, List, IfErr, IsTrue, None, OnOk, Some, Err, false, true};
+ghost use Rattle.ufs_base.specs.declared.lack.Lack.TheVariants as lack;
 ghost use Rattle.ufs_disk.specs.Disk.{Leaves};
 ghost use Rattle.ufs_disk.specs.Moments.{LeavesOnly, reads};
 ghost use Rattle.ufs_engine.specs.Closes.{OpensAsLeft, tells_unsound};
 ghost use Rattle.ufs_engine.specs.declared.closing.CloseFault.TheVariants as cause;
 ghost use Rattle.ufs_gathered.specs.Ended.{AreAllKnown};
-ghost use Rattle.ufs_gathered.specs.Finished.{EndsBehind, HasFinished, ended_by};
-ghost use Rattle.ufs_gathered.specs.Gathered.{AreAllBack, AreHome, HasPoolsAlone};
+ghost use Rattle.ufs_gathered.specs.Finished.{EndsBehind, HasFinished, ended_by, left_by};
+ghost use Rattle.ufs_gathered.specs.Gathered.{AreAllBack, AreHome, HasFilesToo, HasPoolsAlone};
 ghost use Rattle.ufs_held.specs.Together.{under_numbers};
 ghost use Rattle.ufs_image.specs.Proper.{IsProperImage};
 ghost use Rattle.ufs_image.specs.Volume.{superblock_of};
+ghost use Rattle.ufs_joint.specs.Cells.{FileCell};
 ghost use Rattle.ufs_layout.specs.Areas.{IsGeometry};
 ghost use Rattle.ufs_model.specs.declared.data.Entry.{Entry};
 ghost use Rattle.ufs_recovery.specs.Recovered.{IsCleanDisk, IsRecovered};
@@ -18,10 +20,11 @@ ghost use Rattle.ufs_store.specs.Refusals.{fault_in, is_no_space, stop_after};
 ghost use Rattle.ufs_store.specs.declared.fault.StoreFault.TheVariants as refusal;
 ghost use Rattle.ufs_turns.specs.Lent.{stop_in};
 
-use crate::ending::{Ended, end};
-use crate::gathering::Actors;
+use crate::ending::{Ended, close_gathered, end};
+use crate::gathering::{Actors, Remains, gather_remains};
 use std::alloc::Global;
 use std::sync::ledger::{Ledger, Share};
+use ufs_base::{Lack, Memory};
 use ufs_disk::Disk;
 use ufs_engine::{CloseFault, clean};
 use ufs_held::HeldFile;
@@ -91,6 +94,42 @@ pub fn finish<N: Naming, D: Disk, L: Ledger>(
         tickets,
         disk,
         ended,
+    }
+}
+
+/// Ends a session whose actors are all done, where there was no memory to commit it: nothing is committed and no call of the disk is made,
+/// so the image is left in use. Takes no memory.
+///
+/// What a crash leaves is explained by the session's history.
+pub fn leave<N: Naming, D: Disk, L: Ledger>(
+    table: HandTable<N>,
+    remains: Remains<N, Store<D>, L>,
+    memory: Memory,
+) -> Finished<D>
+    requires home { (lists : List (List Entry)) × AreHome lists remains.clients.items }
+    requires back { (files : List FileCell) × HasFilesToo files remains.rest × AreAllBack N.start remains.names files remains.rest remains.clients.items }
+    ensures finished { (lists : List (List Entry)) → AreHome lists remains.clients.items
+        → HasFinished N.start D.keeps result.tickets lists (D.size result.disk) (D.faults result.disk) (D.moments result.disk) result.ended }
+    ensures stopped { (fault : ℕ) → (result.ended ≡ Err (cause.Stopped fault)) ↔ (stop_in remains.store.store ≡ Some fault) }
+    ensures lack { stop_in remains.store.store ≡ None → result.ended ≡ Err (cause.Lack (lack.Memory memory)) }
+{
+    let gathered = gather_remains(&table, remains);
+    let Ended { tickets, store } = close_gathered(table, gathered);
+    let stop = store.stopped();
+    Finished {
+        tickets,
+        disk: store.into_disk(),
+        ended: Err(cause_of(stop, memory)),
+    }
+}
+
+// Why nothing was committed, by where the store has stopped.
+fn cause_of(stop: Option<u64>, memory: Memory) -> CloseFault
+    ensures { result ≡ left_by stop memory }
+{
+    match stop {
+        Some(fault) => CloseFault::Stopped { fault },
+        None => CloseFault::Lack(Lack::Memory(memory)),
     }
 }
 

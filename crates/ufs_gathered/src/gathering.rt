@@ -1,7 +1,8 @@
 // The rights of all actors come to one hand.
 ghost use Rattle.std.specs.Prelude.{◌≡◌, List};
-ghost use Rattle.ufs_gathered.specs.Gathered.{AreHome, HasAllOf, HasPoolsAlone, with_all};
+ghost use Rattle.ufs_gathered.specs.Gathered.{AreHome, HasAllOf, HasFilesToo, HasPoolsAlone, with_all};
 ghost use Rattle.ufs_held.specs.Together.{HasThemToo};
+ghost use Rattle.ufs_joint.specs.Cells.{FileCell};
 ghost use Rattle.ufs_model.specs.declared.data.Entry.{Entry};
 ghost use Rattle.ufs_turns.specs.HeldStore.{IsHeldStore, IsStoreIn};
 
@@ -19,6 +20,16 @@ pub struct Actors<N: Naming, S: Door, L: Ledger> {
     pub store: HeldStore<N, S, L>,
     /// The right to the servers' pools.
     pub pools: Hand<N>,
+    /// The clients' hands, that of client 0 first.
+    pub clients: Vec<Hand<N>>,
+}
+
+/// The same, where the rights to the files came to the hand of the pools, and the files themselves were let go.
+pub struct Remains<N: Naming, S: Door, L: Ledger> {
+    pub names: HeldNames<N>,
+    pub store: HeldStore<N, S, L>,
+    /// The right to the servers' pools and to the files.
+    pub rest: Hand<N>,
     /// The clients' hands, that of client 0 first.
     pub clients: Vec<Hand<N>>,
 }
@@ -78,6 +89,32 @@ pub(crate) fn gather<N: Naming, S: Door, L: Ledger>(
     hand.join(table, own);
     gather_files(table, &mut hand, files);
     hand.join(table, pools);
+    gather_hands(table, &mut hand, clients);
+    Gathered { hand, store }
+}
+
+// The same of what remains.
+pub(crate) fn gather_remains<N: Naming, S: Door, L: Ledger>(
+    table: &HandTable<N>,
+    remains: Remains<N, S, L>,
+) -> Gathered<N, S>
+    requires home { (lists : List (List Entry)) × AreHome lists remains.clients.items }
+    requires rest { (files : List FileCell) × HasFilesToo files remains.rest }
+    ensures all { (files : List FileCell) → HasFilesToo files remains.rest → HasAllOf remains.names files remains.rest remains.clients.items result.hand }
+    ensures store { IsStoreIn N.start S.visible S.keeps result.hand (S.store result.store) }
+    ensures its { IsHeldStore N.start S.visible S.keeps remains.store (S.store result.store) }
+{
+    let Remains {
+        names,
+        store,
+        rest,
+        clients,
+    } = remains;
+    let (noted, mut hand) = names.into_parts();
+    drop(noted);
+    let (own, store) = store.into_parts();
+    hand.join(table, own);
+    hand.join(table, rest);
     gather_hands(table, &mut hand, clients);
     Gathered { hand, store }
 }

@@ -6,5 +6,5 @@ mod finishing;
 mod gathering;
 
 pub use ending::{Ended, end};
-pub use finishing::{Finished, finish};
-pub use gathering::Actors;
+pub use finishing::{Finished, finish, leave};
+pub use gathering::{Actors, Remains};

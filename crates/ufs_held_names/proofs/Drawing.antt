@@ -28,7 +28,7 @@ use Rattle.ufs_model.specs.declared.data.Reply.TheVariants as reply
 use Rattle.ufs_names.specs.Calls.{AreGathered, IsAsked, IsTouched, no_bytes}
 use Rattle.ufs_names.specs.NamesPart.{IsNamesPart, NamesPart}
 use Rattle.ufs_names.specs.Space.{AreApart}
-use Rattle.ufs_event_laws.specs.Serving.{PoolsMayLend}
+use Rattle.ufs_promise_laws.specs.Serving.{PoolsMayLend}
 use Rattle.ufs_crash_laws.specs.Changes.{asks_commit}
 use Rattle.ufs_promise_laws.specs.Parts.{Commits}
 use Rattle.ufs_hand_laws.specs.Owned.{Has, each, times}

@@ -26,7 +26,6 @@ ghost use Rattle.ufs_held_names.specs.HeldNames.{noted_in};
 
 use std::marker::Brand;
 use ufs_bitmap::Pool;
-use ufs_event_laws::served_names_law;
 use ufs_file::{Applied, FileHand};
 use ufs_hand_laws::Fresh;
 use ufs_joint::{
@@ -35,6 +34,7 @@ use ufs_joint::{
 use ufs_layout::Geometry;
 use ufs_model::{Actor, Ask, Desc, Entry};
 use ufs_noted::{KnownFile, Made, NotedNames, With};
+use ufs_promise_laws::served_names_law;
 
 // Applies a request that touches no live file, and draws its entry.
 pub(crate) fn draw_alone<N: Naming>(

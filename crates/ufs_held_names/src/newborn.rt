@@ -2,7 +2,7 @@
 ghost use Rattle.std.specs.Prelude.{◌≡◌, [], IfOk, IfErr};
 ghost use Rattle.ufs_file_commits.specs.State.{state_of};
 ghost use Rattle.ufs_promise_laws.specs.Parts.{committed_as};
-ghost use Rattle.ufs_held.specs.Held.{IsHeld, first_cell};
+ghost use Rattle.ufs_held.specs.Held.{HasFileAlone, IsHeld, first_cell};
 
 use std::alloc::Global;
 use std::marker::Model;
@@ -59,5 +59,13 @@ impl<N: Naming> Newborn<N> {
             }
             Err(memory) => Err((memory, self)),
         }
+    }
+
+    /// The right to its cell, without the file. Takes no memory.
+    pub fn into_hand(self) -> Hand<N>
+        ensures alone { HasFileAlone self result }
+        ensures calm { result.faults ≡ [] }
+    {
+        self.right
     }
 }

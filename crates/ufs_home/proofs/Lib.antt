@@ -1,5 +1,6 @@
 pub mod Shelves
 pub mod Lending
+mod Joining
 mod Posting
 mod Knowing
 mod Going

@@ -1,5 +1,5 @@
 -- All files that are at the primary, lent at once for a request that touches all, as a `sync` does.
-use Rattle.std.specs.Prelude.{ℕ, ◌≡◌, ◌≤◌, ◌<◌, ◌^◌, eqb, List, [], ◌∷◌, Some, None}
+use Rattle.std.specs.Prelude.{ℕ, ◌≡◌, ◌≤◌, ◌<◌, ◌^◌, ◌++◌, eqb, List, [], ◌∷◌, Option, Some, None}
 use Rattle.std.specs.FinMap as fin
 use Rattle.ufs_held.specs.Together.{under_numbers}
 use Rattle.ufs_joint.specs.Cells.{FileCell}
@@ -21,3 +21,17 @@ put_all places (c ∷ cs) = put_all (fin.insert places c.value.file.file (Some c
 pub record AreLent (was now : Places) (files : List FileCell) : Type 0 where
   pub away : AreAway now files
   pub back : put_all now files ≡ was
+
+-- ---- all that are here
+
+abbrev pub one_in : Option FileCell → List FileCell
+one_in None = []
+one_in (Some c) = c ∷ []
+
+abbrev pub files_among : List (ℕ × Option FileCell) → List FileCell
+files_among [] = []
+files_among (e ∷ es) = one_in e.1 ++ files_among es
+
+-- the files in their places, by rising number
+abbrev pub files_in : Places → List FileCell
+files_in places = files_among (fin.entries places)

@@ -1,5 +1,6 @@
 // A file that is at the primary.
-ghost use Rattle.std.specs.Prelude.{◌≡◌, ◌<◌, ◌^◌, IfErr, IfOk};
+ghost use Rattle.std.specs.Prelude.{◌≡◌, ◌<◌, ◌^◌, [], IfErr, IfOk};
+ghost use Rattle.ufs_held.specs.Held.{HasFileAlone};
 
 use crate::stage::Stage;
 use std::alloc::Global;
@@ -7,7 +8,7 @@ use std::marker::Model;
 use ufs_base::Memory;
 use ufs_held::{HeldFile, Parcel};
 use ufs_held_names::Newborn;
-use ufs_joint::Naming;
+use ufs_joint::{Hand, Naming};
 
 /// A file at the primary, with its number: no pool has one so low. Contracts see its cell.
 #[derive(Drop)]
@@ -83,4 +84,25 @@ impl<N: Naming> AtHome<N> {
             },
         }
     }
+
+    /// The right to its cell, without the file. Takes no memory.
+    pub(crate) fn into_hand(self) -> Hand<N>
+        ensures alone { HasFileAlone self result }
+        ensures calm { result.faults ≡ [] }
+    {
+        match self.stage {
+            Stage::Held(held) => right_of(held),
+            Stage::Young(newborn) => newborn.into_hand(),
+        }
+    }
+}
+
+fn right_of<N: Naming>(held: HeldFile<N>) -> Hand<N>
+    ensures alone { HasFileAlone held result }
+    ensures calm { result.faults ≡ [] }
+{
+    let (value, commits, right) = held.into_parts();
+    drop(value);
+    drop(commits);
+    right
 }

@@ -11,7 +11,7 @@ use std::marker::Model;
 use ufs_base::{Lack, Memory};
 use ufs_held::{HeldFile, Parcel};
 use ufs_held_names::Newborn;
-use ufs_joint::Naming;
+use ufs_joint::{Hand, HandTable, Naming};
 use ufs_model::Actor;
 use ufs_msg::{Letter, ServerPost};
 use ufs_owner::{Owner, OwnerTable};
@@ -40,11 +40,12 @@ impl<N: Naming> Model for Home<N> {
 }
 
 impl<N: Naming> Home<N> {
-    ghost use Rattle.std.specs.Prelude.{ℕ, ◌≡◌, ◌≢◌, ◌⊎◌, ◌≤◌, ◌<◌, ◌^◌, ◌++◌, ◌∷◌, [], IfErr, IfOk, IfSome, IsSome, MatchOption, None, OnErr, OnOk, Some, filter, false, is_some, replicate, true};
+    ghost use Rattle.std.specs.Prelude.{ℕ, ◌≡◌, ◌≢◌, ◌⊎◌, ◌≤◌, ◌<◌, ◌^◌, ◌++◌, ◌∷◌, [], eqb, IfErr, IfOk, IfSome, IsSome, MatchOption, None, OnErr, OnOk, Some, filter, false, is_some, replicate, true};
     ghost use Rattle.std.specs.FinMap as fin;
     ghost use Rattle.ufs_home.specs.Home.{HomeState, IsSendable, called_for, come_on, is_waited, onward};
     ghost use Rattle.ufs_home.specs.Moves.{IfLack, IsMoved, IsOrdered, order_of};
-    ghost use Rattle.ufs_home.specs.Lending.{AreAway, AreLent, put_all};
+    ghost use Rattle.ufs_held.specs.Together.{HasThemToo, under_numbers};
+    ghost use Rattle.ufs_home.specs.Lending.{AreAway, AreLent, files_in, put_all};
     ghost use Rattle.ufs_home.specs.Letters.{RingsGo, letter_of};
     ghost use Rattle.ufs_home.specs.Owning.{server_named};
     ghost use Rattle.ufs_home.specs.Places.{file_here, with_place};
@@ -55,7 +56,7 @@ impl<N: Naming> Home<N> {
     ghost use Rattle.ufs_owner.specs.Lacks.{IsLackOut};
     ghost use Rattle.ufs_owner.specs.Owners.{count_out, is_coming, note_at, owner_at, waiting_at, with_waiting};
     ghost use Rattle.ufs_owner.specs.declared.owner.Owner.TheVariants.{Primary};
-    ghost use Rattle.ufs_hand_laws.specs.Owned.{Has};
+    ghost use Rattle.ufs_hand_laws.specs.Owned.{Has, count};
 
     /// No file, and each worker's letters. Only this call takes memory for the workers.
     pub fn make(alloc: Global, workers: u8) -> Result<Home<N>, Memory>
@@ -184,6 +185,14 @@ impl<N: Naming> Home<N> {
         ensures { self.new ≡ record self.old { places = put_all self.old.places files.items } }
     {
         put_back_all(&mut self.shelf, files);
+    }
+
+    /// The right to each file that is here comes to the hand. The files themselves are let go, and letters that are kept. Takes no memory.
+    pub fn join_all(self, table: &HandTable<N>, hand: &mut Hand<N>)
+        ensures joined { HasThemToo (files_in self.places) hand.old hand.new }
+        ensures each { (file : ℕ) → IsSome (file_here self.places file) → 1 ≤ count eqb file (under_numbers (files_in self.places)) }
+    {
+        self.shelf.join_all(table, hand);
     }
 
     /// A file that a request made goes to the place that was made for it.

@@ -2,6 +2,8 @@
 ghost use Rattle.std.specs.Prelude.{◌≡◌, IfOk, IsSome, None, Some};
 ghost use Rattle.std.specs.BTreeMap.{get, insert_entry, keys};
 ghost use Rattle.std.specs.Ordering.{nat_cmp};
+ghost use Rattle.ufs_held.specs.Together.{HasThemToo};
+ghost use Rattle.ufs_home.specs.Lending.{one_in};
 
 use crate::at_home::AtHome;
 use std::alloc::Global;
@@ -9,7 +11,7 @@ use std::collections::BTreeMap;
 use std::marker::Model;
 use ufs_base::Memory;
 use ufs_held::{HeldFile, Parcel};
-use ufs_joint::Naming;
+use ufs_joint::{Hand, HandTable, Naming};
 
 /// A place for each file that the primary has or may get: it is empty while the file is elsewhere, is lent to a request, or isn't made
 /// yet. A file that comes back finds its place, so that takes no memory.
@@ -36,8 +38,11 @@ impl<N: Naming> Model for Shelf<N> {
 }
 
 impl<N: Naming> Shelf<N> {
-    ghost use Rattle.std.specs.Prelude.{◌≡◌, ◌<◌, ◌^◌, IfErr, IfOk, IsSome, None, OnErr, OnOk, Some, cond, is_some, not};
+    ghost use Rattle.std.specs.Prelude.{ℕ, ◌≡◌, ◌≤◌, ◌<◌, ◌^◌, IfErr, IfOk, IsSome, None, OnErr, OnOk, Some, cond, eqb, is_some, not};
     ghost use Rattle.std.specs.FinMap as fin;
+    ghost use Rattle.ufs_held.specs.Together.{HasThemToo, under_numbers};
+    ghost use Rattle.ufs_hand_laws.specs.Owned.{count};
+    ghost use Rattle.ufs_home.specs.Lending.{files_in};
     ghost use Rattle.ufs_home.specs.Places.{file_here, with_place};
 
     /// No place. Takes no memory.
@@ -156,6 +161,26 @@ impl<N: Naming> Shelf<N> {
         // For the prover alone.
         let _count = self.places.len();
         let _place = self.places.remove(&file);
+    }
+
+    /// The right to each file that is here comes to the hand. The files themselves are let go.
+    pub(crate) fn join_all(self, table: &HandTable<N>, hand: &mut Hand<N>)
+        ensures joined { HasThemToo (files_in self) hand.old hand.new }
+        ensures each { (file : ℕ) → IsSome (file_here self file) → 1 ≤ count eqb file (under_numbers (files_in self)) }
+    {
+        for entry in self.places {
+            join_place(table, hand, entry.1);
+        }
+    }
+}
+
+// The right to the file in this place, if there is one, comes to the hand.
+fn join_place<N: Naming>(table: &HandTable<N>, hand: &mut Hand<N>, place: Option<AtHome<N>>)
+    ensures { HasThemToo (one_in place) hand.old hand.new }
+{
+    match place {
+        Some(file) => hand.join(table, file.into_hand()),
+        None => {}
     }
 }
 

@@ -31,6 +31,7 @@ impl<N: Naming> Room<N> {
     ghost use Rattle.std.specs.VecDeque.{deque_capacity};
     ghost use Rattle.ufs_msg.specs.There.{client_count};
 
+    /// Room for this many clients.
     pub fn make(alloc: Global, clients: u8) -> Result<Room<N>, Memory>
         requires all { client_count N.start ≤ clients }
     {

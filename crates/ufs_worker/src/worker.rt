@@ -48,6 +48,7 @@ impl<N: Naming> Worker<N> {
     ghost use Rattle.ufs_model.specs.declared.data.Actor.TheVariants.{Primary, Worker as worker};
     ghost use Rattle.ufs_msg.specs.There.{IsServerThere};
     ghost use Rattle.ufs_msg.specs.declared.letter.Letter.TheVariants as letter;
+    ghost use Rattle.ufs_bitmap.specs.Blocks.{BlockSet};
     ghost use Rattle.ufs_joint.specs.FirstHand.{HasPoolAlone, pool_of};
     ghost use Rattle.ufs_serving.specs.Pools.{most_at_rest};
     ghost use Rattle.ufs_worker.specs.Turns.{IsAskDone, IsFrontDone, IsLetterDone, IsNextDone, IsObeyed, IsTaken, IsTurn, KeptGoes};
@@ -81,6 +82,13 @@ impl<N: Naming> Worker<N> {
         ensures few { set.len result.0 ≤ most_at_rest }
     {
         (self.pool, self.right)
+    }
+
+    /// The hand of its pool, whatever else it has. A session ends by it.
+    pub fn into_hand(self) -> Hand<N>
+        ensures { (pool : BlockSet) × HasPoolAlone (pool_of self.number) pool result }
+    {
+        self.right
     }
 
     /// One turn. First what is kept goes, as far as rings have room: the letters in order, then the answers. Then the front letter is

@@ -1,4 +1,4 @@
-use Rattle.ufs_dealt.proofs.First.{clients_are_idle, clients_leave_rest, first_files_are_here, first_is_apart, others_stay_idle, pools_are_there, take_part}
+use Rattle.ufs_dealt.proofs.First.{clients_are_idle, clients_leave_rest, first_files_are_here, first_files_are_low, first_is_apart, live_files_are_there, others_stay_idle, pools_are_there, take_part}
 use Rattle.ufs_dealt.proofs.laws.dealt_law.Goals as goal
 
 pub returns-clause-counts : goal.returns-clause-counts
@@ -21,3 +21,9 @@ returns-clause-apart c = first_is_apart
 
 pub returns-clause-files : goal.returns-clause-files
 returns-clause-files c = first_files_are_here
+
+pub returns-clause-low : goal.returns-clause-low
+returns-clause-low c = first_files_are_low
+
+pub returns-clause-there : goal.returns-clause-there
+returns-clause-there c = live_files_are_there
