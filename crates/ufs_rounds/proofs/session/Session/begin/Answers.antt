@@ -1,0 +1,31 @@
+use Rattle.std.proofs.Common.{length, ap, sym, ◌∙◌, subst, arith}
+use Rattle.ufs_rounds.specs.Dealing.{HoldNothing}
+use Rattle.ufs_rounds.proofs.Beginnings.{clients_taken, mounted_by, workers_taken}
+use Rattle.ufs_rounds.proofs.session.Session.begin.Goals as goal
+
+pub make-requires-clause-clients : goal.make-requires-clause-clients
+make-requires-clause-clients g c = let m = c.requires.mounted.1 in clients_taken c.dealt_law.ensures.counts c.requires.mounted.0 _ m.ready _ m.start (length c.args.scripts) m.clients_are
+
+pub make-requires-clause-workers : goal.make-requires-clause-workers
+make-requires-clause-workers g c = let m = c.requires.mounted.1 in workers_taken c.dealt_law.ensures.counts c.requires.mounted.0 _ m.ready _ m.start c.args.workers m.workers_are
+
+pub deal_all-requires-clause-mounted : goal.deal_all-requires-clause-mounted
+deal_all-requires-clause-mounted g c =
+    let m = c.requires.mounted in
+    let e = c.in-Ok.ensures in
+    (m.0, mounted_by (sym (ap length e.rooms)) (sym e.pools) m.1)
+
+pub deal_all-requires-clause-few : goal.deal_all-requires-clause-few
+deal_all-requires-clause-few g c = let few = c.make.ensures.few in let all = ap length c.in-Ok.ensures.rooms in omega (arith, few, all)
+
+pub deal_all-requires-clause-workers : goal.deal_all-requires-clause-workers
+deal_all-requires-clause-workers g c = let room = c.in-Ok.ensures.workers in let all = c.in-Ok.ensures.pools in omega (arith, room, all)
+
+pub deal_all-requires-clause-clients : goal.deal_all-requires-clause-clients
+deal_all-requires-clause-clients g c = let room = c.in-Ok.ensures.clients in let all = ap length c.in-Ok.ensures.rooms in omega (arith, room, all)
+
+pub returns-in-Ok-clause-scripts : goal.returns-in-Ok-clause-scripts
+returns-in-Ok-clause-scripts g c = c.deal_all.ensures.scripts ∙ c.in-Ok.ensures.rooms
+
+pub returns-in-Ok-clause-rings : goal.returns-in-Ok-clause-rings
+returns-in-Ok-clause-rings g c = subst (λ p. HoldNothing c.args.workers (length c.args.scripts) p.requests p.clients.items p.letters) (sym c.deal_all.ensures.post) c.in-Ok.ensures.rings

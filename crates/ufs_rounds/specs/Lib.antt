@@ -1,0 +1,13 @@
+pub mod Mounting
+pub mod Back
+pub mod Played
+pub mod Numbers
+pub mod Scripts
+pub mod Rings
+pub mod Moves
+pub mod Turns
+pub mod Steps
+pub mod Rest
+pub mod Rounds
+pub mod View
+pub mod Dealing

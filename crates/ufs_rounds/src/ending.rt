@@ -1,0 +1,197 @@
+// A session is played by turns, and ends.
+ghost use Rattle.std.specs.List.{AllByRecursion};
+ghost use Rattle.std.specs.Prelude.{ℕ, ◌≡◌, ◌<◌, ◌↔◌, Err, IfErr, IfOk, List, OnErr, Some, map};
+ghost use Rattle.ufs_caller.specs.Callers.{entries_in};
+ghost use Rattle.ufs_engine.specs.declared.closing.CloseFault.TheVariants as cause;
+ghost use Rattle.ufs_gathered.specs.Ended.{AnswerFirst};
+ghost use Rattle.ufs_gathered.specs.Finished.{HasFinished};
+ghost use Rattle.ufs_gathered.specs.Gathered.{AreHome};
+ghost use Rattle.ufs_joint.specs.FirstHand.{Beginning, start_first};
+ghost use Rattle.ufs_layout.specs.Areas.{IsGeometry};
+ghost use Rattle.ufs_model.specs.declared.data.Entry.{Entry};
+ghost use Rattle.ufs_rounds.specs.Back.{AreBackHere};
+ghost use Rattle.ufs_rounds.specs.Numbers.{IsThere};
+ghost use Rattle.ufs_rounds.specs.Played.{HasPlayed, IsPlayedOut};
+ghost use Rattle.ufs_rounds.specs.Rest.{IsAtRest, IsPlayed};
+ghost use Rattle.ufs_rounds.specs.Scripts.{lists_of, scripts_of};
+ghost use Rattle.ufs_rounds.specs.View.{global_of};
+ghost use Rattle.ufs_store.specs.State.{StoreState};
+ghost use Rattle.ufs_turns.specs.Lent.{stop_in};
+
+use crate::gathering::AtRest;
+use crate::rounds::Unfinished;
+use crate::session::Session;
+use std::alloc::Global;
+use std::sync::ledger::{Ledger, Share};
+use ufs_caller::Told;
+use ufs_disk::Disk;
+use ufs_engine::CloseFault;
+use ufs_gathered::{Actors, Finished, Remains, finish, leave};
+use ufs_joint::{HandTable, Naming};
+use ufs_layout::Geometry;
+use ufs_model::Actor;
+use ufs_store::Store;
+use ufs_turns::{Direct, HeldStore};
+
+/// A session that was played and has ended.
+#[derive(Drop)]
+pub struct Played<D: Disk> {
+    /// What each client was answered, client 0 first.
+    pub told: Vec<Vec<Told>>,
+    /// How many entries it has.
+    pub tickets: u64,
+    pub disk: D,
+    /// Whether everything was committed, and the image made clean.
+    pub ended: Result<(), CloseFault>,
+}
+
+/// A session that couldn't be ended, since a request or a file is still under way. It comes back, and may go on.
+pub struct Unended<N: Naming, D: Disk, L: Ledger> {
+    pub session: Session<N, D, L>,
+    pub why: Unfinished,
+}
+
+// All hands go to the end of the session. Where there is no memory for a list of the files nothing is committed.
+fn finish_rest<N: Naming, D: Disk, L: Ledger>(
+    alloc: Global,
+    table: HandTable<N>,
+    geometry: &Geometry,
+    rest: AtRest<N>,
+    store: HeldStore<N, Store<D>, L>,
+    share: Share<L>,
+) -> (Vec<Vec<Told>>, Finished<D>)
+    requires formed { IsGeometry geometry.now }
+    requires its { geometry.now ≡ N.start.geometry }
+    requires share { 0 < share.parts }
+    requires home { (lists : List (List Entry)) × AreHome lists rest.clients.items }
+    requires back { AreBackHere N.start rest.names rest.home rest.pools rest.clients.items }
+    ensures told { result.0 ≡ rest.told }
+    ensures finished { (lists : List (List Entry)) → AreHome lists rest.clients.items
+        → HasFinished N.start D.keeps result.1.tickets lists (D.size result.1.disk) (D.faults result.1.disk) (D.moments result.1.disk) result.1.ended }
+    ensures stopped { (fault : ℕ) → (result.1.ended ≡ Err (cause.Stopped fault)) ↔ (stop_in store.store ≡ Some fault) }
+{
+    let AtRest {
+        names,
+        mut home,
+        mut pools,
+        clients,
+        told,
+    } = rest;
+    match home.lend_all() {
+        Ok(files) => {
+            let actors = Actors {
+                names,
+                files,
+                store,
+                pools,
+                clients,
+            };
+            (told, finish(alloc, table, geometry, actors, share))
+        }
+        Err(memory) => {
+            home.join_all(&table, &mut pools);
+            let remains = Remains {
+                names,
+                store,
+                rest: pools,
+                clients,
+            };
+            (told, leave(table, remains, memory))
+        }
+    }
+}
+
+impl<N: Naming, D: Disk, L: Ledger> Session<N, D, L> {
+    // Ends the session, which is at rest.
+    fn end(self, alloc: Global) -> Played<D>
+        requires start { (b : Beginning) × (s : StoreState) × (N.start ≡ start_first b s) }
+        requires rest { IsAtRest self.participants.clients.items self.participants.primary }
+        ensures finished { HasFinished N.start D.keeps result.tickets (lists_of self.participants.clients.items) (D.size result.disk) (D.faults result.disk) (D.moments result.disk) result.ended }
+        ensures told { map (λ t. entries_in t.items) result.told.items ≡ lists_of self.participants.clients.items }
+        ensures stopped { (fault : ℕ) → (result.ended ≡ Err (cause.Stopped fault)) ↔ (stop_in self.store.store ≡ Some fault) }
+    {
+        let Session {
+            table,
+            geometry,
+            participants,
+            store,
+            share,
+            room,
+        } = self;
+        let rest = participants.gather(&table, room);
+        let (told, finished) = finish_rest(alloc, table, &geometry, rest, store, share);
+        let Finished {
+            tickets,
+            disk,
+            ended,
+        } = finished;
+        Played {
+            told,
+            tickets,
+            disk,
+            ended,
+        }
+    }
+
+    /// Ends the session where no request is under way and no file is out: everything is committed, and the image is made clean. The
+    /// transcripts are those of one history, of which the disk keeps its promise. Else the session comes back, and may go on.
+    pub fn finish(self, alloc: Global) -> Result<Played<D>, Session<N, D, L>>
+        requires start { (b : Beginning) × (s : StoreState) × (N.start ≡ start_first b s) }
+        ensures finished { IfOk result (λ p. HasFinished N.start D.keeps p.tickets (lists_of self.participants.clients.items) (D.size p.disk) (D.faults p.disk) (D.moments p.disk) p.ended) }
+        ensures told { IfOk result (λ p. map (λ t. entries_in t.items) p.told.items ≡ lists_of self.participants.clients.items) }
+        ensures stopped { IfOk result (λ p. (fault : ℕ) → (p.ended ≡ Err (cause.Stopped fault)) ↔ (stop_in self.store.store ≡ Some fault)) }
+        ensures under_way { OnErr result (IsAtRest self.participants.clients.items self.participants.primary → ⊥) }
+        ensures back { IfErr result (λ s. s ≡ self) }
+    {
+        if self.participants.is_at_rest() {
+            Ok(self.end(alloc))
+        } else {
+            Err(self)
+        }
+    }
+
+    /// Plays the session by turns, and ends it: by the schedule, one turn a word; then by rounds until nothing is under way; then each
+    /// client in order asks what it has left. Where rounds come to no rest the session comes back.
+    pub fn play(self, alloc: Global, schedule: &[Actor]) -> Result<Played<D>, Unended<N, D, L>>
+        requires start { (b : Beginning) × (s : StoreState) × (N.start ≡ start_first b s) }
+        requires there { AllByRecursion (IsThere N.start) schedule.now }
+        ensures played { IfOk result (λ p. HasPlayed N.start D.keeps (scripts_of self.participants.clients.items) p.tickets (map (λ t. entries_in t.items) p.told.items) (D.size p.disk) (D.faults p.disk) (D.moments p.disk) p.ended) }
+        ensures turns { IfOk result (λ p. IsPlayedOut N.start schedule.now (global_of self.participants (Some self.store)) (map (λ t. entries_in t.items) p.told.items)) }
+        ensures under_way { IfErr result (λ u. IsAtRest u.session.participants.clients.items u.session.participants.primary → ⊥) }
+        ensures so_far { IfErr result (λ u. IsPlayed N.start schedule.now (global_of self.participants (Some self.store)) (global_of u.session.participants (Some u.session.store)) (Err u.why)) }
+        ensures first { IfErr result (λ u. AnswerFirst (scripts_of self.participants.clients.items) (lists_of u.session.participants.clients.items)) }
+        ensures scripts { IfErr result (λ u. scripts_of u.session.participants.clients.items ≡ scripts_of self.participants.clients.items) }
+    {
+        let Session {
+            table,
+            geometry,
+            mut participants,
+            store,
+            share,
+            room,
+        } = self;
+        let mut door = Direct {
+            table: &table,
+            held: store,
+            share,
+        };
+        let played = participants.play(&table, &mut door, schedule);
+        let Direct {
+            table: _,
+            held: store,
+            share,
+        } = door;
+        let session = Session {
+            table,
+            geometry,
+            participants,
+            store,
+            share,
+            room,
+        };
+        match played {
+            Ok(()) => Ok(session.end(alloc)),
+            Err(why) => Err(Unended { session, why }),
+        }
+    }
+}
