@@ -115,7 +115,7 @@ const FAULTS: [(&[&str], &[u64], &[u64], u8, &str); 13] = [
     (&["frob"], &[0], &[0], 7, ""),
 ];
 
-const NO_FILE: &str = "ufs_quiet_none.img";
+const NO_FILE: &str = "ufs_command_none.img";
 
 // Words over a script that breaks, their status, and no file is made.
 const UNTOUCHED: [(&[&str], u8); 8] = [
@@ -223,7 +223,7 @@ fn are_alike<C: Disk, D: Disk>(rt: &impl Abort, one: &mut C, other: &mut D, coun
 
 #[test]
 fn an_image_in_a_file_is_the_one_in_memory(rt: HostRuntime) {
-    let path = "ufs_quiet_made.img";
+    let path = "ufs_command_made.img";
     let mut file = check_over(&rt, &making(0, MADE), FileDisk::new(&rt, path));
     let mut plain = check_new(&rt, FILE_SECTORS, &[making(0, MADE)]);
     holds(&rt, are_alike(&rt, &mut file, &mut plain, 2_048));
