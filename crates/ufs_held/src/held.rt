@@ -1,5 +1,5 @@
 // A file, what is known of its commits, and the right to its cell.
-ghost use Rattle.std.specs.Prelude.{ℕ, List, ◌≡◌, ◌≢◌, ◌≤◌, ◌∷◌, ◌++◌, ◌||◌, suc, [], true, false, Err, None, Some, IfErr, IsSome, OnErr, OnOk, is_some};
+ghost use Rattle.std.specs.Prelude.{ℕ, List, ◌≡◌, ◌≢◌, ◌≤◌, ◌∷◌, ◌++◌, ◌||◌, suc, [], true, false, Err, None, Some, IfErr, IsSome, OnErr, OnOk, is_some, length};
 ghost use Rattle.std.specs.FinMap as fin;
 ghost use Rattle.std.specs.FinSet as set;
 ghost use Rattle.ufs_bitmap.specs.Blocks.{BlockSet};
@@ -130,6 +130,13 @@ impl<N: Naming> HeldFile<N> {
         ensures { result ≡ self.now.value.file.inode }
     {
         self.hand.inode()
+    }
+
+    /// Its length, in bytes; the blocks that aren't in memory count too.
+    pub fn len(&self) -> u64
+        ensures { result ≡ length self.now.value.file.content.bytes }
+    {
+        self.hand.size()
     }
 
     /// All its blocks, with the right to its cell, for who draws that the file is no more. Takes no memory.
