@@ -54,7 +54,7 @@ module _ (k : Start) (v : View) (part : ClientPart) (n : ℕ) (pool : BlockSet) 
 
   pub may_excuse : ExcusesStayKept → MayDraw k.geometry k.is_visible v (excused_by ask) (still_of v) ticket
   may_excuse stays =
-      may_reply k v ask.client part n pool (excused_by ask) ticket has next (excuse_still v (excused_by ask) ticket excuse.Memory refl (λ fault is. absurd cc) (λ fault is. absurd cc)) due
+      may_reply k v ask.client part n pool (excused_by ask) ticket has next (excuse_still v (excused_by ask) ticket excuse.Memory refl (λ fault is. absurd cc) (λ fault is. absurd cc) (λ fault by is. absurd cc) (λ fault is. absurd cc)) due
       (λ seen s start history p known formed legal fds cells knows on. stays s start history (entry_of ticket (excused_by ask)) p known legal refl on)
 
 -- ---- what is told

@@ -180,6 +180,8 @@ module _ (stays : BesideStaysKept) (files_stay : FilesStayBeside) (names_stay : 
     asked = asked;
     device = λ fault excused. absurd (no_excuse answer plain (excuse.Device fault) excused);
     stopped = λ fault excused. absurd (no_excuse answer plain (excuse.Stopped fault) excused);
+    committed = λ fault asks excused. absurd (no_excuse answer plain (excuse.Device fault) excused);
+    asks = λ fault excused. absurd (no_excuse answer plain (excuse.Stopped fault) excused);
     others = with_else self.fds desc (fd_told ask.op answer);
     next = go;
     goes = λ p cells _. still_goes v p numbered cells;

@@ -103,6 +103,8 @@ module _ (k : Start) (blind : k.is_visible ≡ false) (ask : Ask) (v : View) (is
     asked = is.asked ∙ ap (λ (o : Op). Some o) sync;
     device = λ fault other. cc;
     stopped = λ fault other. cc;
+    committed = λ fault by other. cc;
+    asks = λ fault other. cc;
     others = λ fd not. refl;
     next = λ q. q;
     goes = λ p cells _. still_goes v p numbered cells;

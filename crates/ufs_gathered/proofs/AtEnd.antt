@@ -229,6 +229,8 @@ module _ (k : Start) (visible keeps : Bool) (names : NamesCell) (files : List Fi
     complete = complete;
     faults = λ fault told. let f = whole.faults fault told in record { later = f.later; counted = f.answered; below = f.below };
     stopped = whole.stopped;
+    committed = whole.committed;
+    asked = whole.asked;
     size = home.size;
     parts = whole.parts;
     are = whole.are;

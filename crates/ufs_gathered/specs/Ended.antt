@@ -9,6 +9,7 @@ use Rattle.ufs_model.specs.declared.data.Entry.{Entry}
 use Rattle.ufs_model.specs.declared.data.Excuse.TheVariants as excuse
 use Rattle.ufs_model.specs.declared.data.Op.{Op}
 use Rattle.ufs_model.specs.declared.data.Reply.TheVariants as reply
+use Rattle.ufs_crash_laws.specs.Changes.{asks_commit}
 use Rattle.ufs_hand_laws.specs.FaultsOnce.{told}
 use Rattle.ufs_hand_laws.specs.Owned.{Has}
 use Rattle.ufs_hand_laws.specs.Parts.{Cells}
@@ -61,8 +62,8 @@ pub record AreAllKnown (names : NamesCell) (files : List FileCell) : Type 0 wher
 
 -- The transcripts are those of one history, with all tickets, in which a tree with which the session may have begun gives each reply, or
 -- the reply is an excuse that fits and leaves the tree; each client's requests are in its order. Names and files are those of the tree
--- to which it leads. A fault that excuses an entry is one of the session, and whoever is told that the store stopped is told where. The disk
--- has as many sectors as at the beginning.
+-- to which it leads. A fault that excuses an entry is one of the session, and whoever is told that the store stopped is told where: by that, or
+-- where a request asks for a commit, by the fault itself. No other request is told a stop. The disk has as many sectors as at the beginning.
 pub record HasEnded (k : Start) (tickets : ℕ) (lists : List (List Entry)) (names : NamesCell) (files : List FileCell) (s : StoreState) : Type 0 where
   pub start : PosixTree
   pub picks : List Pick
@@ -75,6 +76,8 @@ pub record HasEnded (k : Start) (tickets : ℕ) (lists : List (List Entry)) (nam
   pub complete : (scripts : List (List Op)) → AnswerAll scripts lists → IsComplete scripts history
   pub faults : (fault : ℕ) → 1 ≤ told fault history → IsFaultSince (faults_in k.view.store) s.faults fault
   pub stopped : (e : Entry) (fault : ℕ) → Has e history → e.reply ≡ reply.Excused (excuse.Stopped fault) → s.stop ≡ Some fault
+  pub committed : (e : Entry) (fault : ℕ) → Has e history → asks_commit e.op ≡ true → e.reply ≡ reply.Excused (excuse.Device fault) → s.stop ≡ Some fault
+  pub asked : (e : Entry) (fault : ℕ) → Has e history → e.reply ≡ reply.Excused (excuse.Stopped fault) → asks_commit e.op ≡ true
   pub size : s.sectors ≡ sectors_in k.view.store
   pub parts : Parts
   pub are : ArePartsOf parts (tree_after start history)

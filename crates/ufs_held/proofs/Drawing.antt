@@ -201,6 +201,8 @@ module _ (k : Start) (n0 : ℕ) (v : View) (knows : Knows k n0 v) (part : Client
         replied = reason.1;
         device = λ fault is. absurd (subst (IsCause (whole_as file_of.bytes x.file).extents (missing (whole_as file_of.bytes x.file) d.0 ask.op) pool) is caused.cause);
         stopped = λ fault is. absurd (subst (IsCause (whole_as file_of.bytes x.file).extents (missing (whole_as file_of.bytes x.file) d.0 ask.op) pool) is caused.cause);
+        committed = λ fault by is. absurd (subst (IsCause (whole_as file_of.bytes x.file).extents (missing (whole_as file_of.bytes x.file) d.0 ask.op) pool) is caused.cause);
+        asks = λ fault is. absurd (subst (IsCause (whole_as file_of.bytes x.file).extents (missing (whole_as file_of.bytes x.file) d.0 ask.op) pool) is caused.cause);
         fits = λ tree of asked. applied.fits reason.0 reason.1 tree (subst (λ (q : DurableState). IsFileOf q.file tree) value of) asked;
       }
 

@@ -65,6 +65,15 @@ used_by (excuse.Extents need) faults = refl
 pub its_fault : (x : Excuse) (faults : List ℕ) (fault : ℕ) → faults ≡ faults_of x → x ≡ excuse.Device fault → 1 ≤ times fault faults
 its_fault x faults fault told is = subst (λ (xs : List ℕ). 1 ≤ times fault xs) (sym (told ∙ ap faults_of is)) (told_first fault [])
 
+first_of : ℕ → List ℕ → ℕ
+first_of d [] = d
+first_of d (x ∷ xs) = x
+
+-- The fault that an excuse tells is the one that was told.
+pub told_alone : (o : Option ℕ) (x : Excuse) (n : ℕ) → told_list o ≡ faults_of x → x ≡ excuse.Device n → o ≡ Some n
+told_alone None x n used is = (let none : [] ≡ n ∷ [] = used ∙ ap faults_of is in absurd cc)
+told_alone (Some m) x n used is = ap Some (ap (first_of m) (used ∙ ap faults_of is))
+
 pub told_below : (n : ℕ) → n < 2 ^ 64 - 1 → told_list (fault_told (Some n)) ≡ n ∷ []
 told_below n low = ap told_list (told_some (Some n) n refl low)
 

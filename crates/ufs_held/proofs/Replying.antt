@@ -11,6 +11,7 @@ use Rattle.ufs_model.specs.declared.data.Excuse.{Excuse}
 use Rattle.ufs_model.specs.declared.data.Excuse.TheVariants as excuse
 use Rattle.ufs_model.specs.declared.data.Op.TheVariants as op
 use Rattle.ufs_model.specs.declared.data.Reply.TheVariants as reply
+use Rattle.ufs_crash_laws.specs.Changes.{asks_commit}
 use Rattle.ufs_hand_laws.specs.Owned.{times}
 use Rattle.ufs_hand_laws.specs.Parts.{ClientPart}
 use Rattle.ufs_joint.specs.Cells.{FileCell, Start, View}
@@ -44,8 +45,9 @@ module _ (k : Start) (v : View) (part : ClientPart) (file : ℕ) (cell : FileCel
       subst (λ (l : Leaves). MayDraw k.geometry k.is_visible v (replied_to ask by reply.Done) l ticket) leaves (law k.geometry k.is_visible v ask.client part file cell n pool (replied_to ask by reply.Done) ticket fd d.0 hand may)
 
   pub may_excuse : ExcusesMayDraw → (x : Excuse) → ((fault : ℕ) → x ≡ excuse.Device fault → 1 ≤ times fault v.faults) → ((fault : ℕ) → x ≡ excuse.Stopped fault → v.stop ≡ Some fault)
+      → ((fault : ℕ) → asks_commit ask.op ≡ true → x ≡ excuse.Device fault → v.stop ≡ Some fault) → ((fault : ℕ) → x ≡ excuse.Stopped fault → asks_commit ask.op ≡ true)
       → ((t : PosixTree) → IsFileOf cell.value.file t → IsAsk t ask → ExcuseFits t ask.client ask.op x) → MayDraw k.geometry k.is_visible v (replied_to ask by (reply.Excused x)) (still_of v) ticket
-  may_excuse law x device stopped fits =
+  may_excuse law x device stopped at_commit asks_it fits =
       let may : MayExcuse v ask.client part file cell (replied_to ask by (reply.Excused x)) ask x = record {
         low = asks.low;
         by_client = refl;
@@ -60,6 +62,8 @@ module _ (k : Start) (v : View) (part : ClientPart) (file : ℕ) (cell : FileCel
         replied = refl;
         device = device;
         stopped = stopped;
+        committed = at_commit;
+        asks = asks_it;
         fits = fits;
       } in
       subst (λ (l : Leaves). MayDraw k.geometry k.is_visible v (replied_to ask by (reply.Excused x)) l ticket) leaves (law k.geometry k.is_visible v ask.client part file cell n pool (replied_to ask by (reply.Excused x)) ticket ask x hand may)

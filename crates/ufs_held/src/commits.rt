@@ -39,6 +39,7 @@ pub(crate) fn commit_lent<N: Naming, T: Turns<N>>(
     ensures same { HasSameCells guest.old guest.new }
     ensures faults { guest.new.faults ≡ told_list (fault_told (fault_in result)) ++ guest.old.faults }
     ensures stop { (fault : ℕ) → result ≡ Err (refusal.Stopped fault) → guest.new.stop ≡ Some fault }
+    ensures stops { (fault : ℕ) → fault_told (fault_in result) ≡ Some fault → guest.new.stop ≡ Some fault }
     ensures freed { OnOk result (AreTold (T.tells door.old) (T.tells door.new) (λ had has. has ≡ set.union had (set_of commits.old.dropped))) }
     ensures unfreed { OnErr result (AreTold (T.tells door.old) (T.tells door.new) (λ had has. has ≡ had)) }
     ensures telling { is_some (T.tells door.new) ≡ is_some (T.tells door.old) }
@@ -69,6 +70,7 @@ fn commit_own<N: Naming, T: Turns<N>>(
     ensures cell { first_cell (state_of file.new commits.new) right.new.files ≡ record (first_cell (state_of file.old commits.old) right.old.files) { value = state_of file.new commits.new; known = (first_cell (state_of file.new commits.new) right.new.files).known } }
     ensures faults { right.new.faults ≡ told_list (fault_told (fault_in result)) }
     ensures stop { (fault : ℕ) → result ≡ Err (refusal.Stopped fault) → right.new.stop ≡ Some fault }
+    ensures stops { (fault : ℕ) → fault_told (fault_in result) ≡ Some fault → right.new.stop ≡ Some fault }
     ensures freed { OnOk result (AreTold (T.tells door.old) (T.tells door.new) (λ had has. has ≡ set.union had (set_of commits.old.dropped))) }
     ensures unfreed { OnErr result (AreTold (T.tells door.old) (T.tells door.new) (λ had has. has ≡ had)) }
     ensures telling { is_some (T.tells door.new) ≡ is_some (T.tells door.old) }

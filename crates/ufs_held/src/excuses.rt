@@ -7,6 +7,7 @@ ghost use Rattle.ufs_model.specs.FileCalls.{file_refusal};
 ghost use Rattle.ufs_model.specs.declared.data.Desc.{Desc};
 ghost use Rattle.ufs_model.specs.declared.data.Excuse.TheVariants as excuse;
 ghost use Rattle.ufs_model.specs.declared.data.Reply.TheVariants as reply;
+ghost use Rattle.ufs_crash_laws.specs.Changes.{asks_commit};
 ghost use Rattle.ufs_hand_laws.specs.Parts.{ClientPart};
 ghost use Rattle.ufs_store.specs.Refusals.{fault_of, is_no_space, is_own};
 ghost use Rattle.ufs_store.specs.declared.fault.StoreFault.TheVariants as refusal;
@@ -43,7 +44,8 @@ pub fn excuse_of(fault: StoreFault) -> Excuse
     }
 }
 
-// Draws the entry with the excuse. The file is as it was. The hand was told of just the fault that excuses.
+// Draws the entry with the excuse. The file is as it was. The hand was told of just the fault that excuses; where the request asks for a
+// commit, the store stopped at it.
 pub(crate) fn serve_excused<N: Naming>(
     table: &HandTable<N>,
     right: &mut Hand<N>,
@@ -61,6 +63,8 @@ pub(crate) fn serve_excused<N: Naming>(
     requires kind { is_of_turn cause ≡ true }
     requires told { right.old.faults ≡ faults_of cause }
     requires stopped { (fault : ℕ) → cause ≡ excuse.Stopped fault → right.old.stop ≡ Some fault }
+    requires committed { (fault : ℕ) → asks_commit ask.op ≡ true → cause ≡ excuse.Device fault → right.old.stop ≡ Some fault }
+    requires asks { (fault : ℕ) → cause ≡ excuse.Stopped fault → asks_commit ask.op ≡ true }
     ensures held { IsHeld (state_of file.now commits.now) right.new }
     ensures calm { right.new.faults ≡ [] }
     ensures entry { IsEntryOf ask by result.entry.ticket result.entry }

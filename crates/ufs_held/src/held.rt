@@ -274,6 +274,7 @@ impl<N: Naming> HeldFile<N> {
         ensures same { HasSameCells guest.old guest.new }
         ensures faults { guest.new.faults ≡ told_list (fault_told (fault_in result)) ++ guest.old.faults }
         ensures stop { (fault : ℕ) → result ≡ Err (refusal.Stopped fault) → guest.new.stop ≡ Some fault }
+        ensures stops { (fault : ℕ) → fault_told (fault_in result) ≡ Some fault → guest.new.stop ≡ Some fault }
         ensures freed { OnOk result (AreTold (T.tells door.old) (T.tells door.new) (λ had has. has ≡ set.union had (set_of self.old.value.dropped))) }
         ensures unfreed { OnErr result (AreTold (T.tells door.old) (T.tells door.new) (λ had has. has ≡ had)) }
         ensures telling { is_some (T.tells door.new) ≡ is_some (T.tells door.old) }

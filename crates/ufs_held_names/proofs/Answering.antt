@@ -22,6 +22,7 @@ use Rattle.ufs_model.specs.declared.data.Op.{Op}
 use Rattle.ufs_model.specs.declared.data.PartName.TheVariants as name
 use Rattle.ufs_model.specs.declared.data.Reply.{Reply}
 use Rattle.ufs_names.specs.Calls.{AreGathered}
+use Rattle.ufs_crash_laws.specs.Changes.{asks_commit}
 use Rattle.ufs_hand_laws.specs.Draws.{client_after}
 use Rattle.ufs_hand_laws.specs.Owned.{each, only, times, without}
 use Rattle.ufs_hand_laws.specs.Parts.{ClientPart, is_names}
@@ -91,7 +92,7 @@ module _ (k : Start) (v : View) (part : ClientPart) (names : NamesCell) (n : ℕ
   may_answer acks excuses (IsDone is known) =
       let may : MayAcknowledgeDir k.is_visible part names f asks.fd asks.desc = record { op_is = asks.op_is; done = is; is = asks.is; of = asks.of; known = known } in
       subst (λ (l : Leaves). MayDraw k.geometry k.is_visible v f l ticket) leaves (acks k.geometry k.is_visible v ask.client part names n pool f ticket asks.fd asks.desc hand next may)
-  may_answer acks excuses (IsRefused x is kind rest faults stopped) =
+  may_answer acks excuses (IsRefused x is kind rest faults stopped committed) =
       let may : MayExcuseNames v part names map.empty map.empty f ask x = record {
         ask_client = refl;
         same_op = refl;
@@ -101,6 +102,8 @@ module _ (k : Start) (v : View) (part : ClientPart) (names : NamesCell) (n : ℕ
         files = files_none v.files has.files;
         device = λ fault same. subst (λ (fs : List ℕ). 1 ≤ times fault fs) (sym faults) (told_joined fault (faults_of x) rest (its_fault x (faults_of x) fault refl same));
         stopped = stopped;
+        committed = λ fault by same. committed fault same;
+        asks = λ fault same. ap asks_commit asks.op_is;
         fits = λ t asked. fits_dir part ask asks t asked.asked x kind;
       } in
       subst (λ (l : Leaves). MayDraw k.geometry k.is_visible v f l ticket) leaves (excuses k.geometry k.is_visible v ask.client part names n pool map.empty map.empty f ticket ask x hand next may)
@@ -120,7 +123,8 @@ module _ (own guest : View) (x : Noted) (held : HoldsNames x own) where
 
   pub may_joined : (visible : Bool) (r : Reply) → MayAnswer visible held.cell guest r → MayAnswer visible held.cell (both_of guest (given_of name.Names own)) r
   may_joined visible r (IsDone is known) = IsDone is known
-  may_joined visible r (IsRefused q is kind rest faults stopped) = IsRefused q is kind rest (append-nil guest.faults ∙ faults) (λ fault same. stop_joined guest.stop own.stop fault (stopped fault same))
+  may_joined visible r (IsRefused q is kind rest faults stopped committed) = IsRefused q is kind rest (append-nil guest.faults ∙ faults)
+      (λ fault same. stop_joined guest.stop own.stop fault (stopped fault same)) (λ fault same. stop_joined guest.stop own.stop fault (committed fault same))
 
 -- and go back
 

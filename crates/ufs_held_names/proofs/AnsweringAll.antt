@@ -15,6 +15,7 @@ use Rattle.ufs_model.specs.declared.data.Op.{Op}
 use Rattle.ufs_model.specs.declared.data.Op.TheVariants as op
 use Rattle.ufs_model.specs.declared.data.PartName.TheVariants as name
 use Rattle.ufs_model.specs.declared.data.Reply.{Reply}
+use Rattle.ufs_crash_laws.specs.Changes.{asks_commit}
 use Rattle.ufs_hand_laws.specs.Draws.{client_after, entry_of}
 use Rattle.ufs_hand_laws.specs.Owned.{Has, count, each, one, times}
 use Rattle.ufs_hand_laws.specs.Parts.{ClientPart}
@@ -90,10 +91,12 @@ module _ (k : Start) (v w : View) (part : ClientPart) (names : NamesCell) (n : �
         each = λ seen file live. (let c = all.live file live in (c.0, subst (Has (file, c.0)) (sym w_files) (there files file c.0 c.1 c.2), each_known c.0 c.1 seen));
       } in
       subst (λ (l : Leaves). MayDraw k.geometry k.is_visible w f l ticket) leaves (acks k.is_visible w ask.client part names n pool f ticket hand next may)
-  may_answer_all acks stays (AllRefused x is kind rest faults stopped) =
+  may_answer_all acks stays (AllRefused x is kind rest faults stopped committed) =
       let still = excuse_still w f ticket x is
       (λ fault same. subst (λ (fs : List ℕ). 1 ≤ times fault fs) (sym (too.faults ∙ faults)) (told_joined fault (faults_of x) rest (its_fault x (faults_of x) fault refl same)))
-      (λ fault same. too.stop fault (stopped fault same)) in
+      (λ fault same. too.stop fault (stopped fault same))
+      (λ fault by same. too.stop fault (committed fault same))
+      (λ fault same. ap asks_commit asks.op_is) in
       let due : (start : PosixTree) (history : List Entry) (p : Parts) (rest : BlockSet) → IsAround k.geometry w ticket start history p rest → IsReplyTo (tree_after start history) (entry_of ticket f) =
       λ start history p rest a. inr (subst (λ (q : Reply). IsExcused (tree_after start history) ask.client ask.op q) (sym is) (subst (λ (o : Op). ExcuseFits (tree_after start history) ask.client o x) (sym asks.op_is) (sync_fits (tree_after start history) ask.client x kind))) in
       subst (λ (l : Leaves). MayDraw k.geometry k.is_visible w f l ticket) leaves
@@ -118,4 +121,5 @@ all_apart client part names n pool files v has all none j =
 
 pub may_joined_all : (own guest : View) (x : Noted) (held : HoldsNames x own) (visible : Bool) (files : List FileCell) (r : Reply) → MayAnswerAll visible held.cell files guest r → MayAnswerAll visible held.cell files (both_of guest (given_of name.Names own)) r
 may_joined_all own guest x held visible files r (AllDone is known each_known) = AllDone is known each_known
-may_joined_all own guest x held visible files r (AllRefused q is kind rest faults stopped) = AllRefused q is kind rest (append-nil guest.faults ∙ faults) (λ fault same. stop_joined guest.stop own.stop fault (stopped fault same))
+may_joined_all own guest x held visible files r (AllRefused q is kind rest faults stopped committed) = AllRefused q is kind rest (append-nil guest.faults ∙ faults)
+    (λ fault same. stop_joined guest.stop own.stop fault (stopped fault same)) (λ fault same. stop_joined guest.stop own.stop fault (committed fault same))

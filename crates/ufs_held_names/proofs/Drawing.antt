@@ -235,6 +235,8 @@ module _ (k : Start) (n0 : ℕ) (v : View) (knows : Knows k n0 v) (part : Client
         files = before;
         device = λ fault is. absurd ((cause reason.0 reason.1 fault).0 is);
         stopped = λ fault is. absurd ((cause reason.0 reason.1 fault).1 is);
+        committed = λ fault by is. absurd ((cause reason.0 reason.1 fault).0 is);
+        asks = λ fault is. absurd ((cause reason.0 reason.1 fault).1 is);
         fits = λ u asked. fits reason.0 reason.1 u (subst (λ (q : NamesPart). IsAsked u q ask files) names_value asked);
       }
 

@@ -57,6 +57,8 @@ module _ (k : Start) (v : View) (part : ClientPart) (n : ℕ) (pool : BlockSet) 
   still = record {
     device = λ fault e. absurd cc;
     stopped = λ fault e. absurd cc;
+    committed = λ fault by e. absurd cc;
+    asks = λ fault e. absurd cc;
     leaves = λ t. tree_left t (entry_of ticket f) (ap leaves_tree asks.op_is);
     no_change = λ t file. refl;
     no_names = λ t. refl;

@@ -48,10 +48,12 @@ pub record AsksUnopened (part : ClientPart) (ask : Ask) : Type 0 where
 abbrev pub answered : ClientPart → Entry → ClientPart
 answered part e = record part { entries = part.entries ++ e ∷ []; asked = None }
 
--- It may be answered so: all that changed of the names is known as committed, or a turn refused, and the guest was told by which fault.
+-- It may be answered so: all that changed of the names is known as committed, or a turn refused, and the guest was told by which fault, at
+-- which the store stopped then.
 pub data MayAnswer (visible : Bool) (names : NamesCell) (guest : View) (r : Reply) : Type 0 where
   IsDone : r ≡ reply.Done → (visible ≡ true → names.changed ≤ names.known) → MayAnswer visible names guest r
-  IsRefused : (x : Excuse) → r ≡ reply.Excused x → is_of_turn x ≡ true → (rest : List ℕ) → guest.faults ≡ faults_of x ++ rest → ((fault : ℕ) → x ≡ excuse.Stopped fault → guest.stop ≡ Some fault) → MayAnswer visible names guest r
+  IsRefused : (x : Excuse) → r ≡ reply.Excused x → is_of_turn x ≡ true → (rest : List ℕ) → guest.faults ≡ faults_of x ++ rest → ((fault : ℕ) → x ≡ excuse.Stopped fault → guest.stop ≡ Some fault)
+      → ((fault : ℕ) → x ≡ excuse.Device fault → guest.stop ≡ Some fault) → MayAnswer visible names guest r
 
 -- The hand has the client, the names and a pool, and nothing else.
 pub record IsNamesGuest (client : ℕ) (part : ClientPart) (cell : NamesCell) (n : ℕ) (pool : BlockSet) (v : View) : Type 0 where

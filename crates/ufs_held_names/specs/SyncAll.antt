@@ -73,10 +73,11 @@ pub data StopsShort (visible : Bool) (old new : NamesCell) (olds nows : List Fil
 -- ---- the answer
 
 -- It may be answered so: all that changed of the names and of these files is known as committed, or a turn refused, and the guest was
--- told by which fault.
+-- told by which fault, at which the store stopped then.
 pub data MayAnswerAll (visible : Bool) (names : NamesCell) (files : List FileCell) (guest : View) (r : Reply) : Type 0 where
   AllDone : r ≡ reply.Done → (visible ≡ true → names.changed ≤ names.known) → ((c : FileCell) → Has c files → visible ≡ true → c.changed ≤ c.known) → MayAnswerAll visible names files guest r
-  AllRefused : (x : Excuse) → r ≡ reply.Excused x → is_of_turn x ≡ true → (rest : List ℕ) → guest.faults ≡ faults_of x ++ rest → ((fault : ℕ) → x ≡ excuse.Stopped fault → guest.stop ≡ Some fault) → MayAnswerAll visible names files guest r
+  AllRefused : (x : Excuse) → r ≡ reply.Excused x → is_of_turn x ≡ true → (rest : List ℕ) → guest.faults ≡ faults_of x ++ rest → ((fault : ℕ) → x ≡ excuse.Stopped fault → guest.stop ≡ Some fault)
+      → ((fault : ℕ) → x ≡ excuse.Device fault → guest.stop ≡ Some fault) → MayAnswerAll visible names files guest r
 
 -- All that is told of it.
 pub record HasSyncedAll (visible : Bool) (ask : Ask) (by : Actor) (old new : NamesCell) (olds nows : List FileCell) (tells told : Option View) (e : Entry) (before back : View) : Type 0 where

@@ -43,6 +43,7 @@ pub(crate) fn commit_lent<N: Naming, T: Turns<N>>(
     ensures err { OnErr result (first_names noted.new right.new.names ≡ first_names noted.old right.old.names) }
     ensures faults { guest.new.faults ≡ told_list (fault_told (fault_in result)) ++ guest.old.faults }
     ensures stop { (fault : ℕ) → result ≡ Err (refusal.Stopped fault) → guest.new.stop ≡ Some fault }
+    ensures stops { (fault : ℕ) → fault_told (fault_in result) ≡ Some fault → guest.new.stop ≡ Some fault }
     ensures free { AreTold (T.tells door.old) (T.tells door.new) (λ had has. has ≡ had) }
     ensures telling { is_some (T.tells door.new) ≡ is_some (T.tells door.old) }
     ensures halts { StopsByFault (T.tells door.old) (T.tells door.new) (fault_in result) }
@@ -86,6 +87,7 @@ fn commit_told<N: Naming, T: Turns<N>>(
     ensures err { OnErr result (first_names noted.new right.new.names ≡ first_names noted.old right.old.names) }
     ensures faults { guest.new.faults ≡ told_list (fault_told (fault_in result)) ++ guest.old.faults }
     ensures stop { (fault : ℕ) → result ≡ Err (refusal.Stopped fault) → guest.new.stop ≡ Some fault }
+    ensures stops { (fault : ℕ) → fault_told (fault_in result) ≡ Some fault → guest.new.stop ≡ Some fault }
     ensures free { AreTold (T.tells door.old) (T.tells door.new) (λ had has. has ≡ had) }
     ensures telling { is_some (T.tells door.new) ≡ is_some (T.tells door.old) }
     ensures halts { StopsByFault (T.tells door.old) (T.tells door.new) (fault_in result) }

@@ -237,6 +237,7 @@ impl<N: Naming> HeldNames<N> {
         ensures err { OnErr result (self.new ≡ self.old) }
         ensures faults { guest.new.faults ≡ told_list (fault_told (fault_in result)) ++ guest.old.faults }
         ensures stop { (fault : ℕ) → result ≡ Err (refusal.Stopped fault) → guest.new.stop ≡ Some fault }
+        ensures stops { (fault : ℕ) → fault_told (fault_in result) ≡ Some fault → guest.new.stop ≡ Some fault }
         ensures free { AreTold (T.tells door.old) (T.tells door.new) (λ had has. has ≡ had) }
         ensures telling { is_some (T.tells door.new) ≡ is_some (T.tells door.old) }
         ensures halts { StopsByFault (T.tells door.old) (T.tells door.new) (fault_in result) }
@@ -369,6 +370,7 @@ impl<N: Naming> HeldNames<N> {
         ensures short { OnErr result (StopsShort N.start.is_visible self.old self.new files.old files.new (T.tells door.old) (T.tells door.new)) }
         ensures faults { guest.new.faults ≡ told_list (fault_told (fault_in result)) ++ guest.old.faults }
         ensures stop { (fault : ℕ) → result ≡ Err (refusal.Stopped fault) → guest.new.stop ≡ Some fault }
+        ensures stops { (fault : ℕ) → fault_told (fault_in result) ≡ Some fault → guest.new.stop ≡ Some fault }
         ensures telling { is_some (T.tells door.new) ≡ is_some (T.tells door.old) }
         ensures halts { StopsByFault (T.tells door.old) (T.tells door.new) (fault_in result) }
         ensures halted { TellsStop (T.tells door.old) result }

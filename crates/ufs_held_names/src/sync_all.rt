@@ -114,6 +114,7 @@ pub(crate) fn commit_all<N: Naming, T: Turns<N>>(
     ensures short { OnErr result (StopsShort N.start.is_visible (first_names noted.old right.old.names) (first_names noted.new right.new.names) files.old files.new (T.tells door.old) (T.tells door.new)) }
     ensures faults { guest.new.faults ≡ told_list (fault_told (fault_in result)) ++ guest.old.faults }
     ensures stop { (fault : ℕ) → result ≡ Err (refusal.Stopped fault) → guest.new.stop ≡ Some fault }
+    ensures stops { (fault : ℕ) → fault_told (fault_in result) ≡ Some fault → guest.new.stop ≡ Some fault }
     ensures telling { is_some (T.tells door.new) ≡ is_some (T.tells door.old) }
     ensures halts { StopsByFault (T.tells door.old) (T.tells door.new) (fault_in result) }
     ensures halted { TellsStop (T.tells door.old) result }
@@ -150,6 +151,7 @@ fn commit_files<N: Naming, T: Turns<N>>(
     ensures short { OnErr result ((k : ℕ) × (k < length files.old) × AreSynced N.start.is_visible files.old files.new k × AreTold (T.tells door.old) (T.tells door.new) (λ had has. has ≡ freed_by k files.old had)) }
     ensures faults { guest.new.faults ≡ told_list (fault_told (fault_in result)) ++ guest.old.faults }
     ensures stop { (fault : ℕ) → result ≡ Err (refusal.Stopped fault) → guest.new.stop ≡ Some fault }
+    ensures stops { (fault : ℕ) → fault_told (fault_in result) ≡ Some fault → guest.new.stop ≡ Some fault }
     ensures telling { is_some (T.tells door.new) ≡ is_some (T.tells door.old) }
     ensures halts { StopsByFault (T.tells door.old) (T.tells door.new) (fault_in result) }
     ensures stopped { TellsWhere (T.tells door.new) result }
@@ -187,6 +189,7 @@ fn commit_born<N: Naming, T: Turns<N>>(
     ensures unfreed { OnErr result (AreTold (T.tells door.old) (T.tells door.new) (λ had has. has ≡ had)) }
     ensures faults { guest.new.faults ≡ told_list (fault_told (fault_in result)) ++ guest.old.faults }
     ensures stop { (fault : ℕ) → result ≡ Err (refusal.Stopped fault) → guest.new.stop ≡ Some fault }
+    ensures stops { (fault : ℕ) → fault_told (fault_in result) ≡ Some fault → guest.new.stop ≡ Some fault }
     ensures telling { is_some (T.tells door.new) ≡ is_some (T.tells door.old) }
     ensures halts { StopsByFault (T.tells door.old) (T.tells door.new) (fault_in result) }
     ensures stopped { TellsWhere (T.tells door.new) result }

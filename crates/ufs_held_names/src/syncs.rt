@@ -105,6 +105,7 @@ fn excuse_file<N: Naming>(
     requires kind { is_of_turn cause ≡ true }
     requires told { (rest : List ℕ) × (guest.faults ≡ faults_of cause ++ rest) }
     requires stopped { (fault : ℕ) → cause ≡ excuse.Stopped fault → guest.stop ≡ Some fault }
+    requires committed { (fault : ℕ) → cause ≡ excuse.Device fault → guest.stop ≡ Some fault }
     ensures excused { IsExcusedBy cause ask by file result.file result.entry result.desc guest result.guest }
 {
     a_file_goes_on_by_itself();

@@ -542,7 +542,7 @@ module _ (k : Start) (word : Word) (views : List View) (i : ℕ) (v : View) (f :
 
   pub draw_sound : IsSound k (one_more word) (set views i w)
   draw_sound = record {
-    faults_once = faults_drawn k views h G.store o.faults_once i v at w e refl refl m.device m.stopped;
+    faults_once = faults_drawn k views h G.store o.faults_once i v at w e refl refl m.device m.stopped m.committed m.asks;
     history = longer;
     world = next_world;
     parts = next0;

@@ -122,6 +122,8 @@ module _ (k : Start) (word : Word) (views : List View) (i : ℕ) (v : View) (res
   whole = record {
     faults = λ n l. subst (λ (s : StoreCell). IsOfSession k s n) store_same (o.faults_once.answered n (omega (arith, l)));
     stopped = λ e n has is. ap (λ (s : StoreCell). s.stop) (sym store_same) ∙ o.faults_once.stopped e n has is;
+    committed = λ e n has by is. ap (λ (s : StoreCell). s.stop) (sym store_same) ∙ o.faults_once.committed e n has by is;
+    asked = o.faults_once.asked;
     start = o.begun;
     picks = o.picks;
     begun = o.may_begin;
@@ -283,6 +285,8 @@ module _ (k : Start) (c : CanBegin k) where
       answered = λ n l. let a = ap (times n) c.no_faults in absurd (omega (arith, a, l));
       stops = alone (λ (u : View). (n : ℕ) → u.stop ≡ Some n → c.store.stop ≡ Some n) k.view (λ n is. let none : None ≡ Some n = sym c.no_stop ∙ is in absurd (none_some n none));
       stopped = λ e n has is. absurd has;
+      committed = λ e n has by is. absurd has;
+      asked = λ e n has is. absurd has;
     };
     parts_in = record { files = c.files_in; commits = c.commits_in; names = c.names_in; pool = c.pool };
     free_in = record { back = λ b is. inl is; here = λ b is. ⊎_elim (λ s. s) (λ p. absurd (no_pool p.0 p.1 b p.2 p.3)) is };

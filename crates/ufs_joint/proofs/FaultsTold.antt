@@ -9,6 +9,7 @@ use Rattle.ufs_model.specs.declared.data.Excuse.TheVariants as excuse
 use Rattle.ufs_model.specs.declared.data.PartName.{PartName}
 use Rattle.ufs_model.specs.declared.data.Reply.{Reply}
 use Rattle.ufs_model.specs.declared.data.Reply.TheVariants as reply
+use Rattle.ufs_crash_laws.specs.Changes.{asks_commit}
 use Rattle.ufs_hand_laws.specs.Draws.{left_faults}
 use Rattle.ufs_hand_laws.specs.FaultsOnce.{tells, told}
 use Rattle.ufs_hand_laws.specs.Owned.{Has, less, one, times, total}
@@ -63,6 +64,8 @@ module _ (k : Start) (views : List View) (h : List Entry) (s : StoreCell) (o : A
     answered = λ n l. (let a = o.answered n l in let b = a.answered in record { later = a.later; answered = omega (arith, b, same); below = a.below });
     stops = λ j u there n is. stop ∙ o.stops j u there n is;
     stopped = λ e n has is. stop ∙ o.stopped e n has is;
+    committed = λ e n has asks is. stop ∙ o.committed e n has asks is;
+    asked = o.asked;
   }
 
   module _ (i : ℕ) (v : View) (at : get_elem? views i ≡ some v) where
@@ -74,6 +77,8 @@ module _ (k : Start) (views : List View) (h : List Entry) (s : StoreCell) (o : A
       answered = λ n l. o.answered n (let a = all n in omega (arith, a, l));
       stops = all_set IsStop views i w o.stops (λ n is. o.stops i v at n (sym stop ∙ is));
       stopped = o.stopped;
+      committed = o.committed;
+      asked = o.asked;
     }
       where
         all : (n : ℕ) → total (λ (u : View). times n u.faults) (set views i w) ≡ total (λ (u : View). times n u.faults) views
@@ -86,6 +91,8 @@ module _ (k : Start) (views : List View) (h : List Entry) (s : StoreCell) (o : A
       answered = λ n l. o.answered n (let a = all n in omega (arith, a, l));
       stops = all_split IsStop views i (kept_of p v) (given_of p v) o.stops (o.stops i v at) (o.stops i v at);
       stopped = o.stopped;
+      committed = o.committed;
+      asked = o.asked;
     }
       where
         all : (n : ℕ) → total (λ (u : View). times n u.faults) (set views i (kept_of p v) ++ given_of p v ∷ []) ≡ total (λ (u : View). times n u.faults) views
@@ -98,6 +105,8 @@ module _ (k : Start) (views : List View) (h : List Entry) (s : StoreCell) (o : A
       answered = λ n l. o.answered n (let a = all n in omega (arith, a, l));
       stops = all_set IsStop (set views i (both_of v u)) j spent (all_set IsStop views i (both_of v u) o.stops (λ n is. either_stop v.stop u.stop s.stop n (o.stops i v at n) (o.stops j u was n) is)) (λ n is. cc);
       stopped = o.stopped;
+      committed = o.committed;
+      asked = o.asked;
     }
       where
         was : get_elem? views j ≡ some u
@@ -113,13 +122,21 @@ module _ (k : Start) (views : List View) (h : List Entry) (s : StoreCell) (o : A
     -- ---- an entry is drawn
 
     pub faults_drawn : (w : View) (e : Entry) → w.faults ≡ left_faults e.reply v.faults → w.stop ≡ v.stop → ((n : ℕ) → e.reply ≡ reply.Excused (excuse.Device n) → 1 ≤ times n v.faults)
-        → ((n : ℕ) → e.reply ≡ reply.Excused (excuse.Stopped n) → v.stop ≡ Some n) → AreFaultsOnce k (set views i w) (h ++ e ∷ []) s
-    faults_drawn w e left stop device stopped = record {
+        → ((n : ℕ) → e.reply ≡ reply.Excused (excuse.Stopped n) → v.stop ≡ Some n)
+        → ((n : ℕ) → asks_commit e.op ≡ true → e.reply ≡ reply.Excused (excuse.Device n) → v.stop ≡ Some n)
+        → ((n : ℕ) → e.reply ≡ reply.Excused (excuse.Stopped n) → asks_commit e.op ≡ true) → AreFaultsOnce k (set views i w) (h ++ e ∷ []) s
+    faults_drawn w e left stop device stopped at_commit asks = record {
       rose = o.rose;
       once = λ n. let a = all n in let b = o.once n in omega (arith, a, b);
       answered = λ n l. o.answered n (let a = all n in omega (arith, a, l));
       stops = all_set IsStop views i w o.stops (λ n is. o.stops i v at n (sym stop ∙ is));
       stopped = λ x n has is. ⊎_elim (λ a. o.stopped x n a is) (⊎_elim (λ (a : x ≡ e). o.stops i v at n (stopped n (ap (λ (y : Entry). y.reply) (sym a) ∙ is))) (λ none. absurd none)) (has_append x h (e ∷ []) has);
+      committed = λ x n has by is. ⊎_elim (λ a. o.committed x n a by is)
+          (⊎_elim (λ (a : x ≡ e). o.stops i v at n (at_commit n (ap (λ (y : Entry). asks_commit y.op) (sym a) ∙ by) (ap (λ (y : Entry). y.reply) (sym a) ∙ is))) (λ none. absurd none))
+          (has_append x h (e ∷ []) has);
+      asked = λ x n has is. ⊎_elim (λ a. o.asked x n a is)
+          (⊎_elim (λ (a : x ≡ e). ap (λ (y : Entry). asks_commit y.op) a ∙ asks n (ap (λ (y : Entry). y.reply) (sym a) ∙ is)) (λ none. absurd none))
+          (has_append x h (e ∷ []) has);
     }
       where
         all : (n : ℕ) → total (λ (u : View). times n u.faults) (set views i w) + told n (h ++ e ∷ []) ≡ total (λ (u : View). times n u.faults) views + told n h
@@ -139,6 +156,8 @@ module _ (k : Start) (views : List View) (h : List Entry) (s : StoreCell) (o : A
       answered = λ n l. by_answered n l (dec_le 1 (times n fresh));
       stops = all_set (λ (u : View). (n : ℕ) → u.stop ≡ Some n → t.stop ≡ Some n) views i w (λ j u there n is. may.stopped n (o.stops j u there n is)) (λ n is. sym stop ∙ is);
       stopped = λ e n has is. may.stopped n (o.stopped e n has is);
+      committed = λ e n has by is. may.stopped n (o.committed e n has by is);
+      asked = o.asked;
     }
       where
         all : (n : ℕ) → total (λ (u : View). times n u.faults) (set views i w) ≡ total (λ (u : View). times n u.faults) views + times n fresh

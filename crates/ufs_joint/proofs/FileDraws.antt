@@ -354,6 +354,8 @@ module _ (stays : FileRequestsStayKept) (names_keep : KeepsNames)
     asked = serves.asked;
     device = λ fault is. let clash : true ≡ false = sym (ap is_excused is) ∙ serves.served in absurd cc;
     stopped = λ fault is. let clash : true ≡ false = sym (ap is_excused is) ∙ serves.served in absurd cc;
+    committed = λ fault by is. let clash : true ≡ false = sym (ap is_excused is) ∙ serves.served in absurd cc;
+    asks = λ fault is. let clash : true ≡ false = sym (ap is_excused is) ∙ serves.served in absurd cc;
     others = λ fd not. serves.other_fds fd (λ is. not (tells_named f.op f.reply (ap is_on_file serves.applied.of_ask.asked ∙ serves.on_file) ∙ ap fd_named serves.applied.of_ask.asked ∙ is));
     next = go;
     goes = λ p _ _. goes p;

@@ -60,7 +60,7 @@ module _ (stays : ExcusesStayKept) (g : Geometry) (visible : Bool) (v : View) (c
   may_draw : MayDraw g visible v f (same_leaves part file cell n pool) ticket
   may_draw = all_stays v client part file cell n pool g visible f ticket hand
       (draws.may_draw g visible v client part n pool f ticket (file_still v client part file cell n pool hand) (record { low = may.low; by_client = may.by_client; asked = may.asked; seq = may.seq })
-      (excuse_still v f ticket x may.replied may.device may.stopped) due
+      (excuse_still v f ticket x may.replied may.device may.stopped may.committed may.asks) due
       (λ seen s start history p known formed legal fds cells knows on. stays s start history (entry_of ticket f) p known legal (ap is_excused may.replied) on))
 
 pub excuses_may_draw : ExcusesStayKept → ExcusesMayDraw

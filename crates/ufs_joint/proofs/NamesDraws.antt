@@ -631,6 +631,8 @@ module _ (lends : LentIsServed) (request : ServedIsRequest) (go_on : RequestsGoO
     asked = by_client.asked;
     device = λ fault is. let clash : true ≡ false = sym (ap is_excused is) ∙ serves.served in absurd cc;
     stopped = λ fault is. let clash : true ≡ false = sym (ap is_excused is) ∙ serves.served in absurd cc;
+    committed = λ fault by is. let clash : true ≡ false = sym (ap is_excused is) ∙ serves.served in absurd cc;
+    asks = λ fault is. let clash : true ≡ false = sym (ap is_excused is) ∙ serves.served in absurd cc;
     others = serves.other_fds;
     next = go;
     goes = λ p _ _. goes p;

@@ -47,7 +47,7 @@ module _ (stays : ExcusesStayKept) (g : Geometry) (visible : Bool) (v : View) (c
       fits = may.fits (tree_after start history) (record { part = part_is; asked = ask_is; files = sized v files commits may.files p a.cells (tree_after start history) a.parts.files; gathered = may.gathered (tree_after start history) part_is ask_is })
 
   pub excuse_may_draw : MayDraw g visible v f (still_leaves part v) ticket
-  excuse_may_draw = may_draw g visible v client part n pool f ticket its_hand asked (excuse_still v f ticket x may.replied may.device may.stopped) due
+  excuse_may_draw = may_draw g visible v client part n pool f ticket its_hand asked (excuse_still v f ticket x may.replied may.device may.stopped may.committed may.asks) due
       (λ seen s start history p known formed legal fds cells knows on. stays s start history (entry_of ticket f) p known legal (ap is_excused may.replied) on)
 
 pub names_excuses_may_draw : ExcusesStayKept → NamesExcusesMayDraw

@@ -10,7 +10,7 @@ use Rattle.ufs_model.specs.declared.data.Entry.{Entry}
 use Rattle.ufs_model.specs.declared.data.Excuse.TheVariants as excuse
 use Rattle.ufs_model.specs.declared.data.Reply.TheVariants as reply
 use Rattle.ufs_model.proofs.Facts.Histories.{legal-push, tree_after-push}
-use Rattle.ufs_crash_laws.specs.Changes.{change_of, changes_of, name_changes, names_by}
+use Rattle.ufs_crash_laws.specs.Changes.{asks_commit, change_of, changes_of, name_changes, names_by}
 use Rattle.ufs_crash_laws.proofs.Facts.Histories.{changes_of-push, name_changes-push}
 use Rattle.ufs_hand_laws.specs.Draws.{entry_of}
 use Rattle.ufs_hand_laws.specs.Owned.{Has, count, find, times}
@@ -68,6 +68,8 @@ Acknowledges g visible v part f ticket = visible ≡ true → (s : StoreState) (
 pub record IsStill (v : View) (f : Fresh) (ticket : ℕ) : Type 0 where
   pub device : (fault : ℕ) → f.reply ≡ reply.Excused (excuse.Device fault) → 1 ≤ times fault v.faults
   pub stopped : (fault : ℕ) → f.reply ≡ reply.Excused (excuse.Stopped fault) → v.stop ≡ Some fault
+  pub committed : (fault : ℕ) → asks_commit f.op ≡ true → f.reply ≡ reply.Excused (excuse.Device fault) → v.stop ≡ Some fault
+  pub asks : (fault : ℕ) → f.reply ≡ reply.Excused (excuse.Stopped fault) → asks_commit f.op ≡ true
   pub leaves : (t : PosixTree) → goes_on t (entry_of ticket f) ≡ t
   pub no_change : (t : PosixTree) (file : ℕ) → change_of file (record { before = t; entry = entry_of ticket f }) ≡ []
   pub no_names : (t : PosixTree) → names_by (record { before = t; entry = entry_of ticket f }) ≡ []
@@ -152,6 +154,8 @@ module _ (g : Geometry) (visible : Bool) (v : View) (client : ℕ) (part : Clien
     asked = asked.asked;
     device = still.device;
     stopped = still.stopped;
+    committed = still.committed;
+    asks = still.asks;
     others = λ _ _. refl;
     next = go;
     goes = λ p cells _. still_goes v p hand.files cells;

@@ -15,7 +15,7 @@ use Rattle.ufs_model.specs.declared.data.Op.{Op}
 use Rattle.ufs_model.specs.declared.data.Op.TheVariants as op
 use Rattle.ufs_model.specs.declared.data.Reply.{Reply}
 use Rattle.ufs_model.specs.declared.data.Reply.TheVariants as reply
-use Rattle.ufs_crash_laws.specs.Changes.{change_asked, change_of, changes_names, file_changed, names_by, names_of}
+use Rattle.ufs_crash_laws.specs.Changes.{asks_commit, change_asked, change_of, changes_names, file_changed, names_by, names_of}
 use Rattle.ufs_crash_laws.specs.Steps.{is_served}
 use Rattle.ufs_crash_laws.specs.declared.data.FileChange.{FileChange}
 use Rattle.ufs_hand_laws.specs.Draws.{entry_of}
@@ -75,6 +75,8 @@ module _ (v : View) (f : Fresh) (ticket : ℕ) (done : f.reply ≡ reply.Done) w
   done_still (inl is) = record {
     device = λ fault e. absurd (unexcused f.reply done (ap is_excused e));
     stopped = λ fault e. absurd (unexcused f.reply done (ap is_excused e));
+    committed = λ fault by e. absurd (unexcused f.reply done (ap is_excused e));
+    asks = λ fault e. absurd (unexcused f.reply done (ap is_excused e));
     leaves = λ t. tree_left t (by_op f.op) (ap leaves_tree is);
     no_change = λ t file. ap (λ o. change_of file (record { before = t; entry = by_op o })) is ∙ ap (λ b. cond {A = List FileChange} b [] []) (and_off (is_served f.reply));
     no_names = λ t. ap (λ o. names_by (record { before = t; entry = by_op o })) is ∙ ap (λ b. cond b (names_of (goes_on t (by_op op.Sync)) ∷ []) []) (and_off (is_served f.reply));
@@ -82,6 +84,8 @@ module _ (v : View) (f : Fresh) (ticket : ℕ) (done : f.reply ≡ reply.Done) w
   done_still (inr x) = record {
     device = λ fault e. absurd (unexcused f.reply done (ap is_excused e));
     stopped = λ fault e. absurd (unexcused f.reply done (ap is_excused e));
+    committed = λ fault by e. absurd (unexcused f.reply done (ap is_excused e));
+    asks = λ fault e. absurd (unexcused f.reply done (ap is_excused e));
     leaves = λ t. tree_left t (by_op f.op) (ap leaves_tree x.1);
     no_change = λ t file. ap (λ o. change_of file (record { before = t; entry = by_op o })) x.1 ∙ ap (λ b. cond {A = List FileChange} b [] []) (and_off (is_served f.reply));
     no_names = λ t. ap (λ o. names_by (record { before = t; entry = by_op o })) x.1 ∙ ap (λ b. cond b (names_of (goes_on t (by_op (op.Fsync x.0))) ∷ []) []) (and_off (is_served f.reply));
@@ -102,10 +106,13 @@ module _ (v : View) (f : Fresh) (ticket : ℕ) (x : Excuse) (replied : f.reply �
   unserved : is_served f.reply ≡ false
   unserved = ap is_served replied
 
-  pub excuse_still : ((fault : ℕ) → x ≡ excuse.Device fault → 1 ≤ times fault v.faults) → ((fault : ℕ) → x ≡ excuse.Stopped fault → v.stop ≡ Some fault) → IsStill v f ticket
-  excuse_still device stopped = record {
+  pub excuse_still : ((fault : ℕ) → x ≡ excuse.Device fault → 1 ≤ times fault v.faults) → ((fault : ℕ) → x ≡ excuse.Stopped fault → v.stop ≡ Some fault)
+      → ((fault : ℕ) → asks_commit f.op ≡ true → x ≡ excuse.Device fault → v.stop ≡ Some fault) → ((fault : ℕ) → x ≡ excuse.Stopped fault → asks_commit f.op ≡ true) → IsStill v f ticket
+  excuse_still device stopped at_commit asks_it = record {
     device = λ fault is. device fault (ap reason_of (sym replied ∙ is));
     stopped = λ fault is. stopped fault (ap reason_of (sym replied ∙ is));
+    committed = λ fault by is. at_commit fault by (ap reason_of (sym replied ∙ is));
+    asks = λ fault is. asks_it fault (ap reason_of (sym replied ∙ is));
     leaves = λ t. excuse_leaves t f.client f.op f.reply (ap is_excused replied);
     no_change = λ t file. ap (λ b. if b && is_number file (file_changed t f.client f.op) then change_asked t f.client f.op else []) unserved;
     no_names = λ t. ap (λ b. if b && changes_names t f.op then names_of (goes_on t (entry_of ticket f)) ∷ [] else []) unserved;

@@ -8,7 +8,7 @@ use Rattle.ufs_model.specs.Asks.{fd_told}
 use Rattle.ufs_model.specs.History.{IsLegal, entries_of, tree_after}
 use Rattle.ufs_model.specs.PosixTree.{IsTree, PosixTree, desc_at}
 use Rattle.ufs_model.specs.declared.data.Entry.{Entry}
-use Rattle.ufs_crash_laws.specs.Changes.{changes_of, name_changes}
+use Rattle.ufs_crash_laws.specs.Changes.{asks_commit, changes_of, name_changes}
 use Rattle.ufs_model.specs.declared.data.Excuse.TheVariants as excuse
 use Rattle.ufs_model.specs.declared.data.Reply.TheVariants as reply
 use Rattle.ufs_hand_laws.specs.Draws.{client_after, entry_of, left_faults}
@@ -109,6 +109,9 @@ pub record MayDraw (g : Geometry) (visible : Bool) (v : View) (f : Fresh) (l : L
   -- an entry is excused by a fault that the hand was told, and so was that the store stopped
   pub device : (fault : ℕ) → f.reply ≡ reply.Excused (excuse.Device fault) → 1 ≤ times fault v.faults
   pub stopped : (fault : ℕ) → f.reply ≡ reply.Excused (excuse.Stopped fault) → v.stop ≡ Some fault
+  -- where it asks for a commit, the hand was told that the store stopped at that fault; and it is told a stop only then
+  pub committed : (fault : ℕ) → asks_commit f.op ≡ true → f.reply ≡ reply.Excused (excuse.Device fault) → v.stop ≡ Some fault
+  pub asks : (fault : ℕ) → f.reply ≡ reply.Excused (excuse.Stopped fault) → asks_commit f.op ≡ true
   -- the client's other descriptors stay
   pub others : (fd : ℕ) → fd_told f.op f.reply ≢ Some fd → fin.get l.fds fd ≡ fin.get self.fds fd
   -- how the parts go on, whatever the others are

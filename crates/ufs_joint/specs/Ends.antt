@@ -7,6 +7,7 @@ use Rattle.ufs_bitmap.specs.Blocks.{BlockSet}
 use Rattle.ufs_model.specs.History.{IsLegal, entries_of, tree_after}
 use Rattle.ufs_model.specs.PosixTree.{IsTree, PosixTree, desc_at}
 use Rattle.ufs_model.specs.declared.data.Entry.{Entry}
+use Rattle.ufs_crash_laws.specs.Changes.{asks_commit}
 use Rattle.ufs_promise_laws.specs.FileRequests.{with_free}
 use Rattle.ufs_model.specs.declared.data.Excuse.TheVariants as excuse
 use Rattle.ufs_model.specs.declared.data.Reply.TheVariants as reply
@@ -109,6 +110,9 @@ pub record IsWhole (k : Start) (word : Word) (v : View) (store : StoreCell) : Ty
   -- the faults that excuse entries are of this session, and a stop is that of the store
   pub faults : (n : ℕ) → 1 ≤ told n history → IsOfSession k store n
   pub stopped : (e : Entry) (n : ℕ) → Has e history → e.reply ≡ reply.Excused (excuse.Stopped n) → store.stop ≡ Some n
+  -- so is the fault that excuses a request which asks for a commit, and no other is told a stop
+  pub committed : (e : Entry) (n : ℕ) → Has e history → asks_commit e.op ≡ true → e.reply ≡ reply.Excused (excuse.Device n) → store.stop ≡ Some n
+  pub asked : (e : Entry) (n : ℕ) → Has e history → e.reply ≡ reply.Excused (excuse.Stopped n) → asks_commit e.op ≡ true
   pub parts : Parts
   pub cells : HasCells v parts
   pub files : (file : ℕ) → IsSome (fin.get parts.files file) → (c : FileCell) × Has (file, c) v.files

@@ -1,10 +1,11 @@
 -- Each fault of the device excuses one entry at most, and a store stopped once.
-use Rattle.std.specs.Prelude.{ℕ, ◌+◌, ◌-◌, ◌^◌, ◌<◌, ◌≤◌, ◌≡◌, List, [], ◌∷◌, Some, min}
+use Rattle.std.specs.Prelude.{ℕ, ◌+◌, ◌-◌, ◌^◌, ◌<◌, ◌≤◌, ◌≡◌, true, List, [], ◌∷◌, Some, min}
 use mathlib.Core.Option.{some}
 use lib.ListN.{get_elem?}
 use Rattle.ufs_model.specs.declared.data.Entry.{Entry}
 use Rattle.ufs_model.specs.declared.data.Excuse.TheVariants as excuse
 use Rattle.ufs_model.specs.declared.data.Reply.TheVariants as reply
+use Rattle.ufs_crash_laws.specs.Changes.{asks_commit}
 use Rattle.ufs_hand_laws.specs.FaultsOnce.{told}
 use Rattle.ufs_hand_laws.specs.Owned.{Has, times, total}
 use Rattle.ufs_joint.specs.Cells.{Start, StoreCell, View}
@@ -27,3 +28,6 @@ pub record AreFaultsOnce (k : Start) (views : List View) (history : List Entry) 
   pub answered : (n : ℕ) → 1 ≤ total (λ (v : View). times n v.faults) views + told n history → IsOfSession k s n
   pub stops : (i : ℕ) (v : View) → get_elem? views i ≡ some v → (n : ℕ) → v.stop ≡ Some n → s.stop ≡ Some n
   pub stopped : (e : Entry) (n : ℕ) → Has e history → e.reply ≡ reply.Excused (excuse.Stopped n) → s.stop ≡ Some n
+  -- the store stopped at the fault that excuses a request which asks for a commit, and no other is told that it stopped
+  pub committed : (e : Entry) (n : ℕ) → Has e history → asks_commit e.op ≡ true → e.reply ≡ reply.Excused (excuse.Device n) → s.stop ≡ Some n
+  pub asked : (e : Entry) (n : ℕ) → Has e history → e.reply ≡ reply.Excused (excuse.Stopped n) → asks_commit e.op ≡ true

@@ -113,7 +113,8 @@ AcknowledgementsMayDraw = (g : Geometry) (visible : Bool) (v : View) (client : �
 
 -- ---- an excuse
 
--- The request is excused by a cause that fits it on whichever tree has the file. The hand was told the fault, or that the store stopped.
+-- The request is excused by a cause that fits it on whichever tree has the file. The hand was told the fault, or that the store stopped:
+-- where the request asks for a commit, at that fault.
 pub record MayExcuse (v : View) (client : ℕ) (part : ClientPart) (file : ℕ) (cell : FileCell) (f : Fresh) (ask : Ask) (x : Excuse) : Type 0 where
   pub low : client < 16
   pub by_client : f.client ≡ client
@@ -128,6 +129,8 @@ pub record MayExcuse (v : View) (client : ℕ) (part : ClientPart) (file : ℕ) 
   pub replied : f.reply ≡ reply.Excused x
   pub device : (fault : ℕ) → x ≡ excuse.Device fault → 1 ≤ times fault v.faults
   pub stopped : (fault : ℕ) → x ≡ excuse.Stopped fault → v.stop ≡ Some fault
+  pub committed : (fault : ℕ) → asks_commit f.op ≡ true → x ≡ excuse.Device fault → v.stop ≡ Some fault
+  pub asks : (fault : ℕ) → x ≡ excuse.Stopped fault → asks_commit f.op ≡ true
   pub fits : (t : PosixTree) → IsFileOf cell.value.file t → IsAsk t ask → ExcuseFits t ask.client ask.op x
 
 abbrev pub ExcusesMayDraw : Type 0

@@ -140,7 +140,7 @@ NamesRequestsMayDraw g = (visible : Bool) (v : View) (client : ℕ) (part : Clie
 -- ---- an excuse
 
 -- The request is excused by a cause that fits it on whichever tree has the names and these files, which are those that it touches. The
--- hand was told the fault, or that the store stopped.
+-- hand was told the fault, or that the store stopped: where the request asks for a commit, at that fault.
 pub record MayExcuseNames (v : View) (part : ClientPart) (names : NamesCell) (gotten : Files) (commits : Commits) (f : Fresh) (ask : Ask) (x : Excuse) : Type 0 where
   pub ask_client : f.client ≡ ask.client
   pub same_op : f.op ≡ ask.op
@@ -150,6 +150,8 @@ pub record MayExcuseNames (v : View) (part : ClientPart) (names : NamesCell) (go
   pub files : AreFilesOfCells v.files gotten commits
   pub device : (fault : ℕ) → x ≡ excuse.Device fault → 1 ≤ times fault v.faults
   pub stopped : (fault : ℕ) → x ≡ excuse.Stopped fault → v.stop ≡ Some fault
+  pub committed : (fault : ℕ) → asks_commit f.op ≡ true → x ≡ excuse.Device fault → v.stop ≡ Some fault
+  pub asks : (fault : ℕ) → x ≡ excuse.Stopped fault → asks_commit f.op ≡ true
   pub fits : (t : PosixTree) → IsAsked t names.value ask gotten → ExcuseFits t ask.client ask.op x
 
 abbrev pub NamesExcusesMayDraw : Type 0

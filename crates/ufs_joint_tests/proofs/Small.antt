@@ -231,6 +231,8 @@ module _ (n : NamesPart) (s : StoreState) (tickets : ℕ) where
     asked = refl;
     device = λ fault is. cc;
     stopped = λ fault is. cc;
+    committed = λ fault by is. cc;
+    asks = λ fault is. cc;
     others = λ fd not. refl;
     next = λ q. q;
     goes = λ q cells pool. record { files_by = λ file. refl; commits_by = λ file. refl; names_by = λ u c has. cells.names u c has; names_stay = λ none. cc };

@@ -33,6 +33,7 @@ impl NotedNames {
         ensures telling { is_some (T.tells door.new) ≡ is_some (T.tells door.old) }
         ensures faults { hand.new.faults ≡ told_list (fault_told (fault_in result)) ++ hand.old.faults }
         ensures stop { (fault : ℕ) → result ≡ Err (refusal.Stopped fault) → hand.new.stop ≡ Some fault }
+        ensures stops { (fault : ℕ) → fault_told (fault_in result) ≡ Some fault → hand.new.stop ≡ Some fault }
         ensures halts { StopsByFault (T.tells door.old) (T.tells door.new) (fault_in result) }
         ensures halted { TellsStop (T.tells door.old) result }
         ensures stopped { TellsWhere (T.tells door.new) result }

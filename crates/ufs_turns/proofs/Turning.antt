@@ -1,6 +1,6 @@
 -- A turn of the store between its two marks, whatever it is about.
 use Rattle.std.proofs.Common.{◌≡◌, zero, suc, ◌+◌, ◌-◌, ◌^◌, ◌<◌, ◌++◌, cond, eqb, eqb-true, leb, map, min, Option, ⊎_elim, ℕ, ◌≤◌, ◌⊎◌, inl, inr, Bool, true, false, List, [], ◌∷◌, length, Some, None, sym, refl, ap, ◌∙◌, subst, arith}
-use Rattle.std.specs.Prelude.{IsTrue, drop}
+use Rattle.std.specs.Prelude.{Err, IsTrue, Result, drop}
 use Rattle.std.proofs.lemmas.Bool.{leb-false}
 use Rattle.std.proofs.lemmas.List.{length-append, map-append}
 use Rattle.ufs_disk.specs.Disk.{IsWhole}
@@ -8,9 +8,11 @@ use Rattle.ufs_disk.specs.Moments.{all}
 use Rattle.ufs_model.specs.declared.data.Entry.{Entry}
 use Rattle.ufs_hand_laws.specs.Owned.{Has, one, times}
 use Rattle.ufs_hand_laws.specs.Parts.{Cells, Stretch}
-use Rattle.ufs_hand_laws.proofs.Owning.{has_append}
-use Rattle.ufs_store.specs.Refusals.{IsTold}
+use Rattle.ufs_hand_laws.proofs.Owning.{has_append, none_some}
+use Rattle.ufs_store.specs.Refusals.{IsTold, fault_in, stop_after}
 use Rattle.ufs_store.specs.State.{StoreState, geometry_of_store}
+use Rattle.ufs_store.specs.declared.fault.StoreFault.{StoreFault}
+use Rattle.ufs_store.specs.declared.fault.StoreFault.TheVariants as refusal
 use Rattle.ufs_store_steps.specs.Cells.{cells_of}
 use Rattle.ufs_promise_laws.specs.Parts.{Parts}
 use Rattle.ufs_joint.specs.Cells.{Start, StoreCell, View, store_since}
@@ -61,6 +63,20 @@ faults_told was left (Some m) cause stops = by (leb (2 ^ 64 - 1) m) refl
 
         new_one : (n : ℕ) → 1 ≤ times n (m ∷ []) → (was.faults < n) × (n ≤ left.faults) × (n < 2 ^ 64 - 1)
         new_one n l = let a = told_is n m l in let b = cause.rose in let c = cause.number in let d = below in (omega (arith, a, b, c, d), omega (arith, a, c), omega (arith, a, d))
+
+-- A fault that is told is the one by which the call failed.
+told_in : (o : Option ℕ) (n : ℕ) → fault_told o ≡ Some n → o ≡ Some n
+told_in None n is = absurd (none_some n is)
+told_in (Some m) n is = by (leb (2 ^ 64 - 1) m) is
+  where
+    by : (b : Bool) → cond b None (Some m) ≡ Some n → Some m ≡ Some n
+    by true none = absurd (none_some n none)
+    by false some = some
+
+-- The store stopped at the fault that a commit tells: one that had stopped before tells none.
+pub stop_told : {A : Type 0} (before behind : Option ℕ) (r : Result A StoreFault) (n : ℕ) → behind ≡ stop_after before (fault_in r) → ((fault : ℕ) → before ≡ Some fault → r ≡ Err (refusal.Stopped fault)) → fault_told (fault_in r) ≡ Some n → behind ≡ Some n
+stop_told None behind r n halts halted told = halts ∙ told_in (fault_in r) n told
+stop_told {A} (Some fault) behind r n halts halted told = absurd (none_some n (sym (ap (λ (q : Result A StoreFault). fault_told (fault_in q)) (halted fault refl)) ∙ told))
 
 -- ---- between the marks
 

@@ -108,6 +108,7 @@ pub(crate) fn commit_lent<N: Naming, D: Door>(
     ensures free { (D.store store.new).unassigned.free ≡ (D.store store.old).unassigned.free }
     ensures faults { hand.new.faults ≡ told_list (fault_told (fault_in result)) ++ hand.old.faults }
     ensures stop { (fault : ℕ) → result ≡ Err (refusal.Stopped fault) → hand.new.stop ≡ Some fault }
+    ensures stops { (fault : ℕ) → fault_told (fault_in result) ≡ Some fault → hand.new.stop ≡ Some fault }
     ensures halts { (D.store store.new).stop ≡ stop_after (D.store store.old).stop (fault_in result) }
     ensures halted { (fault : ℕ) → (D.store store.old).stop ≡ Some fault → result ≡ Err (refusal.Stopped fault) }
     ensures stopped { (fault : ℕ) → result ≡ Err (refusal.Stopped fault) → (D.store store.new).stop ≡ Some fault }

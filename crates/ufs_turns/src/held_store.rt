@@ -94,6 +94,7 @@ impl<N: Naming, D: Door, L: Ledger> HeldStore<N, D, L> {
         ensures unfreed { OnErr result (free_in self.new.store ≡ free_in self.old.store) }
         ensures faults { hand.new.faults ≡ told_list (fault_told (fault_in result)) ++ hand.old.faults }
         ensures stop { (fault : ℕ) → result ≡ Err (refusal.Stopped fault) → hand.new.stop ≡ Some fault }
+        ensures stops { (fault : ℕ) → fault_told (fault_in result) ≡ Some fault → hand.new.stop ≡ Some fault }
         ensures halts { stop_in self.new.store ≡ stop_after (stop_in self.old.store) (fault_in result) }
         ensures halted { (fault : ℕ) → stop_in self.old.store ≡ Some fault → result ≡ Err (refusal.Stopped fault) }
         ensures stopped { (fault : ℕ) → result ≡ Err (refusal.Stopped fault) → stop_in self.new.store ≡ Some fault }
@@ -162,6 +163,7 @@ impl<N: Naming, D: Door, L: Ledger> HeldStore<N, D, L> {
         ensures free { free_in self.new.store ≡ free_in self.old.store }
         ensures faults { hand.new.faults ≡ told_list (fault_told (fault_in result)) ++ hand.old.faults }
         ensures stop { (fault : ℕ) → result ≡ Err (refusal.Stopped fault) → hand.new.stop ≡ Some fault }
+        ensures stops { (fault : ℕ) → fault_told (fault_in result) ≡ Some fault → hand.new.stop ≡ Some fault }
         ensures halts { stop_in self.new.store ≡ stop_after (stop_in self.old.store) (fault_in result) }
         ensures halted { (fault : ℕ) → stop_in self.old.store ≡ Some fault → result ≡ Err (refusal.Stopped fault) }
         ensures stopped { (fault : ℕ) → result ≡ Err (refusal.Stopped fault) → stop_in self.new.store ≡ Some fault }
@@ -347,6 +349,7 @@ fn sync_lent<N: Naming, D: Door>(
     ensures unfreed { OnErr result ((D.store store.new).unassigned.free ≡ (D.store store.old).unassigned.free) }
     ensures faults { hand.new.faults ≡ told_list (fault_told (fault_in result)) ++ hand.old.faults }
     ensures stop { (fault : ℕ) → result ≡ Err (refusal.Stopped fault) → hand.new.stop ≡ Some fault }
+    ensures stops { (fault : ℕ) → fault_told (fault_in result) ≡ Some fault → hand.new.stop ≡ Some fault }
     ensures halts { (D.store store.new).stop ≡ stop_after (D.store store.old).stop (fault_in result) }
     ensures halted { (fault : ℕ) → (D.store store.old).stop ≡ Some fault → result ≡ Err (refusal.Stopped fault) }
     ensures stopped { (fault : ℕ) → result ≡ Err (refusal.Stopped fault) → (D.store store.new).stop ≡ Some fault }

@@ -53,6 +53,7 @@ pub trait Turns<N: Naming> {
         ensures answers { answers self.new ≡ answers self.old }
         ensures faults { hand.new.faults ≡ told_list (fault_told (fault_in result)) ++ hand.old.faults }
         ensures stop { (fault : ℕ) → result ≡ Err (refusal.Stopped fault) → hand.new.stop ≡ Some fault }
+        ensures stops { (fault : ℕ) → fault_told (fault_in result) ≡ Some fault → hand.new.stop ≡ Some fault }
         ensures halts { StopsByFault (tells self.old) (tells self.new) (fault_in result) }
         ensures halted { TellsStop (tells self.old) result }
         ensures stopped { TellsWhere (tells self.new) result }
@@ -104,6 +105,7 @@ pub trait Turns<N: Naming> {
         ensures answers { answers self.new ≡ answers self.old }
         ensures faults { hand.new.faults ≡ told_list (fault_told (fault_in result)) ++ hand.old.faults }
         ensures stop { (fault : ℕ) → result ≡ Err (refusal.Stopped fault) → hand.new.stop ≡ Some fault }
+        ensures stops { (fault : ℕ) → fault_told (fault_in result) ≡ Some fault → hand.new.stop ≡ Some fault }
         ensures halts { StopsByFault (tells self.old) (tells self.new) (fault_in result) }
         ensures halted { TellsStop (tells self.old) result }
         ensures stopped { TellsWhere (tells self.new) result }

@@ -23,3 +23,6 @@ returns-clause-faults g c = c.hand_on.ensures.faults ∙ ap (λ (fs : List ℕ).
 
 pub returns-clause-stop : goal.returns-clause-stop
 returns-clause-stop g c fault is = c.hand_on.ensures.stop fault (c.commit_own-done.ensures.stop fault is)
+
+pub returns-clause-stops : goal.returns-clause-stops
+returns-clause-stops g c fault told = c.hand_on.ensures.stop fault (c.commit_own-done.ensures.stops fault told)

@@ -125,6 +125,9 @@ returns-in-Err-clause-faults g c = c.sync_file.ensures.faults ∙ (λ i. told_li
 pub returns-in-Err-clause-stop : goal.returns-in-Err-clause-stop
 returns-in-Err-clause-stop g c fault is = c.sync_file.ensures.stop fault (c.in-Err.is ∙ ap (λ (r : Result (Unit {0}) StoreFault). Err (fault_of_unit c.in-Err.fault r)) is)
 
+pub returns-in-Err-clause-stops : goal.returns-in-Err-clause-stops
+returns-in-Err-clause-stops g c fault told = c.sync_file.ensures.stops fault (ap (λ (r : Result ℕ StoreFault). fault_told (fault_in r)) c.in-Err.is ∙ told)
+
 pub returns-in-Err-clause-halts : goal.returns-in-Err-clause-halts
 returns-in-Err-clause-halts g c = subst (λ (r : Result ℕ StoreFault). StopsByFault (g.T.Turns.tells c.args.door.now) (g.T.Turns.tells c.sync_file.new.self) (fault_in r)) c.in-Err.is c.sync_file.ensures.halts
 

@@ -29,6 +29,8 @@ draw_reply-entry-requires g c =
       may = λ ticket. may_excuse g.N.Naming.start c.join.new.self f.0 x.file.file held.cell f.1 f.2 c.args.ask c.args.by ticket hand f.4 c.an_excuse_is_drawn.ensures cause
           (λ fault is. subst (λ (v : View). 1 ≤ times fault v.faults) (sym c.join.ensures) (told_joined fault own.faults c.args.guest.faults (its_fault cause own.faults fault c.requires.told is)))
           (λ fault is. subst (λ (v : View). v.stop ≡ Some fault) (sym c.join.ensures) (stop_joined own.stop c.args.guest.stop fault (c.requires.stopped fault is)))
+          (λ fault by is. subst (λ (v : View). v.stop ≡ Some fault) (sym c.join.ensures) (stop_joined own.stop c.args.guest.stop fault (c.requires.committed fault by is)))
+          c.requires.asks
           (λ t of asked. excuse_fits c.a_file_goes_on_by_itself.ensures.refusals x.file c.args.ask cause f.4.on_file c.requires.named c.requires.allowed c.requires.kind t (subst (λ (q : DurableState). IsFileOf q.file t) held.value of) asked);
     }
 

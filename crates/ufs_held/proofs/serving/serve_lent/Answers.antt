@@ -42,6 +42,11 @@ serve_excused-requires-clause-stopped g c fault is =
     let wrong : IsTrue (is_own (refusal.Stopped fault)) = subst (λ (f : StoreFault). IsTrue (is_own f)) (c.excuse_of-cause.ensures.stopped fault is) c.in-Err.ensures.refused in
     absurd cc
 
+pub serve_excused-requires-clause-asks : goal.serve_excused-requires-clause-asks
+serve_excused-requires-clause-asks g c fault is =
+    let wrong : IsTrue (is_own (refusal.Stopped fault)) = subst (λ (f : StoreFault). IsTrue (is_own f)) (c.excuse_of-cause.ensures.stopped fault is) c.in-Err.ensures.refused in
+    absurd cc
+
 own_is : (f : StoreFault) → IsTrue (is_own f) → is_no_space f ≡ false
 own_is (refusal.Device n) e = refl
 own_is (refusal.Lack w) e = refl

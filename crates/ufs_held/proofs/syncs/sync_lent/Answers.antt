@@ -12,6 +12,7 @@ use Rattle.ufs_model.specs.declared.data.Excuse.TheVariants as excuse
 use Rattle.ufs_model.specs.declared.data.PartName.TheVariants.{File}
 use Rattle.ufs_model.specs.declared.data.Reply.{Reply}
 use Rattle.ufs_model.specs.declared.data.Reply.TheVariants as reply
+use Rattle.ufs_crash_laws.specs.Changes.{asks_commit}
 use Rattle.ufs_hand_laws.specs.Draws.{left_faults}
 use Rattle.ufs_hand_laws.specs.Parts.{ClientPart}
 use Rattle.ufs_store.specs.declared.fault.StoreFault.{StoreFault}
@@ -23,7 +24,7 @@ use Rattle.ufs_held.specs.Drawn.{fresh_of}
 use Rattle.ufs_held.specs.Held.{IsHeld, first_cell}
 use Rattle.ufs_held.specs.Together.{still_of}
 use Rattle.ufs_held.proofs.After.{acknowledged, answered_still, came_below, failed_first, first_held, guest_still, held_failed, held_still, held_synced, joined_hand, kept_value, lends, same_part, still_first}
-use Rattle.ufs_held.proofs.Excusing.{not_done, one_excuse}
+use Rattle.ufs_held.proofs.Excusing.{not_done, one_excuse, told_alone}
 use Rattle.ufs_held.proofs.Replying.{may_acknowledge}
 use Rattle.ufs_held.proofs.Stopping.{done_stops, failed_halted, failed_stops, passed_going}
 use Rattle.ufs_held.proofs.syncs.sync_lent.Goals as goal
@@ -200,6 +201,13 @@ serve_excused-requires-clause-told g c =
 
 pub serve_excused-requires-clause-stopped : goal.serve_excused-requires-clause-stopped
 serve_excused-requires-clause-stopped g c fault is = c.sync_file.ensures.stop fault (c.in-Err.is ∙ ap Err (c.excuse_of-cause.ensures.stopped fault is))
+
+pub serve_excused-requires-clause-committed : goal.serve_excused-requires-clause-committed
+serve_excused-requires-clause-committed g c fault by is =
+    c.sync_file.ensures.stops fault (ap (λ (r : Result ℕ StoreFault). fault_told (fault_in r)) c.in-Err.is ∙ told_alone (fault_told (fault_of c.in-Err.fault)) c.excuse_of-cause.result fault c.excuse_of-cause.ensures.used is)
+
+pub serve_excused-requires-clause-asks : goal.serve_excused-requires-clause-asks
+serve_excused-requires-clause-asks g c fault is = ap asks_commit c.requires.fsync.1
 
 pub returns-in-Err-clause-replied : goal.returns-in-Err-clause-replied
 returns-in-Err-clause-replied g c = subst IsSyncReply (sym c.serve_excused.ensures.replied) c.excuse_of-cause.ensures.kind

@@ -45,6 +45,7 @@ returns g c =
       err = on_err r (λ a. first ∙ a ∙ sym (first_held x own held)) went.err;
       faults = ap (λ (v : View). v.faults) left ∙ t.faults ∙ ap (λ (fs : List ℕ). told_list (fault_told (fault_in r)) ++ fs) (ap (λ (v : View). v.faults) joined ∙ append-nil guest.faults);
       stop = λ fault is. ap (λ (v : View). v.stop) left ∙ t.stop fault is;
+      stops = λ fault told. ap (λ (v : View). v.stop) left ∙ t.stops fault told;
       free = t.free;
       telling = t.telling;
       halts = t.halts;

@@ -10,7 +10,7 @@ use Rattle.ufs_store.specs.declared.fault.StoreFault.{StoreFault}
 use Rattle.ufs_turns.specs.Lent.{StopsByFault}
 use Rattle.ufs_turns.specs.Told.{fault_told, told_list}
 use Rattle.ufs_held.specs.Asking.{IsSyncReply}
-use Rattle.ufs_held.proofs.Excusing.{not_done, not_excused, one_excuse}
+use Rattle.ufs_held.proofs.Excusing.{not_done, not_excused, one_excuse, told_alone}
 use Rattle.ufs_held.proofs.Stopping.{done_stops, failed_halted, failed_stops, passed_going}
 use Rattle.ufs_held_names.specs.Dirs.{IsDone, IsRefused}
 use Rattle.ufs_held_names.specs.HeldNames.{AreCommitted, first_names}
@@ -71,6 +71,7 @@ answer-requires-in-Err-clause-may g c =
     IsRefused c.excuse_of-cause.result refl e.kind c.args.guest.faults
     (m.faults ∙ ap (λ (q : Result (Unit {0}) StoreFault). told_list (fault_told (fault_in q)) ++ c.args.guest.faults) c.in-Err.is ∙ ap (λ (fs : List ℕ). fs ++ c.args.guest.faults) e.used)
     (λ fault is. m.stop fault (c.in-Err.is ∙ ap Err (e.stopped fault is)))
+    (λ fault is. m.stops fault (ap (λ (q : Result (Unit {0}) StoreFault). fault_told (fault_in q)) c.in-Err.is ∙ told_alone (fault_told (fault_of c.in-Err.fault)) c.excuse_of-cause.result fault e.used is))
 
 pub returns-in-Err-clause-synced : goal.returns-in-Err-clause-synced
 returns-in-Err-clause-synced g c =

@@ -92,6 +92,9 @@ returns-in-Err-clause-faults g c = c.commit_lent.ensures.faults ∙ ap (λ (r : 
 pub returns-in-Err-clause-stop : goal.returns-in-Err-clause-stop
 returns-in-Err-clause-stop g c fault is = c.commit_lent.ensures.stop fault (c.in-Err.is ∙ is)
 
+pub returns-in-Err-clause-stops : goal.returns-in-Err-clause-stops
+returns-in-Err-clause-stops g c fault told = c.commit_lent.ensures.stops fault (ap (λ (r : Result (Unit {0}) StoreFault). fault_told (fault_in r)) c.in-Err.is ∙ told)
+
 pub returns-in-Err-clause-halts : goal.returns-in-Err-clause-halts
 returns-in-Err-clause-halts g c = subst (λ (q : Result (Unit {0}) StoreFault). StopsByFault (g.T.Turns.tells c.args.door.now) (g.T.Turns.tells c.commit_lent.new.door) (fault_in q)) c.in-Err.is c.commit_lent.ensures.halts
 

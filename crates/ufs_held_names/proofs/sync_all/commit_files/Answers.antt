@@ -116,5 +116,11 @@ returns-in_err-commit_born-clause-stopped g c =
     let same : c.commit_born.result ≡ c.from_residual.result = c.in_err-commit_born.was ∙ sym (p.1 ∙ ap Err p.2) in
     subst (λ (r : Result (Unit {0}) StoreFault). TellsWhere (g.T.Turns.tells c.commit_born.new.door) r) same c.commit_born.ensures.stopped
 
+pub returns-in_err-commit_born-clause-stops : goal.returns-in_err-commit_born-clause-stops
+returns-in_err-commit_born-clause-stops g c fault told =
+    let p = err_from_is_err_and c.from_residual.result c.from_residual.ensures.1 in
+    let same : c.commit_born.result ≡ c.from_residual.result = c.in_err-commit_born.was ∙ sym (p.1 ∙ ap Err p.2) in
+    c.commit_born.ensures.stops fault (ap (λ (r : Result (Unit {0}) StoreFault). fault_told (fault_in r)) same ∙ told)
+
 pub returns-clause-stopped : goal.returns-clause-stopped
 returns-clause-stopped g c = passed_where (Unit {0}) (g.T.Turns.tells c.loop-place.door) tt

@@ -9,6 +9,7 @@ use Rattle.ufs_model.specs.FileCalls.{file_refusal}
 use Rattle.ufs_model.specs.declared.data.Desc.{Desc}
 use Rattle.ufs_model.specs.declared.data.PartName.TheVariants.{File}
 use Rattle.ufs_model.specs.declared.data.Reply.TheVariants.{Excused}
+use Rattle.ufs_crash_laws.specs.Changes.{asks_commit}
 use Rattle.ufs_hand_laws.specs.Draws.{left_faults}
 use Rattle.ufs_hand_laws.specs.Owned.{times}
 use Rattle.ufs_hand_laws.specs.Parts.{ClientPart}
@@ -46,6 +47,8 @@ draw_reply-entry-requires g c =
           subst (λ (v : View). 1 ≤ times fault v.faults) (sym c.join.ensures)
           (told_joined fault c.args.guest.faults own.faults (subst (λ (fs : List ℕ). 1 ≤ times fault fs) (sym rest.1) (told_joined fault (faults_of cause) rest.0 (its_fault cause (faults_of cause) fault refl is)))))
           (λ fault is. subst (λ (v : View). v.stop ≡ Some fault) (sym c.join.ensures) (stop_joined c.args.guest.stop own.stop fault (c.requires.stopped fault is)))
+          (λ fault by is. subst (λ (v : View). v.stop ≡ Some fault) (sym c.join.ensures) (stop_joined c.args.guest.stop own.stop fault (c.requires.committed fault is)))
+          (λ fault is. ap asks_commit c.requires.fsync.1)
           (λ t of asked. excuse_fits c.a_file_goes_on_by_itself.ensures.refusals x.file c.args.ask cause f.4.on_file named allowed c.requires.kind t (subst (λ (q : DurableState). IsFileOf q.file t) there.value of) asked);
     }
 

@@ -14,7 +14,7 @@ use Rattle.ufs_store.specs.declared.fault.StoreFault.{StoreFault}
 use Rattle.ufs_turns.specs.Lent.{StopsByFault}
 use Rattle.ufs_turns.specs.Told.{fault_told, told_list}
 use Rattle.ufs_held.specs.Asking.{IsGuest, IsSyncReply}
-use Rattle.ufs_held.proofs.Excusing.{not_done, one_excuse}
+use Rattle.ufs_held.proofs.Excusing.{not_done, one_excuse, told_alone}
 use Rattle.ufs_held.proofs.Stopping.{failed_halted, failed_stops, passed_going, reply_twice}
 use Rattle.ufs_noted.specs.Noted.{Noted}
 use Rattle.ufs_held_names.specs.HeldNames.{AreCommitted, first_names}
@@ -87,6 +87,10 @@ excuse_file-requires-clause-told g c = (
 
 pub excuse_file-requires-clause-stopped : goal.excuse_file-requires-clause-stopped
 excuse_file-requires-clause-stopped g c fault is = c.commit_lent.ensures.stop fault (c.in-Err.is ∙ ap Err (c.excuse_of-cause.ensures.stopped fault is))
+
+pub excuse_file-requires-clause-committed : goal.excuse_file-requires-clause-committed
+excuse_file-requires-clause-committed g c fault is =
+    c.commit_lent.ensures.stops fault (ap (λ (r : Result (Unit {0}) StoreFault). fault_told (fault_in r)) c.in-Err.is ∙ told_alone (fault_told (fault_of c.in-Err.fault)) c.excuse_of-cause.result fault c.excuse_of-cause.ensures.used is)
 
 pub returns-in-Err-clause-synced : goal.returns-in-Err-clause-synced
 returns-in-Err-clause-synced g c =

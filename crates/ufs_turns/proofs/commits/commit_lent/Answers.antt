@@ -8,9 +8,10 @@ use Rattle.ufs_names.specs.NamesPart.{NamesPart}
 use Rattle.ufs_joint.specs.Turns.{MayEndTurn}
 use Rattle.ufs_store.specs.Refusals.{fault_in, fault_of, stop_after}
 use Rattle.ufs_turns.specs.NamesLent.{HaveNotPassed, HavePassed, names_turn}
-use Rattle.ufs_turns.specs.Told.{told_list}
+use Rattle.ufs_turns.specs.Told.{fault_told, told_list}
 use Rattle.ufs_turns.proofs.Committing.{beside_then, commit_ends, commit_went, committed_then, failed_then, failure_ends, failure_went, faults_then, fresh_there, stop_then, store_then}
 use Rattle.ufs_turns.proofs.Syncing.{told_is_same}
+use Rattle.ufs_turns.proofs.Turning.{stop_told}
 use Rattle.ufs_turns.proofs.commits.commit_lent.Goals as goal
 
 pub commit_store-requires-clause-there : goal.commit_store-requires-clause-there
@@ -105,6 +106,13 @@ returns-in-Err-clause-stop g c fault is =
     let t = g.D.Door.store c.commit_store.new.store in
     stop_then g.N.Naming.start g.D.Door.visible g.D.Door.keeps c.begin_turn.result c.args.hand.now c.begin_turn.new.hand s t c.begin_turn.ensures.knows c.requires.store c.begin_turn.ensures.begun false c.told_of-told.result c.end_names-in-Err.result c.end_names-in-Err.new.hand c.end_names-in-Err.ensures.ended
     ∙ c.commit_store.ensures.stopped fault (c.in-Err.is ∙ is)
+
+pub returns-in-Err-clause-stops : goal.returns-in-Err-clause-stops
+returns-in-Err-clause-stops g c fault is =
+    let s = g.D.Door.store c.args.store.now in
+    let t = g.D.Door.store c.commit_store.new.store in
+    stop_then g.N.Naming.start g.D.Door.visible g.D.Door.keeps c.begin_turn.result c.args.hand.now c.begin_turn.new.hand s t c.begin_turn.ensures.knows c.requires.store c.begin_turn.ensures.begun false c.told_of-told.result c.end_names-in-Err.result c.end_names-in-Err.new.hand c.end_names-in-Err.ensures.ended
+    ∙ stop_told (g.D.Door.store c.args.store.now).stop (g.D.Door.store c.commit_store.new.store).stop c.commit_store.result fault c.commit_store.ensures.halts c.commit_store.ensures.halted (ap (λ (r : _). fault_told (fault_in r)) c.in-Err.is ∙ is)
 
 pub returns-in-Ok-clause-free : goal.returns-in-Ok-clause-free
 returns-in-Ok-clause-free g c = ap (λ (q : Space). q.free) c.in-Ok.ensures.ok.tried.unassigned

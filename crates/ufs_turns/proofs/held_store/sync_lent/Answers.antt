@@ -14,10 +14,11 @@ use Rattle.ufs_joint.specs.Turns.{MayEndTurn}
 use Rattle.ufs_store.specs.Refusals.{fault_in, fault_of, stop_after}
 use Rattle.ufs_store.specs.State.{geometry_of_store}
 use Rattle.ufs_turns.specs.HeldStore.{sync_turn}
-use Rattle.ufs_turns.specs.Told.{told_list}
+use Rattle.ufs_turns.specs.Told.{fault_told, told_list}
 use Rattle.ufs_turns.specs.Syncs.{HasNotPassed, HasPassed}
 use Rattle.ufs_turns.specs.Lent.{IsFileIn}
 use Rattle.ufs_turns.proofs.Syncing.{faults_then, told_is_same, stop_then, commit_went, failure_went, commit_ends, committed_then, failure_ends, file_sound, may_sync, store_then}
+use Rattle.ufs_turns.proofs.Turning.{stop_told}
 use Rattle.ufs_turns.proofs.held_store.sync_lent.Goals as goal
 
 here : (name : ℕ) (cell : FileCell) (v : View) → IsFileIn name cell v → Has (name, cell) v.files
@@ -129,6 +130,12 @@ returns-in-Err-clause-stop g c fault is =
     let f = c.requires.file in
     stop_then g.N.Naming.start g.D.Door.visible g.D.Door.keeps c.begin_turn.result c.args.hand.now c.begin_turn.new.hand (g.D.Door.store c.args.store.now) (g.D.Door.store c.sync_store.new.store) c.begin_turn.ensures.knows f.0 f.1 f.2 c.requires.store c.begin_turn.ensures.begun false c.told_of-told.result (state_of c.sync_store.new.file c.sync_store.new.commits) c.end_turn-in-Err.result c.end_turn-in-Err.new.hand c.end_turn-in-Err.ensures.ended
     ∙ c.sync_store.ensures.stopped fault (c.in-Err.is ∙ is)
+
+pub returns-in-Err-clause-stops : goal.returns-in-Err-clause-stops
+returns-in-Err-clause-stops g c fault is =
+    let f = c.requires.file in
+    stop_then g.N.Naming.start g.D.Door.visible g.D.Door.keeps c.begin_turn.result c.args.hand.now c.begin_turn.new.hand (g.D.Door.store c.args.store.now) (g.D.Door.store c.sync_store.new.store) c.begin_turn.ensures.knows f.0 f.1 f.2 c.requires.store c.begin_turn.ensures.begun false c.told_of-told.result (state_of c.sync_store.new.file c.sync_store.new.commits) c.end_turn-in-Err.result c.end_turn-in-Err.new.hand c.end_turn-in-Err.ensures.ended
+    ∙ stop_told (g.D.Door.store c.args.store.now).stop (g.D.Door.store c.sync_store.new.store).stop c.sync_store.result fault c.sync_store.ensures.halts c.sync_store.ensures.halted (ap (λ (r : _). fault_told (fault_in r)) c.in-Err.is ∙ is)
 
 pub returns-in-Ok-clause-freed : goal.returns-in-Ok-clause-freed
 returns-in-Ok-clause-freed g c = c.in-Ok.ensures.ok.freed

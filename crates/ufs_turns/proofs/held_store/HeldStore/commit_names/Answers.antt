@@ -69,6 +69,9 @@ returns-clause-faults g c = c.give_back.ensures.faults ∙ c.commit_lent-committ
 pub returns-clause-stop : goal.returns-clause-stop
 returns-clause-stop g c fault is = c.give_back.ensures.stop ∙ c.commit_lent-committed.ensures.stop fault is
 
+pub returns-clause-stops : goal.returns-clause-stops
+returns-clause-stops g c fault is = c.give_back.ensures.stop ∙ c.commit_lent-committed.ensures.stops fault is
+
 pub returns-clause-free : goal.returns-clause-free
 returns-clause-free g c =
     let t = g.D.Door.store c.commit_lent-committed.new.store in

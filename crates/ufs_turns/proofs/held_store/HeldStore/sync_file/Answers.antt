@@ -35,6 +35,9 @@ returns-clause-faults g c = c.give_back.ensures.faults ∙ c.sync_lent-synced.en
 pub returns-clause-stop : goal.returns-clause-stop
 returns-clause-stop g c fault is = c.give_back.ensures.stop ∙ c.sync_lent-synced.ensures.stop fault is
 
+pub returns-clause-stops : goal.returns-clause-stops
+returns-clause-stops g c fault is = c.give_back.ensures.stop ∙ c.sync_lent-synced.ensures.stops fault is
+
 pub returns-clause-freed : goal.returns-clause-freed
 returns-clause-freed g c =
     let t = g.D.Door.store c.sync_lent-synced.new.store in
