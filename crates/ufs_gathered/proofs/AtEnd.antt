@@ -229,6 +229,7 @@ module _ (k : Start) (visible keeps : Bool) (names : NamesCell) (files : List Fi
     complete = complete;
     faults = λ fault told. let f = whole.faults fault told in record { later = f.later; counted = f.answered; below = f.below };
     stopped = whole.stopped;
+    halts = whole.halts;
     committed = whole.committed;
     asked = whole.asked;
     size = home.size;

@@ -1,5 +1,5 @@
 -- What is known of a session on hands that has ended.
-use Rattle.std.specs.Prelude.{ℕ, ◌≡◌, ◌≤◌, ◌<◌, ◌-◌, ◌^◌, true, List, length, map, take, Some, None}
+use Rattle.std.specs.Prelude.{ℕ, ◌≡◌, ◌≤◌, ◌<◌, ◌-◌, ◌^◌, ◌⊎◌, true, List, length, map, take, Some, None}
 use Rattle.ufs_client.specs.Played.{IsMerged, transcript}
 use Rattle.ufs_disk.specs.Disk.{Leaves}
 use Rattle.ufs_promise_laws.specs.Last.{StandsForTree}
@@ -19,7 +19,7 @@ use Rattle.ufs_promise_laws.specs.Parts.{Parts}
 use Rattle.ufs_promise_laws.specs.Stored.{ArePartsOf}
 use Rattle.ufs_joint.specs.Cells.{FileCell, NamesCell, Start}
 use Rattle.ufs_joint.specs.Disks.{states_behind}
-use Rattle.ufs_joint.specs.Faults.{faults_in}
+use Rattle.ufs_joint.specs.Faults.{IsStopSince, faults_in, stop_first}
 use Rattle.ufs_joint.specs.NamesTurns.{live_files}
 use Rattle.ufs_joint.specs.Picks.{Pick}
 use Rattle.ufs_joint.specs.Sound.{IsExplainedState, MayHaveBegun}
@@ -63,7 +63,8 @@ pub record AreAllKnown (names : NamesCell) (files : List FileCell) : Type 0 wher
 -- The transcripts are those of one history, with all tickets, in which a tree with which the session may have begun gives each reply, or
 -- the reply is an excuse that fits and leaves the tree; each client's requests are in its order. Names and files are those of the tree
 -- to which it leads. A fault that excuses an entry is one of the session, and whoever is told that the store stopped is told where: by that, or
--- where a request asks for a commit, by the fault itself. No other request is told a stop. The disk has as many sectors as at the beginning.
+-- where a request asks for a commit, by the fault itself. No other request is told a stop. It stopped at a
+-- fault of the session, if it hadn't before. The disk has as many sectors as at the beginning.
 pub record HasEnded (k : Start) (tickets : ℕ) (lists : List (List Entry)) (names : NamesCell) (files : List FileCell) (s : StoreState) : Type 0 where
   pub start : PosixTree
   pub picks : List Pick
@@ -76,6 +77,7 @@ pub record HasEnded (k : Start) (tickets : ℕ) (lists : List (List Entry)) (nam
   pub complete : (scripts : List (List Op)) → AnswerAll scripts lists → IsComplete scripts history
   pub faults : (fault : ℕ) → 1 ≤ told fault history → IsFaultSince (faults_in k.view.store) s.faults fault
   pub stopped : (e : Entry) (fault : ℕ) → Has e history → e.reply ≡ reply.Excused (excuse.Stopped fault) → s.stop ≡ Some fault
+  pub halts : (fault : ℕ) → s.stop ≡ Some fault → (stop_first k.view.store ≡ Some fault) ⊎ IsStopSince (faults_in k.view.store) s.faults fault
   pub committed : (e : Entry) (fault : ℕ) → Has e history → asks_commit e.op ≡ true → e.reply ≡ reply.Excused (excuse.Device fault) → s.stop ≡ Some fault
   pub asked : (e : Entry) (fault : ℕ) → Has e history → e.reply ≡ reply.Excused (excuse.Stopped fault) → asks_commit e.op ≡ true
   pub size : s.sectors ≡ sectors_in k.view.store

@@ -30,7 +30,7 @@ use Rattle.ufs_promise_laws.specs.Parts.{durable_in}
 use Rattle.ufs_promise_laws.specs.Stored.{ArePartsOf}
 use Rattle.ufs_joint.specs.Cells.{FileCell, NamesCell, Start, StoreCell, View, Word, World, store_of}
 use Rattle.ufs_joint.specs.Ends.{CanBegin, HoldsAll, IsAlwaysExplained, IsWhole, known_first}
-use Rattle.ufs_joint.specs.Faults.{IsOfSession, faults_in}
+use Rattle.ufs_joint.specs.Faults.{IsOfSession, IsStopOf, faults_in, stop_first}
 use Rattle.ufs_promise_laws.specs.Known.{IsDiskKept}
 use Rattle.ufs_joint.specs.Laws.{BeginIsSound, CloseIsWhole}
 use Rattle.ufs_joint.proofs.Disks.{explained_here}
@@ -124,6 +124,7 @@ module _ (k : Start) (word : Word) (views : List View) (i : ℕ) (v : View) (res
     stopped = λ e n has is. ap (λ (s : StoreCell). s.stop) (sym store_same) ∙ o.faults_once.stopped e n has is;
     committed = λ e n has by is. ap (λ (s : StoreCell). s.stop) (sym store_same) ∙ o.faults_once.committed e n has by is;
     asked = o.faults_once.asked;
+    halts = λ n is. subst (λ (s : StoreCell). IsStopOf k s n) store_same (o.faults_once.halts n (ap (λ (s : StoreCell). s.stop) store_same ∙ is));
     start = o.begun;
     picks = o.picks;
     begun = o.may_begin;
@@ -287,6 +288,7 @@ module _ (k : Start) (c : CanBegin k) where
       stopped = λ e n has is. absurd has;
       committed = λ e n has by is. absurd has;
       asked = λ e n has is. absurd has;
+      halts = λ n is. inl (ap stop_first c.has_store ∙ is);
     };
     parts_in = record { files = c.files_in; commits = c.commits_in; names = c.names_in; pool = c.pool };
     free_in = record { back = λ b is. inl is; here = λ b is. ⊎_elim (λ s. s) (λ p. absurd (no_pool p.0 p.1 b p.2 p.3)) is };

@@ -16,7 +16,7 @@ use Rattle.ufs_hand_laws.specs.Owned.{Has, less, one, times, total}
 use Rattle.ufs_hand_laws.specs.Parts.{either}
 use Rattle.ufs_hand_laws.proofs.Owning.{all_set, all_split, change_total, has_append, join_total, split_total, total_at, total_set, weigh_append}
 use Rattle.ufs_joint.specs.Cells.{Start, StoreCell, View, both_of, given_of, kept_of, spent}
-use Rattle.ufs_joint.specs.Faults.{AreFaultsOnce, IsOfSession, faults_in}
+use Rattle.ufs_joint.specs.Faults.{AreFaultsOnce, IsOfSession, IsStopOf, IsStopSince, faults_in}
 use Rattle.ufs_joint.specs.Turns.{AreFaultsTold}
 
 -- ---- lists of faults
@@ -60,6 +60,7 @@ module _ (k : Start) (views : List View) (h : List Entry) (s : StoreCell) (o : A
   pub faults_stay : (t : StoreCell) → t.faults ≡ s.faults → t.stop ≡ s.stop → AreFaultsOnce k views h t
   faults_stay t same stop = record {
     rose = let a = o.rose in omega (arith, a, same);
+    halts = λ n is. halts_still n (o.halts n (sym stop ∙ is));
     once = o.once;
     answered = λ n l. (let a = o.answered n l in let b = a.answered in record { later = a.later; answered = omega (arith, b, same); below = a.below });
     stops = λ j u there n is. stop ∙ o.stops j u there n is;
@@ -67,12 +68,17 @@ module _ (k : Start) (views : List View) (h : List Entry) (s : StoreCell) (o : A
     committed = λ e n has asks is. stop ∙ o.committed e n has asks is;
     asked = o.asked;
   }
+    where
+      halts_still : (n : ℕ) → IsStopOf k s n → IsStopOf k t n
+      halts_still n (inl first) = inl first
+      halts_still n (inr x) = inr (record { rose = x.rose; counted = (let a = x.counted in omega (arith, a, same)); within = x.within })
 
   module _ (i : ℕ) (v : View) (at : get_elem? views i ≡ some v) where
     -- a hand goes on that was told no more
     pub faults_same : (w : View) → w.faults ≡ v.faults → w.stop ≡ v.stop → AreFaultsOnce k (set views i w) h s
     faults_same w same stop = record {
       rose = o.rose;
+      halts = o.halts;
       once = λ n. let a = all n in let b = o.once n in omega (arith, a, b);
       answered = λ n l. o.answered n (let a = all n in omega (arith, a, l));
       stops = all_set IsStop views i w o.stops (λ n is. o.stops i v at n (sym stop ∙ is));
@@ -87,6 +93,7 @@ module _ (k : Start) (views : List View) (h : List Entry) (s : StoreCell) (o : A
     pub faults_split : (p : PartName) → AreFaultsOnce k (set views i (kept_of p v) ++ given_of p v ∷ []) h s
     faults_split p = record {
       rose = o.rose;
+      halts = o.halts;
       once = λ n. let a = all n in let b = o.once n in omega (arith, a, b);
       answered = λ n l. o.answered n (let a = all n in omega (arith, a, l));
       stops = all_split IsStop views i (kept_of p v) (given_of p v) o.stops (o.stops i v at) (o.stops i v at);
@@ -101,6 +108,7 @@ module _ (k : Start) (views : List View) (h : List Entry) (s : StoreCell) (o : A
     pub faults_join : (j : ℕ) (u : View) → j ≢ i → get_elem? (set views i (both_of v u)) j ≡ some u → AreFaultsOnce k (set (set views i (both_of v u)) j spent) h s
     faults_join j u ne there = record {
       rose = o.rose;
+      halts = o.halts;
       once = λ n. let a = all n in let b = o.once n in omega (arith, a, b);
       answered = λ n l. o.answered n (let a = all n in omega (arith, a, l));
       stops = all_set IsStop (set views i (both_of v u)) j spent (all_set IsStop views i (both_of v u) o.stops (λ n is. either_stop v.stop u.stop s.stop n (o.stops i v at n) (o.stops j u was n) is)) (λ n is. cc);
@@ -127,6 +135,7 @@ module _ (k : Start) (views : List View) (h : List Entry) (s : StoreCell) (o : A
         → ((n : ℕ) → e.reply ≡ reply.Excused (excuse.Stopped n) → asks_commit e.op ≡ true) → AreFaultsOnce k (set views i w) (h ++ e ∷ []) s
     faults_drawn w e left stop device stopped at_commit asks = record {
       rose = o.rose;
+      halts = o.halts;
       once = λ n. let a = all n in let b = o.once n in omega (arith, a, b);
       answered = λ n l. o.answered n (let a = all n in omega (arith, a, l));
       stops = all_set IsStop views i w o.stops (λ n is. o.stops i v at n (sym stop ∙ is));
@@ -152,6 +161,7 @@ module _ (k : Start) (views : List View) (h : List Entry) (s : StoreCell) (o : A
     pub faults_told : (w : View) (t : StoreCell) (fresh : List ℕ) → w.faults ≡ fresh ++ v.faults → w.stop ≡ t.stop → AreFaultsTold s t fresh → AreFaultsOnce k (set views i w) h t
     faults_told w t fresh same stop may = record {
       rose = let a = o.rose in let b = may.rise in omega (arith, a, b);
+      halts = λ n is. ⊎_elim (λ had. kept n (o.halts n had)) (λ now. inr (since n now)) (may.halts n is);
       once = λ n. by_once n (dec_le 1 (times n fresh));
       answered = λ n l. by_answered n l (dec_le 1 (times n fresh));
       stops = all_set (λ (u : View). (n : ℕ) → u.stop ≡ Some n → t.stop ≡ Some n) views i w (λ j u there n is. may.stopped n (o.stops j u there n is)) (λ n is. sym stop ∙ is);
@@ -165,6 +175,14 @@ module _ (k : Start) (views : List View) (h : List Entry) (s : StoreCell) (o : A
             let a = total_set (λ (u : View). times n u.faults) views i v w at in
             let b = ap (times n) same in let c = times_both n fresh v.faults in
             omega (arith, a, b, c)
+
+        -- the count doesn't fall
+        kept : (n : ℕ) → IsStopOf k s n → IsStopOf k t n
+        kept n (inl first) = inl first
+        kept n (inr x) = inr (record { rose = x.rose; counted = (let a = x.counted in let b = x.within in let c = may.rise in omega (arith, a, b, c)); within = x.within })
+
+        since : (n : ℕ) → IsStopSince s.faults t.faults n → IsStopSince (faults_in k.view.store) t.faults n
+        since n x = record { rose = ⊎_elim (λ l. (let a = o.rose in let b = x.within in inl (omega (arith, a, b, l)))) (λ e. inr e) x.rose; counted = x.counted; within = x.within }
 
         -- one that is new was told to nobody
         none : (n : ℕ) → 1 ≤ times n fresh → total (λ (u : View). times n u.faults) views + told n h ≡ 0

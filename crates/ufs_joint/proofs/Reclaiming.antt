@@ -219,7 +219,7 @@ module _ (g : Geometry) (reclaims : DroppedIsReclaimedKept g) (sounds : Reclaime
   went_on seen start history p known begun = (let is = passes seen start history p known begun in (is.inside, is.whole))
 
   faults_told : AreFaultsTold was t.store []
-  faults_told = (let told = gives.left_so.told_so in record { rise = told.rise; once = told.once; new = told.new; stopped = told.stopped })
+  faults_told = (let told = gives.left_so.told_so in record { rise = told.rise; once = told.once; new = told.new; stopped = told.stopped; halts = told.halts })
 
   pub may_end : MayEndTurn g visible v t
   may_end = record {

@@ -525,7 +525,7 @@ module _ (k : Start) (word : Word) (views : List View) (i : ℕ) (v : View) (t :
       }
 
   told_now : AreFaultsTold G.store (ended_at n t) t.told
-  told_now = (let told = subst (λ (s : StoreCell). AreFaultsTold s t.store t.told) (sym was_there) m.told in record { rise = told.rise; once = told.once; new = told.new; stopped = told.stopped })
+  told_now = (let told = subst (λ (s : StoreCell). AreFaultsTold s t.store t.told) (sym was_there) m.told in record { rise = told.rise; once = told.once; new = told.new; stopped = told.stopped; halts = told.halts })
 
   pub turn_sound : IsSound k word (set views i w)
   turn_sound = record {

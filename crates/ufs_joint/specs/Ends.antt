@@ -21,7 +21,7 @@ use Rattle.ufs_promise_laws.specs.Parts.{Parts}
 use Rattle.ufs_promise_laws.specs.Sound.{IsSoundServer}
 use Rattle.ufs_promise_laws.specs.Stored.{ArePartsOf}
 use Rattle.ufs_joint.specs.Cells.{FileCell, NamesCell, Start, StoreCell, View, Word, store_of}
-use Rattle.ufs_joint.specs.Faults.{IsOfSession}
+use Rattle.ufs_joint.specs.Faults.{IsOfSession, IsStopOf}
 use Rattle.ufs_joint.specs.NoneLost.{HandHas}
 use Rattle.ufs_promise_laws.specs.Known.{IsDiskKept, Known}
 use Rattle.ufs_joint.specs.Picks.{Pick}
@@ -110,6 +110,7 @@ pub record IsWhole (k : Start) (word : Word) (v : View) (store : StoreCell) : Ty
   -- the faults that excuse entries are of this session, and a stop is that of the store
   pub faults : (n : ℕ) → 1 ≤ told n history → IsOfSession k store n
   pub stopped : (e : Entry) (n : ℕ) → Has e history → e.reply ≡ reply.Excused (excuse.Stopped n) → store.stop ≡ Some n
+  pub halts : (n : ℕ) → store.stop ≡ Some n → IsStopOf k store n
   -- so is the fault that excuses a request which asks for a commit, and no other is told a stop
   pub committed : (e : Entry) (n : ℕ) → Has e history → asks_commit e.op ≡ true → e.reply ≡ reply.Excused (excuse.Device n) → store.stop ≡ Some n
   pub asked : (e : Entry) (n : ℕ) → Has e history → e.reply ≡ reply.Excused (excuse.Stopped n) → asks_commit e.op ≡ true

@@ -1,5 +1,5 @@
 -- Turns of the store.
-use Rattle.std.specs.Prelude.{ℕ, ◌-◌, ◌^◌, ◌≡◌, ◌≤◌, ◌<◌, ◌||◌, eqb, Bool, true, false, cond, leb, List, [], ◌∷◌, ◌++◌, Some, length, min}
+use Rattle.std.specs.Prelude.{ℕ, ◌-◌, ◌^◌, ◌≡◌, ◌≤◌, ◌<◌, ◌⊎◌, ◌||◌, eqb, Bool, true, false, cond, leb, List, [], ◌∷◌, ◌++◌, Some, length, min}
 use Rattle.std.specs.FinSet as set
 use Rattle.ufs_file.specs.Content.{own_bytes}
 use Rattle.ufs_files.specs.Files.{AreNumbered}
@@ -14,6 +14,7 @@ use Rattle.ufs_promise_laws.specs.Parts.{Parts}
 use Rattle.ufs_promise_laws.specs.Sound.{IsSoundServer}
 use Rattle.ufs_promise_laws.specs.Stored.{ArePartsOf}
 use Rattle.ufs_joint.specs.Cells.{FileCell, NamesCell, StoreCell, View, store_of}
+use Rattle.ufs_joint.specs.Faults.{IsStopSince}
 use Rattle.ufs_joint.specs.NoneLost.{IsHad}
 use Rattle.ufs_promise_laws.specs.Known.{IsDiskKept, Known}
 use Rattle.ufs_joint.specs.Picks.{ArePicksOnce, HasPicked, IsAbsent, IsUnpicked, Pick}
@@ -108,6 +109,8 @@ pub record AreFaultsTold (was left : StoreCell) (told : List ℕ) : Type 0 where
   pub once : (fault : ℕ) → times fault told ≤ 1
   pub new : (fault : ℕ) → 1 ≤ times fault told → (was.faults < fault) × (fault ≤ left.faults) × (fault < 2 ^ 64 - 1)
   pub stopped : (fault : ℕ) → was.stop ≡ Some fault → left.stop ≡ Some fault
+  -- and where it stops it does so by a call that fails
+  pub halts : (fault : ℕ) → left.stop ≡ Some fault → (was.stop ≡ Some fault) ⊎ IsStopSince was.faults left.faults fault
 
 -- What is asked of the end of a turn by its own hand.
 pub record MayEndTurn (g : Geometry) (visible : Bool) (v : View) (t : Turn) : Type 0 where

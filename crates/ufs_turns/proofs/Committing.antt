@@ -65,7 +65,7 @@ module _ (k : Start) (visible keeps : Bool) (n : ℕ) (v w : View) (s t : StoreS
       moments seen = subst (λ (q : StoreState × StoreState). LeavesNames keeps q.0 q.1 cell.fresh cell.value.tree.noted) (both seen) (tried.moments (home.sees seen).0)
 
       left_so : LeavesStore keeps k.is_visible was left s.moments.earlier t.moments.earlier passed (told_list (fault_told told))
-      left_so = turning.left_so k visible keeps n v w s t knows home begun whole_before whole_behind tried.geometry tried.sectors told tried.cause (λ n is. tried.stop ∙ ap (λ (q : Option ℕ). stop_after q told) is)
+      left_so = turning.left_so k visible keeps n v w s t knows home begun whole_before whole_behind tried.geometry tried.sectors told tried.cause (λ n is. tried.stop ∙ ap (λ (q : Option ℕ). stop_after q told) is) (λ n is. turning.stop_from s.stop told n (sym tried.stop ∙ is))
 
     -- where it passed
     module _ (has : HavePassed visible keeps s t cell.fresh cell.value.tree.noted) where

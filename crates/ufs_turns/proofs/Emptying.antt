@@ -45,7 +45,7 @@ module _ (k : Start) (visible keeps : Bool) (n : ℕ) (v w : View) (s t : StoreS
       made = λ seen. subst (λ (q : StoreState × StoreState). (q.1 ≡ q.0) ⊎ ((q.0.stop ≡ None) × HasBegunAnew q.0 q.1)) (both seen) (has.made (home.sees seen).0);
       crash = λ seen. subst (λ (q : StoreState × StoreState). (l : Ledger) → HasLedger q.0 l → LeavesOnly keeps (IsLeftByAny q.0.sectors (l ∷ beginning_next q.0 l ∷ [])) q.0.moments q.1.moments) (both seen) (has.crash (home.sees seen).0);
       unassigned = ap (λ (q : Space). q.free) has.unassigned;
-      left_so = turning.left_so k visible keeps n v w s t knows home begun whole_before whole_behind has.geometry has.sectors told has.cause (λ n is. has.stop ∙ ap (λ (q : Option ℕ). stop_after q told) is);
+      left_so = turning.left_so k visible keeps n v w s t knows home begun whole_before whole_behind has.geometry has.sectors told has.cause (λ n is. has.stop ∙ ap (λ (q : Option ℕ). stop_after q told) is) (λ n is. turning.stop_from s.stop told n (sym has.stop ∙ is));
     }
       where
         both : (seen : k.is_visible ≡ true) → ◌≡◌ {A = StoreState × StoreState} (s, t) (store_since s.moments.earlier was, store_since t.moments.earlier left)

@@ -166,7 +166,7 @@ module _ (k : Start) (visible keeps : Bool) (n : ℕ) (v w : View) (s t : StoreS
     behind_is : k.is_visible ≡ true → t ≡ store_since t.moments.earlier left
     behind_is = turning.behind_is k visible keeps n v w s t knows home begun whole_before whole_behind geometry sectors
 
-    left_so : (told : Option ℕ) → IsTold s.faults t.faults told → ((n : ℕ) → s.stop ≡ Some n → t.stop ≡ Some n) → LeavesStore keeps k.is_visible was left s.moments.earlier t.moments.earlier passed (told_list (fault_told told))
+    left_so : (told : Option ℕ) → IsTold s.faults t.faults told → ((n : ℕ) → s.stop ≡ Some n → t.stop ≡ Some n) → ((n : ℕ) → t.stop ≡ Some n → (s.stop ≡ Some n) ⊎ (told ≡ Some n)) → LeavesStore keeps k.is_visible was left s.moments.earlier t.moments.earlier passed (told_list (fault_told told))
     left_so = turning.left_so k visible keeps n v w s t knows home begun whole_before whole_behind geometry sectors
 
     -- as the turn begins, of a visible disk
@@ -202,7 +202,7 @@ module _ (k : Start) (visible keeps : Bool) (n : ℕ) (v w : View) (s t : StoreS
         seen = λ seen. (home.sees seen).0;
         fetched = fetched;
         further = further;
-        left_so = left_so told cause (λ n is. ap (λ (q : StoreState). q.stop) has.store ∙ is);
+        left_so = left_so told cause (λ n is. ap (λ (q : StoreState). q.stop) has.store ∙ is) (λ n is. inl (sym (ap (λ (q : StoreState). q.stop) has.store) ∙ is));
       }
 
       fetch_hand : IsFetchHand k.is_visible u name cell was
@@ -240,7 +240,7 @@ module _ (k : Start) (visible keeps : Bool) (n : ℕ) (v w : View) (s t : StoreS
         synced = λ seen. (let is = has.synced (home.sees seen).0 in subst (λ (q : StoreState × StoreState). HasSynced q.0 q.1 cell.value) (λ i. (before_is seen i, behind_is seen i)) is);
         stages = λ seen. (let is = has.stages (home.sees seen).0 in subst (λ (q : StoreState × StoreState). LeavesStages keeps q.0 q.1 cell.value) (λ i. (before_is seen i, behind_is seen i)) is);
         freed = has.freed;
-        left_so = left_so None has.faults (λ n is. has.stop ∙ is);
+        left_so = left_so None has.faults (λ n is. has.stop ∙ is) (λ n is. inl (sym has.stop ∙ is));
       }
 
       pub commit_went : FileCommitsGoOn k.geometry → cell.born ≡ true → k.is_visible ≡ true → WentOn s t
@@ -268,7 +268,7 @@ module _ (k : Start) (visible keeps : Bool) (n : ℕ) (v w : View) (s t : StoreS
             subst (λ (q : StoreState × StoreState). (q.1 ≡ q.0) ⊎ ((q.0.stop ≡ None) × (HasWritten q.0 q.1 cell.value ⊎ HasFailed q.0 q.1 cell.value))) (λ i. (before_is seen i, behind_is seen i)) is);
         stages = λ seen. (let is = has.stages (home.sees seen).0 in subst (λ (q : StoreState × StoreState). LeavesStages keeps q.0 q.1 cell.value) (λ i. (before_is seen i, behind_is seen i)) is);
         unfreed = ap (λ (q : Rattle.ufs_bitmap.specs.Space.Space). q.free) has.unfreed;
-        left_so = left_so told has.cause (λ n is. has.stop ∙ ap (λ (q : Option ℕ). stop_after q told) is);
+        left_so = left_so told has.cause (λ n is. has.stop ∙ ap (λ (q : Option ℕ). stop_after q told) is) (λ n is. turning.stop_from s.stop told n (sym has.stop ∙ is));
       }
 
       pub failure_went : FileFailuresGoOn k.geometry → cell.born ≡ true → k.is_visible ≡ true → WentOn s t

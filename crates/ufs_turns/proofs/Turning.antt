@@ -1,6 +1,7 @@
 -- A turn of the store between its two marks, whatever it is about.
 use Rattle.std.proofs.Common.{◌≡◌, zero, suc, ◌+◌, ◌-◌, ◌^◌, ◌<◌, ◌++◌, cond, eqb, eqb-true, leb, map, min, Option, ⊎_elim, ℕ, ◌≤◌, ◌⊎◌, inl, inr, Bool, true, false, List, [], ◌∷◌, length, Some, None, sym, refl, ap, ◌∙◌, subst, arith}
 use Rattle.std.specs.Prelude.{Err, IsTrue, Result, drop}
+use native.Mathlib.Decide.{dec_le}
 use Rattle.std.proofs.lemmas.Bool.{leb-false}
 use Rattle.std.proofs.lemmas.List.{length-append, map-append}
 use Rattle.ufs_disk.specs.Disk.{IsWhole}
@@ -8,7 +9,7 @@ use Rattle.ufs_disk.specs.Moments.{all}
 use Rattle.ufs_model.specs.declared.data.Entry.{Entry}
 use Rattle.ufs_hand_laws.specs.Owned.{Has, one, times}
 use Rattle.ufs_hand_laws.specs.Parts.{Cells, Stretch}
-use Rattle.ufs_hand_laws.proofs.Owning.{has_append, none_some}
+use Rattle.ufs_hand_laws.proofs.Owning.{has_append, none_some, same_some}
 use Rattle.ufs_store.specs.Refusals.{IsTold, fault_in, stop_after}
 use Rattle.ufs_store.specs.State.{StoreState, geometry_of_store}
 use Rattle.ufs_store.specs.declared.fault.StoreFault.{StoreFault}
@@ -17,6 +18,7 @@ use Rattle.ufs_store_steps.specs.Cells.{cells_of}
 use Rattle.ufs_promise_laws.specs.Parts.{Parts}
 use Rattle.ufs_joint.specs.Cells.{Start, StoreCell, View, store_since}
 use Rattle.ufs_joint.specs.Disks.{cell_of, states_behind}
+use Rattle.ufs_joint.specs.Faults.{IsStopSince}
 use Rattle.ufs_joint.specs.FileHands.{IsAsBegun, LeavesStore, WentOn}
 use Rattle.ufs_promise_laws.specs.Known.{Known}
 use Rattle.ufs_joint.specs.Known.{Knows}
@@ -47,22 +49,48 @@ told_is n fault l = by (eqb n fault) refl l
     by true is l = eqb-true n fault is
     by false is l = absurd (omega (arith, l))
 
-faults_told : (was left : StoreCell) (told : Option ℕ) → IsTold was.faults left.faults told → ((n : ℕ) → was.stop ≡ Some n → left.stop ≡ Some n) → AreFaultsTold was left (told_list (fault_told told))
-faults_told was left None cause stops = record { rise = omega (arith, cause); once = λ n. omega arith; new = λ n l. absurd (omega (arith, l)); stopped = stops }
-faults_told was left (Some m) cause stops = by (leb (2 ^ 64 - 1) m) refl
-  where
-    rise : min was.faults (2 ^ 64 - 1) ≤ left.faults
-    rise = let a = cause.rose in omega (arith, a)
+-- The store stopped where it had before, or by the call that is told.
+module _ (was left : StoreCell) where
+  abbrev StopsBy : Option ℕ → Type 0
+  StopsBy told = (n : ℕ) → left.stop ≡ Some n → (was.stop ≡ Some n) ⊎ (told ≡ Some n)
 
-    by : (b : Bool) → leb (2 ^ 64 - 1) m ≡ b → AreFaultsTold was left (told_list (cond b None (Some m)))
-    by true is = record { rise = rise; once = λ n. omega arith; new = λ n l. absurd (omega (arith, l)); stopped = stops }
-    by false is = record { rise = rise; once = λ n. told_once n m; new = new_one; stopped = stops }
-      where
-        below : m < 2 ^ 64 - 1
-        below = leb-false (2 ^ 64 - 1) m is
+  stop_now : (m n : ℕ) → IsTold was.faults left.faults (Some m) → m ≡ n → IsStopSince was.faults left.faults n
+  stop_now m n cause same = record { rose = by (dec_le (2 ^ 64 - 1) m); counted = (let b = cause.number in omega (arith, b, same)); within = (let a = cause.rose in let b = cause.number in omega (arith, a, b, same)) }
+    where
+      by : Dec (2 ^ 64 - 1 ≤ m) → (was.faults < n) ⊎ (n ≡ 2 ^ 64 - 1)
+      by (yes l) = inr (let a = cause.rose in let b = cause.number in omega (arith, a, b, l, same))
+      by (no l) = inl (let a = cause.rose in let b = cause.number in omega (arith, a, b, l, same))
 
-        new_one : (n : ℕ) → 1 ≤ times n (m ∷ []) → (was.faults < n) × (n ≤ left.faults) × (n < 2 ^ 64 - 1)
-        new_one n l = let a = told_is n m l in let b = cause.rose in let c = cause.number in let d = below in (omega (arith, a, b, c, d), omega (arith, a, c), omega (arith, a, d))
+  faults_told : (told : Option ℕ) → IsTold was.faults left.faults told → ((n : ℕ) → was.stop ≡ Some n → left.stop ≡ Some n) → StopsBy told → AreFaultsTold was left (told_list (fault_told told))
+  faults_told None cause stops halts = record {
+    rise = omega (arith, cause);
+    once = λ n. omega arith;
+    new = λ n l. absurd (omega (arith, l));
+    stopped = stops;
+    halts = λ n is. ⊎_elim (λ had. inl had) (λ none. absurd (none_some n none)) (halts n is);
+  }
+  faults_told (Some m) cause stops halts = by (leb (2 ^ 64 - 1) m) refl
+    where
+      rise : min was.faults (2 ^ 64 - 1) ≤ left.faults
+      rise = let a = cause.rose in omega (arith, a)
+
+      halts_now : (n : ℕ) → left.stop ≡ Some n → (was.stop ≡ Some n) ⊎ IsStopSince was.faults left.faults n
+      halts_now n is = ⊎_elim (λ had. inl had) (λ (told : Some m ≡ Some n). inr (stop_now m n cause (same_some m n told))) (halts n is)
+
+      by : (b : Bool) → leb (2 ^ 64 - 1) m ≡ b → AreFaultsTold was left (told_list (cond b None (Some m)))
+      by true is = record { rise = rise; once = λ n. omega arith; new = λ n l. absurd (omega (arith, l)); stopped = stops; halts = halts_now }
+      by false is = record { rise = rise; once = λ n. told_once n m; new = new_one; stopped = stops; halts = halts_now }
+        where
+          below : m < 2 ^ 64 - 1
+          below = leb-false (2 ^ 64 - 1) m is
+
+          new_one : (n : ℕ) → 1 ≤ times n (m ∷ []) → (was.faults < n) × (n ≤ left.faults) × (n < 2 ^ 64 - 1)
+          new_one n l = let a = told_is n m l in let b = cause.rose in let c = cause.number in let d = below in (omega (arith, a, b, c, d), omega (arith, a, c), omega (arith, a, d))
+
+-- So it is where it stopped behind the call as `stop_after` says, or stayed.
+pub stop_from : (before told : Option ℕ) (n : ℕ) → stop_after before told ≡ Some n → (before ≡ Some n) ⊎ (told ≡ Some n)
+stop_from None told n is = inr is
+stop_from (Some fault) told n is = inl is
 
 -- A fault that is told is the one by which the call failed.
 told_in : (o : Option ℕ) (n : ℕ) → fault_told o ≡ Some n → o ≡ Some n
@@ -111,9 +139,9 @@ module _ (k : Start) (visible keeps : Bool) (n : ℕ) (v w : View) (s t : StoreS
     pub behind_is : k.is_visible ≡ true → t ≡ store_since t.moments.earlier left
     behind_is seen = sym (store_as_cell n past t (whole_behind (home.sees seen).0))
 
-    pub left_so : (told : Option ℕ) → IsTold s.faults t.faults told → ((n : ℕ) → s.stop ≡ Some n → t.stop ≡ Some n) → LeavesStore keeps k.is_visible was left s.moments.earlier t.moments.earlier passed (told_list (fault_told told))
-    left_so told cause stops = record {
-      told_so = faults_told was left told cause stops;
+    pub left_so : (told : Option ℕ) → IsTold s.faults t.faults told → ((n : ℕ) → s.stop ≡ Some n → t.stop ≡ Some n) → ((n : ℕ) → t.stop ≡ Some n → (s.stop ≡ Some n) ⊎ (told ≡ Some n)) → LeavesStore keeps k.is_visible was left s.moments.earlier t.moments.earlier passed (told_list (fault_told told))
+    left_so told cause stops halts = record {
+      told_so = faults_told was left told cause stops halts;
       keeps_all = λ seen. (home.sees seen).1;
       went = λ seen. (λ i. states_behind (length (all (before_is seen i).moments)) (behind_is seen i));
       geometry = geometry;
