@@ -5,7 +5,9 @@ use Rattle.ufs_bitmap.specs.Blocks.{BlockSet}
 use Rattle.ufs_file_commits.specs.State.{DurableState}
 use Rattle.ufs_joint.specs.Cells.{FileCell, StoreCell, View}
 use Rattle.ufs_store.specs.Blocks.{AreApart, MovesLowest}
-use Rattle.ufs_store.specs.Refusals.{stop_after}
+use Rattle.ufs_store.specs.Numbers.{HasRaised}
+use Rattle.ufs_store.specs.Refusals.{IsTold, stop_after}
+use Rattle.ufs_store.specs.State.{StoreState}
 use Rattle.ufs_store.specs.declared.fault.StoreFault.{StoreFault}
 use Rattle.ufs_store.specs.declared.fault.StoreFault.TheVariants as refusal
 
@@ -88,6 +90,37 @@ stop_in (c ∷ cs) = c.1.stop
 abbrev pub StopsByFault : Option View → Option View → Option ℕ → Type 0
 StopsByFault (Some v) (Some w) told = stop_in w.store ≡ stop_after (stop_in v.store) told
 StopsByFault _ _ told = Unit {0}
+
+-- The device's count of faults went on by what was told, and the store's epoch and next commit number rose by no more than these.
+pub record HasRun (told : Option ℕ) (epochs commits : ℕ) (old new : StoreState) : Type 0 where
+  pub count : IsTold old.faults new.faults told
+  pub raised : HasRaised epochs commits old new
+
+-- what a store counts: the faults of its device, its epochs and its commits
+pub record Tally : Type 0 where
+  pub faults : ℕ
+  pub epoch : ℕ
+  pub number : ℕ
+
+abbrev pub tally_in : List (Unit {0} × StoreCell) → Tally
+tally_in [] = record { faults = 0; epoch = 0; number = 0 }
+tally_in (c ∷ cs) = record { faults = c.1.faults; epoch = c.1.superblock.epoch; number = c.1.journal.number }
+
+-- So they went on.
+pub record HasGoneBy (told : Option ℕ) (epochs commits : ℕ) (old new : Tally) : Type 0 where
+  pub count : IsTold old.faults new.faults told
+  pub epoch : old.epoch ≤ new.epoch
+  pub epoch_most : new.epoch ≤ old.epoch + epochs
+  pub number : old.number ≤ new.number
+  pub number_most : new.number ≤ old.number + commits
+
+abbrev pub RunIn : Option ℕ → (epochs commits : ℕ) → List (Unit {0} × StoreCell) → List (Unit {0} × StoreCell) → Type 0
+RunIn told epochs commits old new = HasGoneBy told epochs commits (tally_in old) (tally_in new)
+
+-- So it was in a turn, where the store's cell is told.
+abbrev pub Runs : Option View → Option View → Option ℕ → (epochs commits : ℕ) → Type 0
+Runs (Some v) (Some w) told epochs commits = RunIn told epochs commits v.store w.store
+Runs _ _ told epochs commits = Unit {0}
 
 -- A turn of a store that had stopped says so, where its cell is told.
 abbrev pub TellsStop : {A : Type 0} → Option View → Result A StoreFault → Type 0

@@ -12,7 +12,7 @@ ghost use Rattle.ufs_store.specs.State.{geometry_of_store};
 ghost use Rattle.ufs_store.specs.declared.fault.StoreFault.{StoreFault};
 ghost use Rattle.ufs_store.specs.declared.fault.StoreFault.TheVariants as refusal;
 ghost use Rattle.ufs_turns.specs.HeldStore.{IsStoreIn, ended_view};
-ghost use Rattle.ufs_turns.specs.Lent.{IsBeside};
+ghost use Rattle.ufs_turns.specs.Lent.{HasRun, IsBeside};
 ghost use Rattle.ufs_turns.specs.NamesLent.{AreNamesIn, HaveCommitted, HaveNotPassed, HavePassed, names_turn};
 ghost use Rattle.ufs_turns.specs.Told.{fault_told, told_list};
 
@@ -41,6 +41,7 @@ fn commit_going<D: Door>(
     ensures spent { OnOk result (fresh.new.items ≡ []) }
     ensures kept { OnErr result (names.new ≡ names.old) }
     ensures unspent { OnErr result (fresh.new.items ≡ fresh.old.items) }
+    ensures ran { HasRun (fault_in result) 1 1 (D.store store.old) (D.store store.new) }
     ensures stopped { (fault : ℕ) → result ≡ Err (refusal.Stopped fault) → (D.store store.new).stop ≡ Some fault }
     ensures halts { (D.store store.new).stop ≡ stop_after (D.store store.old).stop (fault_in result) }
     ensures halted { (fault : ℕ) → (D.store store.old).stop ≡ Some fault → result ≡ Err (refusal.Stopped fault) }
@@ -74,6 +75,7 @@ fn commit_store<D: Door>(
     ensures spent { OnOk result (fresh.new.items ≡ []) }
     ensures kept { OnErr result (names.new ≡ names.old) }
     ensures unspent { OnErr result (fresh.new.items ≡ fresh.old.items) }
+    ensures ran { HasRun (fault_in result) 1 1 (D.store store.old) (D.store store.new) }
     ensures stopped { (fault : ℕ) → result ≡ Err (refusal.Stopped fault) → (D.store store.new).stop ≡ Some fault }
     ensures halts { (D.store store.new).stop ≡ stop_after (D.store store.old).stop (fault_in result) }
     ensures halted { (fault : ℕ) → (D.store store.old).stop ≡ Some fault → result ≡ Err (refusal.Stopped fault) }
@@ -106,6 +108,7 @@ pub(crate) fn commit_lent<N: Naming, D: Door>(
     ensures kept { OnErr result (names.new ≡ names.old) }
     ensures unspent { OnErr result (fresh.new.items ≡ fresh.old.items) }
     ensures free { (D.store store.new).unassigned.free ≡ (D.store store.old).unassigned.free }
+    ensures ran { HasRun (fault_in result) 1 1 (D.store store.old) (D.store store.new) }
     ensures faults { hand.new.faults ≡ told_list (fault_told (fault_in result)) ++ hand.old.faults }
     ensures stop { (fault : ℕ) → result ≡ Err (refusal.Stopped fault) → hand.new.stop ≡ Some fault }
     ensures stops { (fault : ℕ) → fault_told (fault_in result) ≡ Some fault → hand.new.stop ≡ Some fault }

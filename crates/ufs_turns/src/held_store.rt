@@ -1,5 +1,5 @@
 // The store, and the hand of the store's cell.
-ghost use Rattle.std.specs.Prelude.{ℕ, ◌≡◌, ◌≤◌, ◌<◌, ◌+◌, ◌∷◌, ◌++◌, [], true, false, Ok, Err, Some, IfErr, IsTrue, OnOk, OnErr, length};
+ghost use Rattle.std.specs.Prelude.{ℕ, ◌≡◌, ◌≤◌, ◌<◌, ◌+◌, ◌∷◌, ◌++◌, [], true, false, Ok, Err, None, Some, IfErr, IsTrue, OnOk, OnErr, length};
 ghost use Rattle.std.specs.FinSet as set;
 ghost use Rattle.ufs_bitmap.specs.Taking.{set_of};
 ghost use Rattle.ufs_layout.specs.Areas.{IsGeometry};
@@ -13,7 +13,7 @@ ghost use Rattle.ufs_names.specs.Notes.{with_notes};
 ghost use Rattle.ufs_store.specs.Refusals.{fault_in, is_no_space, is_own, stop_after};
 ghost use Rattle.ufs_store.specs.declared.fault.StoreFault.TheVariants as refusal;
 ghost use Rattle.ufs_turns.specs.HeldStore.{HasNothing, HasStoreAlone, IsHeldStore, IsStoreIn, begun_view, ended_view, sync_turn};
-ghost use Rattle.ufs_turns.specs.Lent.{GainsBlocks, HasCommitted, IsBare, IsBeside, IsBesidePools, IsFileIn, LacksBlocks, LendsFile, LendsPool, free_in, stop_in, used_in};
+ghost use Rattle.ufs_turns.specs.Lent.{GainsBlocks, HasCommitted, HasRun, IsBare, IsBeside, IsBesidePools, IsFileIn, LacksBlocks, LendsFile, LendsPool, RunIn, free_in, stop_in, used_in};
 ghost use Rattle.ufs_turns.specs.NamesLent.{HaveCommitted, LendsNames};
 ghost use Rattle.ufs_turns.specs.Told.{fault_told, told_list};
 
@@ -92,6 +92,7 @@ impl<N: Naming, D: Door, L: Ledger> HeldStore<N, D, L> {
         ensures kept { OnErr result (state_of file.new commits.new ≡ state_of file.old commits.old) }
         ensures freed { OnOk result (free_in self.new.store ≡ set.union (free_in self.old.store) (set_of commits.old.dropped)) }
         ensures unfreed { OnErr result (free_in self.new.store ≡ free_in self.old.store) }
+        ensures ran { RunIn (fault_in result) 1 1 self.old.store self.new.store }
         ensures faults { hand.new.faults ≡ told_list (fault_told (fault_in result)) ++ hand.old.faults }
         ensures stop { (fault : ℕ) → result ≡ Err (refusal.Stopped fault) → hand.new.stop ≡ Some fault }
         ensures stops { (fault : ℕ) → fault_told (fault_in result) ≡ Some fault → hand.new.stop ≡ Some fault }
@@ -129,6 +130,7 @@ impl<N: Naming, D: Door, L: Ledger> HeldStore<N, D, L> {
         ensures nothing { HasNeeded file.old.content desc op.now → (file.new ≡ file.old) × (result ≡ Ok tt) }
         ensures free { free_in self.new.store ≡ free_in self.old.store }
         ensures beside { IsBeside hand.old hand.new }
+        ensures ran { RunIn (fault_in result) 0 0 self.old.store self.new.store }
         ensures faults { hand.new.faults ≡ told_list (fault_told (fault_in result)) ++ hand.old.faults }
         ensures refused { IfErr result (λ fault. IsTrue (is_own fault)) }
     {
@@ -161,6 +163,7 @@ impl<N: Naming, D: Door, L: Ledger> HeldStore<N, D, L> {
         ensures kept { OnErr result (names.new ≡ names.old) }
         ensures unspent { OnErr result (fresh.new.items ≡ fresh.old.items) }
         ensures free { free_in self.new.store ≡ free_in self.old.store }
+        ensures ran { RunIn (fault_in result) 1 1 self.old.store self.new.store }
         ensures faults { hand.new.faults ≡ told_list (fault_told (fault_in result)) ++ hand.old.faults }
         ensures stop { (fault : ℕ) → result ≡ Err (refusal.Stopped fault) → hand.new.stop ≡ Some fault }
         ensures stops { (fault : ℕ) → fault_told (fault_in result) ≡ Some fault → hand.new.stop ≡ Some fault }
@@ -197,6 +200,7 @@ impl<N: Naming, D: Door, L: Ledger> HeldStore<N, D, L> {
         ensures lacks { IfErr result (LacksBlocks missing (set.len (free_in self.old.store))) }
         ensures kept { OnErr result (pool.new ≡ pool.old) }
         ensures same { OnErr result (free_in self.new.store ≡ free_in self.old.store) }
+        ensures ran { RunIn None 0 0 self.old.store self.new.store }
         ensures met { OnOk result (share.new.amount ≡ share.old.amount) }
         ensures unmet { OnErr result (share.new.amount ≡ share.old.amount + 1) }
         ensures parts { share.new.parts ≡ share.old.parts }
@@ -219,6 +223,7 @@ impl<N: Naming, D: Door, L: Ledger> HeldStore<N, D, L> {
         ensures lent { (name : ℕ) → LendsPool name pool.old hand.old → LendsPool name pool.new hand.new }
         ensures beside { IsBesidePools hand.old hand.new }
         ensures back { free_in self.new.store ≡ set.union (free_in self.old.store) pool.old }
+        ensures ran { RunIn None 0 0 self.old.store self.new.store }
         ensures none { pool.new ≡ set.empty }
     {
         let HeldStore {
@@ -244,6 +249,7 @@ impl<N: Naming, D: Door, L: Ledger> HeldStore<N, D, L> {
         ensures free { free_in self.new.store ≡ free_in self.old.store }
         ensures bare { IsBare hand.new }
         ensures beside { IsBeside hand.old hand.new }
+        ensures ran { RunIn (fault_in result) 1 0 self.old.store self.new.store }
         ensures faults { hand.new.faults ≡ told_list (fault_told (fault_in result)) ++ hand.old.faults }
         ensures stop { (fault : ℕ) → result ≡ Err (refusal.Stopped fault) → hand.new.stop ≡ Some fault }
         ensures halts { stop_in self.new.store ≡ stop_after (stop_in self.old.store) (fault_in result) }
@@ -313,6 +319,7 @@ fn fetch_lent<N: Naming, D: Door>(
     ensures nothing { HasNeeded file.old.content desc op.now → (file.new ≡ file.old) × (result ≡ Ok tt) }
     ensures free { (D.store store.new).unassigned.free ≡ (D.store store.old).unassigned.free }
     ensures beside { IsBeside hand.old hand.new }
+    ensures ran { HasRun (fault_in result) 0 0 (D.store store.old) (D.store store.new) }
     ensures faults { hand.new.faults ≡ told_list (fault_told (fault_in result)) ++ hand.old.faults }
     ensures refused { IfErr result (λ fault. IsTrue (is_own fault)) }
 {
@@ -347,6 +354,7 @@ fn sync_lent<N: Naming, D: Door>(
     ensures kept { OnErr result (state_of file.new commits.new ≡ state_of file.old commits.old) }
     ensures freed { OnOk result ((D.store store.new).unassigned.free ≡ set.union (D.store store.old).unassigned.free (set_of commits.old.dropped)) }
     ensures unfreed { OnErr result ((D.store store.new).unassigned.free ≡ (D.store store.old).unassigned.free) }
+    ensures ran { HasRun (fault_in result) 1 1 (D.store store.old) (D.store store.new) }
     ensures faults { hand.new.faults ≡ told_list (fault_told (fault_in result)) ++ hand.old.faults }
     ensures stop { (fault : ℕ) → result ≡ Err (refusal.Stopped fault) → hand.new.stop ≡ Some fault }
     ensures stops { (fault : ℕ) → fault_told (fault_in result) ≡ Some fault → hand.new.stop ≡ Some fault }

@@ -1,5 +1,5 @@
 // Turns that are about no file: blocks go to a pool and come back, and a checkpoint is made.
-ghost use Rattle.std.specs.Prelude.{ℕ, ◌≡◌, ◌≤◌, ◌++◌, ◌∷◌, [], false, Err, Some, IfErr, OnOk, OnErr};
+ghost use Rattle.std.specs.Prelude.{ℕ, ◌≡◌, ◌≤◌, ◌++◌, ◌∷◌, [], false, Err, None, Some, IfErr, OnOk, OnErr};
 ghost use Rattle.std.specs.FinSet as set;
 ghost use Rattle.ufs_bitmap.specs.Blocks.{BlockSet};
 ghost use Rattle.ufs_layout.specs.Areas.{IsGeometry};
@@ -9,7 +9,7 @@ ghost use Rattle.ufs_joint.specs.Turns.{MayEndTurn};
 ghost use Rattle.ufs_store.specs.Refusals.{fault_in, is_no_space, stop_after};
 ghost use Rattle.ufs_store.specs.declared.fault.StoreFault.TheVariants as refusal;
 ghost use Rattle.ufs_turns.specs.HeldStore.{IsStoreIn, bare_turn, ended_view, moved_view};
-ghost use Rattle.ufs_turns.specs.Lent.{GainsBlocks, IsBeside, IsBesidePools, LacksBlocks};
+ghost use Rattle.ufs_turns.specs.Lent.{GainsBlocks, HasRun, IsBeside, IsBesidePools, LacksBlocks};
 ghost use Rattle.ufs_turns.specs.Told.{fault_told, told_list};
 
 use crate::held_store::begin_turn;
@@ -36,6 +36,7 @@ pub(crate) fn checkpoint_lent<N: Naming, D: Door>(
     ensures files { hand.new.files ≡ [] }
     ensures names { hand.new.names ≡ [] }
     ensures beside { IsBeside hand.old hand.new }
+    ensures ran { HasRun (fault_in result) 1 0 (D.store store.old) (D.store store.new) }
     ensures faults { hand.new.faults ≡ told_list (fault_told (fault_in result)) ++ hand.old.faults }
     ensures stop { (fault : ℕ) → result ≡ Err (refusal.Stopped fault) → hand.new.stop ≡ Some fault }
     ensures halts { (D.store store.new).stop ≡ stop_after (D.store store.old).stop (fault_in result) }
@@ -86,6 +87,7 @@ pub(crate) fn give_lent<N: Naming, D: Door>(
     ensures store { IsStoreIn N.start D.visible D.keeps hand.new (D.store store.new) }
     ensures pool { (name : ℕ) → hand.old.pools ≡ (name, pool.old) ∷ [] → hand.new.pools ≡ (name, pool.new) ∷ [] }
     ensures beside { IsBesidePools hand.old hand.new }
+    ensures ran { HasRun None 0 0 (D.store store.old) (D.store store.new) }
     ensures given { OnOk result (GainsBlocks missing (D.store store.old).unassigned.free (D.store store.new).unassigned.free pool.old pool.new) }
     ensures lacks { IfErr result (LacksBlocks missing (set.len (D.store store.old).unassigned.free)) }
     ensures kept { OnErr result (pool.new ≡ pool.old) }
@@ -110,6 +112,7 @@ pub(crate) fn take_lent<N: Naming, D: Door>(
     ensures store { IsStoreIn N.start D.visible D.keeps hand.new (D.store store.new) }
     ensures pool { (name : ℕ) → hand.old.pools ≡ (name, pool.old) ∷ [] → hand.new.pools ≡ (name, pool.new) ∷ [] }
     ensures beside { IsBesidePools hand.old hand.new }
+    ensures ran { HasRun None 0 0 (D.store store.old) (D.store store.new) }
     ensures back { (D.store store.new).unassigned.free ≡ set.union (D.store store.old).unassigned.free pool.old }
     ensures none { pool.new ≡ set.empty }
 {

@@ -10,6 +10,7 @@ ghost use Rattle.ufs_store.specs.Refusals.{fault_in, fault_of, is_no_space, stop
 ghost use Rattle.ufs_store.specs.State.{geometry_of_store};
 ghost use Rattle.ufs_store.specs.declared.fault.StoreFault.{StoreFault};
 ghost use Rattle.ufs_store.specs.declared.fault.StoreFault.TheVariants as refusal;
+ghost use Rattle.ufs_turns.specs.Lent.{HasRun};
 ghost use Rattle.ufs_turns.specs.Syncs.{HasMade, HasPassed, HasNotPassed};
 
 use ufs_file::FileHand;
@@ -29,6 +30,7 @@ pub(crate) fn sync_store<D: Door>(
     requires dropped { MayReturn (D.store store.old).unassigned commits.old.dropped }
     ensures ok { OnOk result (HasPassed D.visible D.keeps (D.store store.old) (D.store store.new) (state_of file.old commits.old) (state_of file.new commits.new)) }
     ensures err { (fault : StoreFault) → result ≡ Err fault → HasNotPassed D.visible D.keeps (D.store store.old) (D.store store.new) (state_of file.old commits.old) (state_of file.new commits.new) (fault_of fault) }
+    ensures ran { HasRun (fault_in result) 1 1 (D.store store.old) (D.store store.new) }
     ensures stopped { (fault : ℕ) → result ≡ Err (refusal.Stopped fault) → (D.store store.new).stop ≡ Some fault }
     ensures halts { (D.store store.new).stop ≡ stop_after (D.store store.old).stop (fault_in result) }
     ensures halted { (fault : ℕ) → (D.store store.old).stop ≡ Some fault → result ≡ Err (refusal.Stopped fault) }
@@ -46,6 +48,7 @@ pub(crate) fn checkpoint_store<D: Door>(store: &mut D) -> Result<(), StoreFault>
     requires plain { D.stamps → ⊥ }
     ensures made { HasMade D.visible D.keeps (D.store store.old) (D.store store.new) (fault_in result) }
     ensures room { OnOk result ((D.store store.new).journal.used ≡ 0) }
+    ensures ran { HasRun (fault_in result) 1 0 (D.store store.old) (D.store store.new) }
     ensures stopped { (fault : ℕ) → result ≡ Err (refusal.Stopped fault) → (D.store store.new).stop ≡ Some fault }
     ensures halts { (D.store store.new).stop ≡ stop_after (D.store store.old).stop (fault_in result) }
     ensures halted { (fault : ℕ) → (D.store store.old).stop ≡ Some fault → result ≡ Err (refusal.Stopped fault) }

@@ -1,4 +1,4 @@
-ghost use Rattle.std.specs.Prelude.{ℕ, ◌≡◌, ◌+◌, ◌++◌, [], true, false, Ok, Err, Option, Some, IfErr, IfSome, IsTrue, OnOk, OnErr, is_some, length};
+ghost use Rattle.std.specs.Prelude.{ℕ, ◌≡◌, ◌+◌, ◌++◌, [], true, false, Ok, Err, None, Option, Some, IfErr, IfSome, IsTrue, OnOk, OnErr, is_some, length};
 ghost use Rattle.std.specs.FinSet as set;
 ghost use Rattle.ufs_bitmap.specs.Blocks.{BlockSet};
 ghost use Rattle.ufs_bitmap.specs.Taking.{set_of};
@@ -9,7 +9,7 @@ ghost use Rattle.ufs_names.specs.Notes.{with_notes};
 ghost use Rattle.ufs_joint.specs.Cells.{FileCell, NamesCell, View};
 ghost use Rattle.ufs_store.specs.Refusals.{fault_in, is_no_space, is_own};
 ghost use Rattle.ufs_store.specs.declared.fault.StoreFault.TheVariants as refusal;
-ghost use Rattle.ufs_turns.specs.Lent.{AreTold, GainsBlocks, HasCommitted, IsBare, IsBeside, IsBesidePools, LacksBlocks, LendsFile, LendsPool, StopsByFault, TellsStop, TellsWhere, used_in};
+ghost use Rattle.ufs_turns.specs.Lent.{AreTold, GainsBlocks, HasCommitted, IsBare, IsBeside, IsBesidePools, LacksBlocks, LendsFile, LendsPool, Runs, StopsByFault, TellsStop, TellsWhere, used_in};
 ghost use Rattle.ufs_turns.specs.NamesLent.{HaveCommitted, LendsNames};
 ghost use Rattle.ufs_turns.specs.Told.{fault_told, told_list};
 
@@ -23,7 +23,8 @@ use ufs_store::StoreFault;
 
 /// A way to the store of session `N`. Each call is a turn: nobody else comes to the store meanwhile. What its contracts say
 /// is of the hand that is lent and of the answer, since others may change the store between two turns; and of the store's cell by a
-/// way that tells it.
+/// way that tells it: by such a way the device's count of faults goes on by what is told alone, and by each call it is known how far
+/// the store's epoch and its next commit number may rise (`ran`).
 pub trait Turns<N: Naming> {
     /// The store's own hand, where nobody else comes to the store between two turns.
     ghost tells: { Self → Option View };
@@ -49,6 +50,7 @@ pub trait Turns<N: Naming> {
         ensures kept { OnErr result (state_of file.new commits.new ≡ state_of file.old commits.old) }
         ensures freed { OnOk result (AreTold (tells self.old) (tells self.new) (λ had has. has ≡ set.union had (set_of commits.old.dropped))) }
         ensures unfreed { OnErr result (AreTold (tells self.old) (tells self.new) (λ had has. has ≡ had)) }
+        ensures ran { Runs (tells self.old) (tells self.new) (fault_in result) 1 1 }
         ensures telling { is_some (tells self.new) ≡ is_some (tells self.old) }
         ensures answers { answers self.new ≡ answers self.old }
         ensures faults { hand.new.faults ≡ told_list (fault_told (fault_in result)) ++ hand.old.faults }
@@ -76,6 +78,7 @@ pub trait Turns<N: Naming> {
         ensures still { length file.new.content.bytes ≡ length file.old.content.bytes }
         ensures nothing { HasNeeded file.old.content desc op.now → (file.new ≡ file.old) × (result ≡ Ok tt) }
         ensures free { AreTold (tells self.old) (tells self.new) (λ had has. has ≡ had) }
+        ensures ran { Runs (tells self.old) (tells self.new) (fault_in result) 0 0 }
         ensures telling { is_some (tells self.new) ≡ is_some (tells self.old) }
         ensures answers { answers self.new ≡ answers self.old }
         ensures beside { IsBeside hand.old hand.new }
@@ -101,6 +104,7 @@ pub trait Turns<N: Naming> {
         ensures kept { OnErr result (names.new ≡ names.old) }
         ensures unspent { OnErr result (fresh.new.items ≡ fresh.old.items) }
         ensures free { AreTold (tells self.old) (tells self.new) (λ had has. has ≡ had) }
+        ensures ran { Runs (tells self.old) (tells self.new) (fault_in result) 1 1 }
         ensures telling { is_some (tells self.new) ≡ is_some (tells self.old) }
         ensures answers { answers self.new ≡ answers self.old }
         ensures faults { hand.new.faults ≡ told_list (fault_told (fault_in result)) ++ hand.old.faults }
@@ -127,6 +131,7 @@ pub trait Turns<N: Naming> {
         ensures kept { OnErr result (pool.new ≡ pool.old) }
         ensures lowest { OnOk result (AreTold (tells self.old) (tells self.new) (λ had left. GainsBlocks missing had left pool.old pool.new)) }
         ensures fewer { IfErr result (λ fault. AreTold (tells self.old) (tells self.new) (λ had left. LacksBlocks missing (set.len had) fault × (left ≡ had))) }
+        ensures ran { Runs (tells self.old) (tells self.new) None 0 0 }
         ensures telling { is_some (tells self.new) ≡ is_some (tells self.old) }
         ensures met { OnOk result (answers self.new ≡ answers self.old) }
         ensures unmet { OnErr result (answers self.new ≡ answers self.old + 1) };
@@ -138,6 +143,7 @@ pub trait Turns<N: Naming> {
         ensures beside { IsBesidePools hand.old hand.new }
         ensures none { pool.new ≡ set.empty }
         ensures back { AreTold (tells self.old) (tells self.new) (λ had has. has ≡ set.union had pool.old) }
+        ensures ran { Runs (tells self.old) (tells self.new) None 0 0 }
         ensures telling { is_some (tells self.new) ≡ is_some (tells self.old) }
         ensures answers { answers self.new ≡ answers self.old };
 
@@ -147,6 +153,7 @@ pub trait Turns<N: Naming> {
         requires bare { IsBare hand.old }
         ensures emptied { OnOk result (IfSome (tells self.new) (λ v. used_in v.store ≡ 0)) }
         ensures free { AreTold (tells self.old) (tells self.new) (λ had has. has ≡ had) }
+        ensures ran { Runs (tells self.old) (tells self.new) (fault_in result) 1 0 }
         ensures telling { is_some (tells self.new) ≡ is_some (tells self.old) }
         ensures made { OnOk result (answers self.new ≡ answers self.old + 1) }
         ensures unmade { OnErr result (answers self.new ≡ answers self.old) }

@@ -93,3 +93,15 @@ own_is (refusal.Lack w) e = refl
 
 pub returns-in-Err-clause-refused : goal.returns-in-Err-clause-refused
 returns-in-Err-clause-refused g c = own_is c.in-Err.fault c.in-Err.ensures.refused
+
+pub returns-in-Ok-clause-ran : goal.returns-in-Ok-clause-ran
+returns-in-Ok-clause-ran g c =
+    let s = g.D.Door.store c.args.store.now in
+    let t = g.D.Door.store c.commit_notes-committed.new.door in
+    record { count = subst (IsTold s.faults t.faults) (ap fault_in c.in-Ok.is) c.commit_notes-committed.ensures.cause; raised = c.commit_notes-committed.ensures.raised }
+
+pub returns-in-Err-clause-ran : goal.returns-in-Err-clause-ran
+returns-in-Err-clause-ran g c =
+    let s = g.D.Door.store c.args.store.now in
+    let t = g.D.Door.store c.commit_notes-committed.new.door in
+    record { count = subst (IsTold s.faults t.faults) (ap fault_in c.in-Err.is) c.commit_notes-committed.ensures.cause; raised = c.commit_notes-committed.ensures.raised }

@@ -7,6 +7,7 @@ use Rattle.ufs_name_tree.specs.NameTable.{IsNameTable}
 use Rattle.ufs_names.specs.NamesPart.{NamesPart}
 use Rattle.ufs_joint.specs.Turns.{MayEndTurn}
 use Rattle.ufs_store.specs.Refusals.{fault_in, fault_of, stop_after}
+use Rattle.ufs_turns.specs.Lent.{HasRun}
 use Rattle.ufs_turns.specs.NamesLent.{HaveNotPassed, HavePassed, names_turn}
 use Rattle.ufs_turns.specs.Told.{fault_told, told_list}
 use Rattle.ufs_turns.proofs.Committing.{beside_then, commit_ends, commit_went, committed_then, failed_then, failure_ends, failure_went, faults_then, fresh_there, stop_then, store_then}
@@ -134,3 +135,9 @@ returns-in-Err-clause-halted g c fault is = sym c.in-Err.is ∙ c.commit_store.e
 
 pub returns-in-Err-clause-stopped : goal.returns-in-Err-clause-stopped
 returns-in-Err-clause-stopped g c fault is = c.commit_store.ensures.stopped fault (c.in-Err.is ∙ is)
+
+pub returns-in-Ok-clause-ran : goal.returns-in-Ok-clause-ran
+returns-in-Ok-clause-ran g c = subst (λ (o : Option ℕ). HasRun o 1 1 (g.D.Door.store c.args.store.now) (g.D.Door.store c.commit_store.new.store)) (ap (λ (r : _). fault_in r) c.in-Ok.is) c.commit_store.ensures.ran
+
+pub returns-in-Err-clause-ran : goal.returns-in-Err-clause-ran
+returns-in-Err-clause-ran g c = subst (λ (o : Option ℕ). HasRun o 1 1 (g.D.Door.store c.args.store.now) (g.D.Door.store c.commit_store.new.store)) (ap (λ (r : _). fault_in r) c.in-Err.is) c.commit_store.ensures.ran

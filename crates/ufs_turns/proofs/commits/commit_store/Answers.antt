@@ -1,4 +1,4 @@
-use Rattle.std.proofs.Common.{◌≡◌, inl, ℕ, Option, Some, None, Ok, Err, Result, ap, sym, subst, refl, ◌∙◌}
+use Rattle.std.proofs.Common.{◌≡◌, inl, ℕ, Option, Some, None, Ok, Err, Result, ap, sym, subst, refl, ◌∙◌, arith}
 use Rattle.ufs_store.specs.Refusals.{fault_of, stop_after}
 use Rattle.ufs_store.specs.declared.fault.StoreFault.{StoreFault}
 use Rattle.ufs_store.specs.declared.fault.StoreFault.TheVariants as refusal
@@ -53,3 +53,6 @@ told_stop (Err (refusal.Lack w)) = None
 pub returns-in-Some-clause-stopped : goal.returns-in-Some-clause-stopped
 unfolding told_stop
 returns-in-Some-clause-stopped g c fault same = sym c.stopped.ensures ∙ c.in-Some.is ∙ ap told_stop same
+
+pub returns-in-Some-clause-ran : goal.returns-in-Some-clause-ran
+returns-in-Some-clause-ran g c = record { count = refl; raised = record { epoch = omega arith; epoch_most = omega arith; number = omega arith; number_most = omega arith } }

@@ -15,6 +15,7 @@ use Rattle.ufs_store.specs.Refusals.{fault_in}
 use Rattle.ufs_store.specs.State.{StoreState, geometry_of_store}
 use Rattle.ufs_turns.specs.HeldStore.{sync_turn}
 use Rattle.ufs_turns.specs.Told.{told_list}
+use Rattle.ufs_turns.proofs.FreeBlocks.{none_raised}
 use Rattle.ufs_turns.proofs.Syncing.{faults_then, told_is_same, fetch_ends, fetch_went, file_here, further, may_sync, store_then}
 use Rattle.ufs_turns.proofs.held_store.fetch_lent.Goals as goal
 
@@ -84,3 +85,10 @@ returns-clause-nothing g c there = (let e = c.fetch-read.ensures.nothing there i
 
 pub returns-clause-free : goal.returns-clause-free
 returns-clause-free g c = ap (λ (q : StoreState). q.unassigned.free) c.fetch-read.ensures.store
+
+pub returns-clause-ran : goal.returns-clause-ran
+returns-clause-ran g c =
+    let s = g.D.Door.store c.args.store.now in
+    let t = g.D.Door.store c.fetch-read.new.door in
+    let is = c.fetch-read.ensures.store in
+    record { count = c.fetch-read.ensures.cause; raised = none_raised s t (ap (λ (q : StoreState). q.superblock) is) (ap (λ (q : StoreState). q.journal) is) }

@@ -16,7 +16,7 @@ use Rattle.ufs_store.specs.State.{geometry_of_store}
 use Rattle.ufs_turns.specs.HeldStore.{sync_turn}
 use Rattle.ufs_turns.specs.Told.{fault_told, told_list}
 use Rattle.ufs_turns.specs.Syncs.{HasNotPassed, HasPassed}
-use Rattle.ufs_turns.specs.Lent.{IsFileIn}
+use Rattle.ufs_turns.specs.Lent.{HasRun, IsFileIn}
 use Rattle.ufs_turns.proofs.Syncing.{faults_then, told_is_same, stop_then, commit_went, failure_went, commit_ends, committed_then, failure_ends, file_sound, may_sync, store_then}
 use Rattle.ufs_turns.proofs.Turning.{stop_told}
 use Rattle.ufs_turns.proofs.held_store.sync_lent.Goals as goal
@@ -157,3 +157,9 @@ returns-in-Err-clause-halted g c fault is = sym c.in-Err.is ∙ c.sync_store.ens
 
 pub returns-in-Err-clause-stopped : goal.returns-in-Err-clause-stopped
 returns-in-Err-clause-stopped g c fault is = c.sync_store.ensures.stopped fault (c.in-Err.is ∙ is)
+
+pub returns-in-Ok-clause-ran : goal.returns-in-Ok-clause-ran
+returns-in-Ok-clause-ran g c = subst (λ (o : Option ℕ). HasRun o 1 1 (g.D.Door.store c.args.store.now) (g.D.Door.store c.sync_store.new.store)) (ap (λ (r : _). fault_in r) c.in-Ok.is) c.sync_store.ensures.ran
+
+pub returns-in-Err-clause-ran : goal.returns-in-Err-clause-ran
+returns-in-Err-clause-ran g c = subst (λ (o : Option ℕ). HasRun o 1 1 (g.D.Door.store c.args.store.now) (g.D.Door.store c.sync_store.new.store)) (ap (λ (r : _). fault_in r) c.in-Err.is) c.sync_store.ensures.ran

@@ -11,6 +11,7 @@ use Rattle.ufs_store.specs.State.{StoreState}
 use Rattle.ufs_store.specs.declared.fault.StoreFault.{StoreFault}
 use Rattle.ufs_store.specs.declared.fault.StoreFault.TheVariants as refusal
 use Rattle.ufs_turns.specs.Lent.{GainsBlocks, LacksBlocks}
+use Rattle.ufs_turns.proofs.FreeBlocks.{none_raised}
 use Rattle.ufs_turns.proofs.Pools.{beside_then, given_apart, given_same, may_move, pool_apart, pools_then, store_then}
 use Rattle.ufs_turns.proofs.space.give_lent.Goals as goal
 
@@ -79,3 +80,10 @@ unmoved (Err x) s t old new kept = ap (λ (q : StoreState). q.unassigned.free) k
 
 pub returns-clause-same : goal.returns-clause-same
 returns-clause-same g c = unmoved c.give_pool-given.result (g.D.Door.store c.args.store.now) (g.D.Door.store c.give_pool-given.new.self) c.args.pool.now c.give_pool-given.new.pool c.give_pool-given.ensures.kept
+
+pub returns-clause-ran : goal.returns-clause-ran
+returns-clause-ran g c =
+    let s = g.D.Door.store c.args.store.now in
+    let t = g.D.Door.store c.give_pool-given.new.self in
+    let is = c.give_pool-given.ensures.rest in
+    record { count = ap (λ (q : StoreState). q.faults) is; raised = none_raised s t (ap (λ (q : StoreState). q.superblock) is) (ap (λ (q : StoreState). q.journal) is) }

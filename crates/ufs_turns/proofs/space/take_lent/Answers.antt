@@ -6,6 +6,7 @@ use Rattle.ufs_layout.specs.declared.geometry.Geometry.{Geometry}
 use Rattle.ufs_joint.specs.Cells.{View}
 use Rattle.ufs_joint.specs.Disks.{cell_of}
 use Rattle.ufs_store.specs.State.{StoreState}
+use Rattle.ufs_turns.proofs.FreeBlocks.{none_raised}
 use Rattle.ufs_turns.proofs.Pools.{back_same, beside_then, may_move, none_there, pool_apart, pool_inside, pools_then, store_then}
 use Rattle.ufs_turns.proofs.space.take_lent.Goals as goal
 
@@ -64,3 +65,10 @@ returns-clause-beside g c =
 
 pub returns-clause-back : goal.returns-clause-back
 returns-clause-back g c = ap (λ (q : StoreState). q.unassigned.free) c.take_back.ensures.back
+
+pub returns-clause-ran : goal.returns-clause-ran
+returns-clause-ran g c =
+    let s = g.D.Door.store c.args.store.now in
+    let t = g.D.Door.store c.take_back.new.self in
+    let is = c.take_back.ensures.back in
+    record { count = ap (λ (q : StoreState). q.faults) is; raised = none_raised s t (ap (λ (q : StoreState). q.superblock) is) (ap (λ (q : StoreState). q.journal) is) }

@@ -43,3 +43,6 @@ returns-clause-stopped g c fault is =
 
 pub returns-clause-halted : goal.returns-clause-halted
 returns-clause-halted g c fault is = (c.checkpoint.ensures.stopped fault).1 is
+
+pub returns-clause-ran : goal.returns-clause-ran
+returns-clause-ran g c = record { count = c.checkpoint.ensures.cause; raised = c.checkpoint.ensures.raised }

@@ -97,3 +97,9 @@ returns-in-Ok-clause-halted g c fault is = sym c.in-Ok.is ∙ (c.fsync.ensures.s
 
 pub returns-in-Err-clause-halted : goal.returns-in-Err-clause-halted
 returns-in-Err-clause-halted g c fault is = sym c.in-Err.is ∙ (c.fsync.ensures.stopped fault).1 is
+
+pub returns-in-Ok-clause-ran : goal.returns-in-Ok-clause-ran
+returns-in-Ok-clause-ran g c = record { count = subst (IsTold (g.D.Door.store c.args.store.now).faults (g.D.Door.store c.fsync.new.door).faults) (ap fault_in c.in-Ok.is) c.fsync.ensures.cause; raised = c.fsync.ensures.raised }
+
+pub returns-in-Err-clause-ran : goal.returns-in-Err-clause-ran
+returns-in-Err-clause-ran g c = record { count = subst (IsTold (g.D.Door.store c.args.store.now).faults (g.D.Door.store c.fsync.new.door).faults) (ap fault_in c.in-Err.is) c.fsync.ensures.cause; raised = c.fsync.ensures.raised }

@@ -6,7 +6,7 @@ use Rattle.ufs_store.specs.Refusals.{fault_in}
 use Rattle.ufs_store.specs.declared.fault.StoreFault.{StoreFault}
 use Rattle.ufs_turns.specs.Lent.{stop_in}
 use Rattle.ufs_turns.specs.Told.{fault_told, told_list}
-use Rattle.ufs_turns.proofs.FreeBlocks.{in_cells, stop_before, stop_behind}
+use Rattle.ufs_turns.proofs.FreeBlocks.{in_cells, run_behind, stop_before, stop_behind}
 use Rattle.ufs_turns.proofs.held_store.HeldStore.commit_names.Goals as goal
 
 pub commit_lent-committed-requires-clause-names : goal.commit_lent-committed-requires-clause-names
@@ -97,3 +97,10 @@ returns-clause-stopped g c fault is =
     let st = c.commit_lent-committed.ensures.store in
     let alone = c.give_back.ensures.home (cell_of st.stamp st.past t) st.has in
     ap stop_in alone.store ∙ c.commit_lent-committed.ensures.stopped fault is
+
+pub returns-clause-ran : goal.returns-clause-ran
+returns-clause-ran g c =
+    let t = g.D.Door.store c.commit_lent-committed.new.store in
+    let st = c.commit_lent-committed.ensures.store in
+    let alone = c.give_back.ensures.home (cell_of st.stamp st.past t) st.has in
+    run_behind g.N.Naming.start g.D.Door.visible g.D.Door.keeps c.self.inside.hand c.give_back.new.own c.args.self.now (g.D.Door.store c.self.inside.store) c.self.invariant.1 c.self.view_is st.stamp st.past t alone (fault_in c.commit_lent-committed.result) 1 1 c.commit_lent-committed.ensures.ran
