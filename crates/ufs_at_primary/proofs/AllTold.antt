@@ -88,7 +88,7 @@ numbers_still visible old new olds nows before after r replied done short = by (
 
 module _ (k : Start) (ask : Ask) (before : View) (asked : IsAsked k ask before) (sync : ask.op ≡ op.Sync) where
   pub asks_sync : AsksSync asked.self ask
-  asks_sync = record { low = asked.low; asked = asked.asked; seq = asked.seq; op_is = sync }
+  asks_sync = record { low = asked.low; asked = asked.asked; seq = asked.seq; op_is = sync; needs = asked.needs }
 
   module _ (entry : Entry) (of : IsEntryOf ask Primary entry.ticket entry) (guest : View) (back : HasClientAlone ask.client (answered asked.self entry) guest) where
     is_sync : entry.op ≡ op.Sync

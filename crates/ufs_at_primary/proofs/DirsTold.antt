@@ -40,6 +40,7 @@ asks_dir k ask v asked s some =
       is = ap (λ (o : Op). own_desc asked.self.fds (fd_named o)) (sym s.fsync.1) ∙ sym asked.desc ∙ d.1;
       of = ap file_in (sym d.1) ∙ s.dir;
       told = asked.told;
+      needs = asked.needs;
     }
 
 pub asks_unopened : (k : Start) (ask : Ask) (v : View) (asked : IsAsked k ask v) → AsksSyncOf ask → ask.desc ≡ None → AsksUnopened asked.self ask
@@ -50,6 +51,7 @@ asks_unopened k ask v asked s none = record {
   fd = s.fsync.0;
   op_is = s.fsync.1;
   none = ap (λ (o : Op). own_desc asked.self.fds (fd_named o)) (sym s.fsync.1) ∙ sym asked.desc ∙ none;
+  needs = asked.needs;
 }
 
 no_owner : (o : Option Desc) (x : Desc) (file : ℕ) → file_in o ≡ None → o ≡ Some x → x.file ≡ Some file → ⊥

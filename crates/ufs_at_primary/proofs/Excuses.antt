@@ -14,6 +14,8 @@ use Rattle.ufs_joint.specs.Cells.{Start, View}
 use Rattle.ufs_joint.specs.Draws.{IsAround, Leaves, MayDraw}
 use Rattle.ufs_joint.specs.FileHands.{own_desc}
 use Rattle.ufs_joint.specs.NamesHands.{AreNumberedOnce, IsNextOf, still_leaves}
+use Rattle.ufs_joint.specs.Servers.{NeedsServer}
+use Rattle.ufs_joint.proofs.Served.{by_server}
 use Rattle.ufs_joint.proofs.StillDraws.{IsStillHand, may_draw}
 use Rattle.ufs_joint.proofs.StillKinds.{excuse_still}
 use Rattle.ufs_joint.specs.KnownDraws.{ExcusesStayKept}
@@ -47,7 +49,7 @@ excused_by ask = replied_to ask Primary (reply.Excused excuse.Memory)
 pub next_of : (k : Start) (ask : Ask) (v : View) (asked : IsAsked k ask v) → IsNextOf ask.client asked.self (excused_by ask)
 next_of k ask v asked = record { low = asked.low; by_client = refl; asked = asked.asked; seq = asked.seq }
 
-module _ (k : Start) (v : View) (part : ClientPart) (n : ℕ) (pool : BlockSet) (ask : Ask) (ticket : ℕ) (has : IsGuest ask.client part n pool v) (next : IsNextOf ask.client part (excused_by ask)) where
+module _ (k : Start) (v : View) (part : ClientPart) (n : ℕ) (pool : BlockSet) (ask : Ask) (ticket : ℕ) (has : IsGuest ask.client part n pool v) (next : IsNextOf ask.client part (excused_by ask)) (needs : NeedsServer part.fds ask.client ask.op) where
   -- want of memory excuses any request
   due : (start : PosixTree) (history : List Entry) (p : Parts) (rest : BlockSet) → IsAround k.geometry v ticket start history p rest → IsReplyTo (tree_after start history) (entry_of ticket (excused_by ask))
   due start history p rest a = inr (record { due = λ no. absurd cc; told = tt })
@@ -55,7 +57,7 @@ module _ (k : Start) (v : View) (part : ClientPart) (n : ℕ) (pool : BlockSet) 
   pub may_excuse : ExcusesStayKept → MayDraw k.geometry k.is_visible v (excused_by ask) (still_of v) ticket
   may_excuse stays =
       may_reply k v ask.client part n pool (excused_by ask) ticket has next (excuse_still v (excused_by ask) ticket excuse.Memory refl (λ fault is. absurd cc) (λ fault is. absurd cc) (λ fault by is. absurd cc) (λ fault is. absurd cc)) due
-      (λ seen s start history p known formed legal fds cells knows on. stays s start history (entry_of ticket (excused_by ask)) p known legal refl on)
+      (λ seen s start history p known formed legal fds cells knows on. stays s start history (entry_of ticket (excused_by ask)) p known legal refl on) (by_server part.fds (excused_by ask) needs tt)
 
 -- ---- what is told
 

@@ -53,7 +53,7 @@ named_apart n next (Some c) new off low = record { new = new; touched = λ is. o
 -- ---- the request
 
 pub asks_names : (k : Start) (ask : Ask) (v : View) (asked : IsAsked k ask v) → IsOfNames ask → asks_commit ask.op ≡ false → AsksNames asked.self ask
-asks_names k ask v asked kind none = record { low = asked.low; asked = asked.asked; seq = asked.seq; kind = kind; no_commit = none; told = asked.told }
+asks_names k ask v asked kind none = record { low = asked.low; asked = asked.asked; seq = asked.seq; kind = kind; no_commit = none; told = asked.told; needs = asked.needs }
 
 -- ---- its descriptor
 

@@ -76,6 +76,7 @@ asked_by k ask before after asked alone = record {
   asked = asked.asked;
   desc = asked.desc;
   told = asked.told;
+  needs = asked.needs;
   dropped = asked.dropped;
   unleased = asked.unleased;
 }

@@ -7,6 +7,7 @@ ghost use Rattle.ufs_held.specs.Asking.{IsGuest};
 ghost use Rattle.ufs_held.specs.Drawn.{replied_to};
 ghost use Rattle.ufs_held_names.specs.Dirs.{answered};
 ghost use Rattle.ufs_joint.specs.NamesHands.{IsNextOf};
+ghost use Rattle.ufs_joint.specs.Servers.{NeedsServer};
 ghost use Rattle.ufs_model.specs.declared.data.Actor.TheVariants.{Primary};
 ghost use Rattle.ufs_model.specs.declared.data.Excuse.TheVariants as excuses;
 ghost use Rattle.ufs_model.specs.declared.data.Reply.TheVariants as reply;
@@ -32,7 +33,7 @@ fn draw_excuse<N: Naming>(
     mut guest: Hand<N>,
     memory: Memory,
 ) -> (Entry, Hand<N>)
-    requires { (part : ClientPart) × (n : ℕ) × (pool : BlockSet) × IsGuest ask.client part n pool guest × IsNextOf ask.client part (replied_to ask Primary (reply.Excused excuses.Memory)) }
+    requires { (part : ClientPart) × (n : ℕ) × (pool : BlockSet) × IsGuest ask.client part n pool guest × IsNextOf ask.client part (replied_to ask Primary (reply.Excused excuses.Memory)) × NeedsServer part.fds ask.client ask.op }
     ensures entry { IsEntryOf ask Primary result.0.ticket result.0 }
     ensures replied { result.0.reply ≡ reply.Excused excuses.Memory }
     ensures guest { (part : ClientPart) (n : ℕ) (pool : BlockSet) → IsGuest ask.client part n pool guest → IsGuest ask.client (answered part result.0) n pool result.1 }

@@ -1,10 +1,13 @@
 -- A client asks: its hand is marked, and its part is split off.
 use Rattle.std.proofs.Common.{◌≡◌, ℕ, ◌<◌, true, false, eqb, eq-eqb, cond, List, [], ◌∷◌, length, Some, None, sym, refl, ap, ◌∙◌, subst, inl}
 use Rattle.std.specs.Prelude.{if◌then◌else◌}
+use Rattle.ufs_client.specs.Own.{is_own}
 use Rattle.ufs_joint.specs.Cells.{Start, View, given_of, kept_of}
 use Rattle.ufs_joint.specs.Marks.{asking}
 use Rattle.ufs_joint.specs.Rule.{IsEvent}
+use Rattle.ufs_model.specs.Asks.{IsAsk}
 use Rattle.ufs_model.specs.Bounds.{IsBounded}
+use Rattle.ufs_model.specs.PosixTree.{PosixTree}
 use Rattle.ufs_model.specs.declared.data.Ask.{Ask}
 use Rattle.ufs_model.specs.declared.data.Lease.{Lease}
 use Rattle.ufs_model.specs.declared.data.Op.{Op}
@@ -87,8 +90,8 @@ no_copy (x ∷ xs) l e h = absurd (clash e)
     clash e' = cc
 
 -- a client that has no copy of a lease has none to give back
-pub is_asked : (k : Start) (ask : Ask) (self : ClientPart) (v : View) → IsClientThere k ask.client → ask.client < 16 → ask.seq < 65536 → IsBounded ask.op → IsAskFor ask self → self.copies ≡ [] → HasClientAlone ask.client (record self { asked = Some ask.op }) v → IsAsked k ask v
-is_asked k ask self v there low few bounded f none alone = record {
+pub is_asked : (k : Start) (ask : Ask) (self : ClientPart) (v : View) → IsClientThere k ask.client → ask.client < 16 → ask.seq < 65536 → IsBounded ask.op → IsAskFor ask self → self.copies ≡ [] → ((t : PosixTree) → IsAsk t ask → is_own t ask.client ask.op ≡ false) → HasClientAlone ask.client (record self { asked = Some ask.op }) v → IsAsked k ask v
+is_asked k ask self v there low few bounded f none needs alone = record {
   there = there;
   self = record self { asked = Some ask.op };
   alone = alone;
@@ -99,6 +102,7 @@ is_asked k ask self v there low few bounded f none alone = record {
   asked = refl;
   desc = f.desc;
   told = f.told;
+  needs = λ t same. needs t (f.told t same);
   dropped = λ l h r. no_copy self.copies l none h;
   unleased = none;
 }

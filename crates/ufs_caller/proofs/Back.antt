@@ -174,6 +174,7 @@ module _ (k : Start) (n : ℕ) (ask : Ask) (own back : View) (is : IsAsked k ask
     asked = is.asked;
     desc = is.desc;
     told = is.told;
+    needs = is.needs;
     dropped = is.dropped;
     unleased = is.unleased;
   }

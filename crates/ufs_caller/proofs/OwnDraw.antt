@@ -151,6 +151,7 @@ module _ (stays : BesideStaysKept) (files_stay : FilesStayBeside) (names_stay : 
     to : DrawsTo g v f l ticket go start history p rest
     to = record {
       legal = legal;
+      served = record { own = λ its. refl; sent = λ no. absurd (let clash : true ≡ false = sym (own t is_ask) ∙ no in cc) };
       fds = λ fd. with_are t ask.client ask.op answer desc self.fds same due fd ∙ ap (λ (u : PosixTree). desc_at u ask.client fd) (sym goes);
       others = λ c not fd. sym (due.told.others c fd (inl not)) ∙ ap (λ (u : PosixTree). desc_at u c fd) (sym goes);
       parts = own_parts.parts_behind start history p e ask desc refl refl plain is_ask (own t is_ask) due a.parts;

@@ -1,9 +1,11 @@
 // What a client does with its hand: it asks, sends its part away, sees it by, and takes it back.
-ghost use Rattle.std.specs.Prelude.{ℕ, ◌≡◌, ◌<◌, ◌≤◌, [], None, Option, Some, length};
+ghost use Rattle.std.specs.Prelude.{ℕ, ◌≡◌, ◌<◌, ◌≤◌, false, [], None, Option, Some, length};
+ghost use Rattle.ufs_client.specs.Own.{is_own};
 ghost use Rattle.ufs_joint.specs.Cells.{kept_of};
 ghost use Rattle.ufs_layout.specs.Areas.{IsGeometry};
+ghost use Rattle.ufs_model.specs.Asks.{IsAsk};
 ghost use Rattle.ufs_model.specs.Bounds.{IsBounded};
-ghost use Rattle.ufs_model.specs.PosixTree.{desc_at};
+ghost use Rattle.ufs_model.specs.PosixTree.{PosixTree, desc_at};
 ghost use Rattle.ufs_model.specs.declared.data.Actor.{Actor};
 ghost use Rattle.ufs_model.specs.declared.data.Lease.{Lease};
 ghost use Rattle.ufs_model.specs.declared.data.Op.{Op};
@@ -66,6 +68,7 @@ pub fn send_off<N: Naming>(
     requires few { ask.seq < 65536 }
     requires bounded { IsBounded ask.op }
     requires both { (self : ClientPart) × (before : AskedPart) × HasBoth ask.client self before hand.old × IsAskFor ask self × (self.copies ≡ []) }
+    requires sent { (t : PosixTree) → IsAsk t ask → is_own t ask.client ask.op ≡ false }
     ensures away { (self : ClientPart) (before : AskedPart) → HasBoth ask.client self before hand.old
         → (after : AskedPart) × HasAskedAlone ask.client after hand.new × (after.entries ≡ self.entries) × (after.fds ≡ self.fds) × (after.asked ≡ Some ask.op) × (hand.old.seen ≤ after.tickets) }
     ensures request { result.ask ≡ ask }

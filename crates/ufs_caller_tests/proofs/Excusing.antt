@@ -84,6 +84,7 @@ module _ (k : Start) (blind : k.is_visible ≡ false) (ask : Ask) (v : View) (is
     to : DrawsTo k.geometry v f l ticket (λ q. q) start history p rest
     to = record {
       legal = legal-push start history e a.legal (record { numbered = sym a.so_many; replied = inr fits }) (tells_new (Excused Memory) history (λ fault other. cc));
+      served = record { own = λ its. cc; sent = λ its. tt };
       fds = λ x. a.fds ask.client is.self here x ∙ ap (λ (u : PosixTree). desc_at u ask.client x) (sym same_tree);
       others = λ c not x. ap (λ (u : PosixTree). desc_at u c x) (sym same_tree);
       parts = subst (ArePartsOf p) (sym same_tree) a.parts;

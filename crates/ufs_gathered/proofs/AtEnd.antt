@@ -225,6 +225,7 @@ module _ (k : Start) (visible keeps : Bool) (names : NamesCell) (files : List Fi
     drawn = whole.all_drawn;
     legal = whole.legal;
     merged = record { rising = rising_from 0 whole.start whole.history whole.legal.entries; each = entries_are };
+    served = whole.served;
     ordered = ordered;
     complete = complete;
     faults = λ fault told. let f = whole.faults fault told in record { later = f.later; counted = f.answered; below = f.below };

@@ -22,6 +22,7 @@ use Rattle.ufs_joint.specs.Disks.{states_behind}
 use Rattle.ufs_joint.specs.Faults.{IsStopSince, faults_in, stop_first}
 use Rattle.ufs_joint.specs.NamesTurns.{live_files}
 use Rattle.ufs_joint.specs.Picks.{Pick}
+use Rattle.ufs_joint.specs.Servers.{AreServedSo}
 use Rattle.ufs_joint.specs.Sound.{IsExplainedState, MayHaveBegun}
 use Rattle.ufs_joint.specs.Whole.{HasFileCell, HasNamesCell}
 use Rattle.ufs_turns.specs.HeldStore.{counted_in, sectors_in}
@@ -61,10 +62,11 @@ pub record AreAllKnown (names : NamesCell) (files : List FileCell) : Type 0 wher
 -- ---- the whole
 
 -- The transcripts are those of one history, with all tickets, in which a tree with which the session may have begun gives each reply, or
--- the reply is an excuse that fits and leaves the tree; each client's requests are in its order. Names and files are those of the tree
--- to which it leads. A fault that excuses an entry is one of the session, and whoever is told that the store stopped is told where: by that, or
--- where a request asks for a commit, by the fault itself. No other request is told a stop. It stopped at a
--- fault of the session, if it hadn't before. The disk has as many sectors as at the beginning.
+-- the reply is an excuse that fits and leaves the tree; each client's requests are in its order. Each entry was served by its client,
+-- where that answers it itself, and else by a server. Names and files are those of the tree to which it leads. A fault that excuses an
+-- entry is one of the session, and whoever is told that the store stopped is told where: by that, or where a request asks for a commit,
+-- by the fault itself. No other request is told a stop. It stopped at a fault of the session, if it hadn't before. The disk has as many
+-- sectors as at the beginning.
 pub record HasEnded (k : Start) (tickets : ℕ) (lists : List (List Entry)) (names : NamesCell) (files : List FileCell) (s : StoreState) : Type 0 where
   pub start : PosixTree
   pub picks : List Pick
@@ -73,6 +75,7 @@ pub record HasEnded (k : Start) (tickets : ℕ) (lists : List (List Entry)) (nam
   pub drawn : length history ≡ tickets
   pub legal : IsLegal start history
   pub merged : IsMerged lists history
+  pub served : AreServedSo start history
   pub ordered : (scripts : List (List Op)) → AnswerFirst scripts lists → IsInOrder scripts history
   pub complete : (scripts : List (List Op)) → AnswerAll scripts lists → IsComplete scripts history
   pub faults : (fault : ℕ) → 1 ≤ told fault history → IsFaultSince (faults_in k.view.store) s.faults fault

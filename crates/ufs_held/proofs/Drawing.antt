@@ -18,6 +18,7 @@ use Rattle.ufs_model.specs.declared.data.Entry.{Entry}
 use Rattle.ufs_model.specs.declared.data.Excuse.{Excuse}
 use Rattle.ufs_model.specs.declared.data.Reply.{Reply}
 use Rattle.ufs_model.specs.declared.data.Excuse.TheVariants as excuse
+use Rattle.ufs_model.specs.declared.data.Op.{Op}
 use Rattle.ufs_model.specs.declared.data.Reply.TheVariants as reply
 use Rattle.ufs_model.proofs.Facts.Lookups as lookups
 use Rattle.ufs_crash_laws.specs.Changes.{asks_commit}
@@ -32,10 +33,12 @@ use Rattle.ufs_joint.specs.Draws.{Leaves, MayDraw}
 use Rattle.ufs_joint.specs.FileHands.{ExcusesMayDraw, FileRequestsMayDraw, IsFileHand, MayExcuse, ServesFile, same_leaves, served_leaves}
 use Rattle.ufs_joint.specs.Known.{Knows}
 use Rattle.ufs_joint.specs.Rule.{looked_at}
+use Rattle.ufs_joint.specs.Servers.{IsAlwaysServedSo, IsServer, NeedsServer}
 use Rattle.ufs_joint.specs.Whole.{HasFileCell}
 use Rattle.ufs_joint.proofs.Blocks.{pooled_one}
 use Rattle.ufs_joint.specs.Whole.{pooled}
 use Rattle.ufs_joint.proofs.OneFile.{durable_is}
+use Rattle.ufs_joint.proofs.Served.{by_server}
 use Rattle.ufs_turns.proofs.Syncing.{file_sound}
 use Rattle.ufs_held.specs.Asking.{Asks}
 use Rattle.ufs_held.specs.Drawn.{cell_then, fds_with, first_fds, fresh_of, held_leaves}
@@ -106,12 +109,15 @@ module _ (k : Start) (n0 : ℕ) (v : View) (knows : Knows k n0 v) (part : Client
   -- ---- once it is applied
 
   module _ (y : DurableState) (left : BlockSet) (by : Actor) (entry : Entry) (desc : Option Desc) (applied : IsApplied x y pool left ask by 0 entry desc) (number : y.file.file ≡ x.file.file)
-      (fewer : (block : ℕ) → set.contains left block ≡ true → set.contains pool block ≡ true) (no_commit : asks_commit ask.op ≡ false) (named : IsOf ask.desc x.file.file) where
+      (fewer : (block : ℕ) → set.contains left block ≡ true → set.contains pool block ≡ true) (no_commit : asks_commit ask.op ≡ false) (named : IsOf ask.desc x.file.file) (server : IsServer by) where
     abbrev f : Fresh
     f = fresh_of entry
 
     of_ask : IsEntryOf ask by 0 entry
     of_ask = applied.of_ask
+
+    who : IsAlwaysServedSo part.fds f
+    who = by_server part.fds f (subst (λ (q : ℕ × Op). NeedsServer part.fds q.0 q.1) (λ i. (sym of_ask.client i, sym of_ask.asked i)) asks.needs) (subst IsServer (sym of_ask.server) server)
 
     d : (d : Desc) × (ask.desc ≡ Some d) × (d.file ≡ Some x.file.file)
     d = of_desc ask.desc x.file.file named
@@ -176,7 +182,7 @@ module _ (k : Start) (n0 : ℕ) (v : View) (knows : Knows k n0 v) (part : Client
       }
 
       may_served : FileRequestsMayDraw → MayDraw k.geometry k.is_visible w f (held_leaves f w y left desc t) t
-      may_served law = subst (λ (q : Leaves). MayDraw k.geometry k.is_visible w f q t) (sym leaves_are) (law k.geometry k.is_visible w ask.client part x.file.file cell n pool left f t ask by d.0 y desc fds looked serves)
+      may_served law = subst (λ (q : Leaves). MayDraw k.geometry k.is_visible w f q t) (sym leaves_are) (law k.geometry k.is_visible w ask.client part x.file.file cell n pool left f t ask by d.0 y desc fds looked serves who)
 
     -- excused
     module _ (excused : is_excused f.reply ≡ true) (t : ℕ) where
@@ -216,7 +222,7 @@ module _ (k : Start) (n0 : ℕ) (v : View) (knows : Knows k n0 v) (part : Client
           }) ∙ (λ i. record { fds = part.fds; files = (x.file.file, cell) ∷ []; pools = (n, applied.pool excused i) ∷ []; names = [] })
 
       may_excused : ExcusesMayDraw → MayDraw k.geometry k.is_visible w f (held_leaves f w y left desc t) t
-      may_excused law = subst (λ (q : Leaves). MayDraw k.geometry k.is_visible w f q t) (sym leaves_stay) (law k.geometry k.is_visible w ask.client part x.file.file cell n pool f t ask reason.0 looked may_excuse)
+      may_excused law = subst (λ (q : Leaves). MayDraw k.geometry k.is_visible w f q t) (sym leaves_stay) (law k.geometry k.is_visible w ask.client part x.file.file cell n pool f t ask reason.0 looked may_excuse who)
 
     pub may_draw : FileRequestsMayDraw → ExcusesMayDraw → (t : ℕ) → MayDraw k.geometry k.is_visible w f (held_leaves f w y left desc t) t
     may_draw requests excuses t = by_reply (is_excused f.reply) refl

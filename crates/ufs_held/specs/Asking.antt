@@ -14,6 +14,7 @@ use Rattle.ufs_model.specs.declared.data.Reply.TheVariants as reply
 use Rattle.ufs_hand_laws.specs.Parts.{ClientPart, OwnFds}
 use Rattle.ufs_joint.specs.Cells.{View}
 use Rattle.ufs_joint.specs.FileHands.{own_desc}
+use Rattle.ufs_joint.specs.Servers.{NeedsServer}
 
 -- The hand has the client and the server's pool, and nothing else.
 pub record IsGuest (client : ℕ) (part : ClientPart) (n : ℕ) (pool : BlockSet) (v : View) : Type 0 where
@@ -24,7 +25,7 @@ pub record IsGuest (client : ℕ) (part : ClientPart) (n : ℕ) (pool : BlockSet
   pub names : v.names ≡ []
   pub store : v.store ≡ []
 
--- The client asked the request, which is on a descriptor of a file, and what is told with it is so.
+-- The client asked the request, which is on a descriptor of a file and which it doesn't answer itself, and what is told with it is so.
 pub record Asks (part : ClientPart) (ask : Ask) : Type 0 where
   pub low : ask.client < 16
   pub asked : part.asked ≡ Some ask.op
@@ -33,6 +34,7 @@ pub record Asks (part : ClientPart) (ask : Ask) : Type 0 where
   pub no_fd : ask.fd ≡ 0
   pub not_last : ask.last ≡ false
   pub on_file : is_on_file ask.op ≡ true
+  pub needs : NeedsServer part.fds ask.client ask.op
 
 -- It has one more entry, and asks nothing; the descriptor of the request is that, and its others are as they were.
 pub record IsAnswered (part : ClientPart) (entry : Entry) (desc : Option Desc) (after : ClientPart) : Type 0 where

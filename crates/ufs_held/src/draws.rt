@@ -16,6 +16,7 @@ ghost use Rattle.ufs_joint.specs.Cells.{FileCell};
 ghost use Rattle.ufs_joint.specs.Draws.{drawn};
 ghost use Rattle.ufs_joint.specs.FileHands.{IsFileHand};
 ghost use Rattle.ufs_joint.specs.Rule.{MayDrawAny};
+ghost use Rattle.ufs_joint.specs.Servers.{IsServer};
 ghost use Rattle.ufs_held.specs.Asking.{Asks};
 ghost use Rattle.ufs_held.specs.Drawn.{fresh_of, held_leaves};
 
@@ -38,6 +39,7 @@ pub(crate) fn draw_served<N: Naming>(
     pool: &mut Pool,
 ) -> Applied
     requires hand { (part : ClientPart) × (cell : FileCell) × (n : ℕ) × IsFileHand right.old ask.client part file.old.file cell n pool.old × (cell.value ≡ state_of file.old commits.old) × Asks part ask }
+    requires server { IsServer by }
     requires no_commit { asks_commit ask.op ≡ false }
     requires bounded { IsBounded ask.op }
     requires named { IsOf ask.desc file.old.file }

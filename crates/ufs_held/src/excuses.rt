@@ -9,6 +9,7 @@ ghost use Rattle.ufs_model.specs.declared.data.Excuse.TheVariants as excuse;
 ghost use Rattle.ufs_model.specs.declared.data.Reply.TheVariants as reply;
 ghost use Rattle.ufs_crash_laws.specs.Changes.{asks_commit};
 ghost use Rattle.ufs_hand_laws.specs.Parts.{ClientPart};
+ghost use Rattle.ufs_joint.specs.Servers.{IsServer};
 ghost use Rattle.ufs_store.specs.Refusals.{fault_of, is_no_space, is_own};
 ghost use Rattle.ufs_store.specs.declared.fault.StoreFault.TheVariants as refusal;
 ghost use Rattle.ufs_turns.specs.Told.{fault_told, told_list};
@@ -58,6 +59,7 @@ pub(crate) fn serve_excused<N: Naming>(
 ) -> Served<N>
     requires held { IsHeld (state_of file.now commits.now) right.old }
     requires guest { (part : ClientPart) × (n : ℕ) × (pool : BlockSet) × IsGuest ask.client part n pool guest × Asks part ask × (n ≢ file.now.file) }
+    requires server { IsServer by }
     requires named { IsOf ask.desc file.now.file }
     requires allowed { (d : Desc) → ask.desc ≡ Some d → file_refusal file.now.content.bytes d ask.op ≡ None }
     requires kind { is_of_turn cause ≡ true }

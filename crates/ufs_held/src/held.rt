@@ -21,6 +21,7 @@ ghost use Rattle.ufs_crash_laws.specs.Changes.{asks_commit};
 ghost use Rattle.ufs_hand_laws.specs.Parts.{ClientPart};
 ghost use Rattle.ufs_joint.specs.Cells.{NamesCell, View};
 ghost use Rattle.ufs_joint.specs.Rule.{MayDrawAny};
+ghost use Rattle.ufs_joint.specs.Servers.{IsServer};
 ghost use Rattle.ufs_store.specs.Refusals.{fault_in, is_no_space};
 ghost use Rattle.ufs_store.specs.declared.fault.StoreFault.TheVariants as refusal;
 ghost use Rattle.ufs_turns.specs.Lent.{AreTold, StopsByFault, TellsStop, TellsWhere};
@@ -187,6 +188,7 @@ impl<N: Naming> HeldFile<N> {
         pool: &mut Pool,
     ) -> Served<N>
         requires guest { (part : ClientPart) × (n : ℕ) × IsGuest ask.client part n pool.old guest × Asks part ask × (n ≢ self.old.value.file.file) }
+        requires server { IsServer by }
         requires no_commit { asks_commit ask.op ≡ false }
         requires bounded { IsBounded ask.op }
         requires named { IsOf ask.desc self.old.value.file.file }
@@ -227,6 +229,7 @@ impl<N: Naming> HeldFile<N> {
         door: &mut T,
     ) -> Served<N>
         requires guest { (part : ClientPart) × (n : ℕ) × (pool : BlockSet) × IsGuest ask.client part n pool guest × Asks part ask × (n ≢ self.old.value.file.file) }
+        requires server { IsServer by }
         requires fsync { (fd : ℕ) × (ask.op ≡ op.Fsync fd) }
         requires named { IsOf ask.desc self.old.value.file.file }
         requires born { self.old.born ≡ true }
@@ -303,6 +306,7 @@ impl<N: Naming> HeldFile<N> {
         door: &mut T,
     ) -> Served<N>
         requires guest { (part : ClientPart) × (n : ℕ) × IsGuest ask.client part n pool.old guest × Asks part ask × (n ≢ self.old.value.file.file) }
+        requires server { IsServer by }
         requires no_commit { asks_commit ask.op ≡ false }
         requires bounded { IsBounded ask.op }
         requires named { IsOf ask.desc self.old.value.file.file }

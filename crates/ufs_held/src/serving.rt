@@ -12,6 +12,7 @@ ghost use Rattle.ufs_model.specs.declared.data.Excuse.{Excuse};
 ghost use Rattle.ufs_model.specs.declared.data.Reply.TheVariants as reply;
 ghost use Rattle.ufs_crash_laws.specs.Changes.{asks_commit};
 ghost use Rattle.ufs_hand_laws.specs.Parts.{ClientPart};
+ghost use Rattle.ufs_joint.specs.Servers.{IsServer};
 ghost use Rattle.ufs_store.specs.Refusals.{fault_in, is_own};
 ghost use Rattle.ufs_turns.specs.Lent.{AreTold};
 ghost use Rattle.ufs_turns.specs.Told.{fault_told, told_list};
@@ -46,6 +47,7 @@ pub(crate) fn serve_lent<N: Naming, T: Turns<N>>(
     requires held { IsHeld (state_of file.old commits.old) right.old }
     requires calm { right.old.faults ≡ [] }
     requires guest { (part : ClientPart) × (n : ℕ) × IsGuest ask.client part n pool.old guest × Asks part ask × (n ≢ file.old.file) }
+    requires server { IsServer by }
     requires no_commit { asks_commit ask.op ≡ false }
     requires bounded { IsBounded ask.op }
     requires named { IsOf ask.desc file.old.file }
@@ -124,6 +126,7 @@ pub(crate) fn serve_ready<N: Naming>(
     requires held { IsHeld (state_of file.old commits.old) right.old }
     requires calm { right.old.faults ≡ [] }
     requires guest { (part : ClientPart) × (n : ℕ) × IsGuest ask.client part n pool.old guest × Asks part ask × (n ≢ file.old.file) }
+    requires server { IsServer by }
     requires no_commit { asks_commit ask.op ≡ false }
     requires bounded { IsBounded ask.op }
     requires named { IsOf ask.desc file.old.file }

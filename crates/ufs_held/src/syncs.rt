@@ -9,6 +9,7 @@ ghost use Rattle.ufs_model.specs.declared.data.Excuse.TheVariants as excuse;
 ghost use Rattle.ufs_model.specs.declared.data.Op.TheVariants as op;
 ghost use Rattle.ufs_model.specs.declared.data.Reply.TheVariants as reply;
 ghost use Rattle.ufs_hand_laws.specs.Parts.{ClientPart};
+ghost use Rattle.ufs_joint.specs.Servers.{IsServer};
 ghost use Rattle.ufs_file_commits.specs.State.{file_committed, state_of};
 ghost use Rattle.ufs_turns.specs.Lent.{AreTold};
 ghost use Rattle.ufs_held.specs.Asking.{Asks, IsAnswered, IsGuest, IsSyncReply};
@@ -38,6 +39,7 @@ pub(crate) fn sync_lent<N: Naming, T: Turns<N>>(
 ) -> Served<N>
     requires held { IsHeld (state_of file.old commits.old) right.old }
     requires guest { (part : ClientPart) × (n : ℕ) × (pool : BlockSet) × IsGuest ask.client part n pool guest × Asks part ask × (n ≢ file.old.file) }
+    requires server { IsServer by }
     requires fsync { (fd : ℕ) × (ask.op ≡ op.Fsync fd) }
     requires named { IsOf ask.desc file.old.file }
     requires born { (first_cell (state_of file.old commits.old) right.old.files).born ≡ true }

@@ -38,6 +38,8 @@ use Rattle.ufs_held.specs.Together.{still_of}
 use Rattle.ufs_held.proofs.After.{only_none, without_none}
 use Rattle.ufs_held.proofs.Excusing.{its_fault, stop_joined, told_joined}
 use Rattle.ufs_noted.specs.Noted.{Noted}
+use Rattle.ufs_joint.specs.Servers.{IsAlwaysServedSo, IsServer}
+use Rattle.ufs_joint.proofs.Served.{by_server}
 use Rattle.ufs_held_names.specs.Dirs.{AsksDir, IsNamesGuest, IsDone, IsRefused, MayAnswer, answered}
 use Rattle.ufs_held_names.specs.HeldNames.{HoldsNames}
 use Rattle.ufs_held_names.proofs.Files.{files_none, once_none}
@@ -75,9 +77,12 @@ module _ (part : ClientPart) (ask : Ask) (asks : AsksDir part ask) (t : PosixTre
 
 -- ---- it may be drawn
 
-module _ (k : Start) (v : View) (part : ClientPart) (names : NamesCell) (n : ℕ) (pool : BlockSet) (ask : Ask) (by : Actor) (r : Reply) (ticket : ℕ) (has : IsNamesGuest ask.client part names n pool v) (asks : AsksDir part ask) where
+module _ (k : Start) (v : View) (part : ClientPart) (names : NamesCell) (n : ℕ) (pool : BlockSet) (ask : Ask) (by : Actor) (r : Reply) (ticket : ℕ) (has : IsNamesGuest ask.client part names n pool v) (asks : AsksDir part ask) (server : IsServer by) where
   abbrev f : Fresh
   f = record { client = ask.client; seq = ask.seq; by = by; op = ask.op; reply = r }
+
+  who : IsAlwaysServedSo part.fds f
+  who = by_server part.fds f asks.needs server
 
   hand : IsNamesHand v ask.client part names n pool
   hand = record { clients = has.clients; pools = has.pools; names_are = has.names; files = subst AreNumberedOnce (sym has.files) once_none }
@@ -91,7 +96,7 @@ module _ (k : Start) (v : View) (part : ClientPart) (names : NamesCell) (n : ℕ
   pub may_answer : DirAcknowledgementsMayDraw → NamesExcusesMayDraw → MayAnswer k.is_visible names v r → MayDraw k.geometry k.is_visible v f (still_of v) ticket
   may_answer acks excuses (IsDone is known) =
       let may : MayAcknowledgeDir k.is_visible part names f asks.fd asks.desc = record { op_is = asks.op_is; done = is; is = asks.is; of = asks.of; known = known } in
-      subst (λ (l : Leaves). MayDraw k.geometry k.is_visible v f l ticket) leaves (acks k.geometry k.is_visible v ask.client part names n pool f ticket asks.fd asks.desc hand next may)
+      subst (λ (l : Leaves). MayDraw k.geometry k.is_visible v f l ticket) leaves (acks k.geometry k.is_visible v ask.client part names n pool f ticket asks.fd asks.desc hand next may who)
   may_answer acks excuses (IsRefused x is kind rest faults stopped committed) =
       let may : MayExcuseNames v part names map.empty map.empty f ask x = record {
         ask_client = refl;
@@ -106,7 +111,7 @@ module _ (k : Start) (v : View) (part : ClientPart) (names : NamesCell) (n : ℕ
         asks = λ fault same. ap asks_commit asks.op_is;
         fits = λ t asked. fits_dir part ask asks t asked.asked x kind;
       } in
-      subst (λ (l : Leaves). MayDraw k.geometry k.is_visible v f l ticket) leaves (excuses k.geometry k.is_visible v ask.client part names n pool map.empty map.empty f ticket ask x hand next may)
+      subst (λ (l : Leaves). MayDraw k.geometry k.is_visible v f l ticket) leaves (excuses k.geometry k.is_visible v ask.client part names n pool map.empty map.empty f ticket ask x hand next may who)
 
 -- ---- the names come to the guest,
 

@@ -34,6 +34,8 @@ use Rattle.ufs_held.proofs.Excusing.{its_fault, stop_joined, told_joined}
 use Rattle.ufs_noted.specs.Noted.{Noted}
 use Rattle.ufs_held_names.specs.Dirs.{IsNamesGuest, answered}
 use Rattle.ufs_held_names.specs.HeldNames.{HoldsNames}
+use Rattle.ufs_joint.specs.Servers.{IsAlwaysServedSo, IsServer}
+use Rattle.ufs_joint.proofs.Served.{by_server}
 use Rattle.ufs_held_names.specs.SyncAll.{AllDone, AllRefused, AreAllLive, AsksSync, MayAnswerAll}
 
 -- ---- cells under their numbers
@@ -61,12 +63,15 @@ sync_fits t client (excuse.Extents need) e = absurd cc
 -- ---- it may be drawn
 
 module _ (k : Start) (v w : View) (part : ClientPart) (names : NamesCell) (n : ℕ) (pool : BlockSet) (files : List FileCell) (ask : Ask) (by : Actor) (r : Reply) (ticket : ℕ)
-    (has : IsNamesGuest ask.client part names n pool v) (asks : AsksSync part ask) (all : AreAllLive names.value files) (too : HasThemToo files v w) where
+    (has : IsNamesGuest ask.client part names n pool v) (asks : AsksSync part ask) (all : AreAllLive names.value files) (too : HasThemToo files v w) (server : IsServer by) where
   abbrev f : Fresh
   f = record { client = ask.client; seq = ask.seq; by = by; op = ask.op; reply = r }
 
   w_files : w.files ≡ under_numbers files
   w_files = too.files ∙ ap (λ ps. ps ++ under_numbers files) has.files
+
+  who : IsAlwaysServedSo part.fds f
+  who = by_server part.fds f asks.needs server
 
   hand : IsNamesHand w ask.client part names n pool
   hand = record {
@@ -90,7 +95,7 @@ module _ (k : Start) (v w : View) (part : ClientPart) (names : NamesCell) (n : �
         known = known;
         each = λ seen file live. (let c = all.live file live in (c.0, subst (Has (file, c.0)) (sym w_files) (there files file c.0 c.1 c.2), each_known c.0 c.1 seen));
       } in
-      subst (λ (l : Leaves). MayDraw k.geometry k.is_visible w f l ticket) leaves (acks k.is_visible w ask.client part names n pool f ticket hand next may)
+      subst (λ (l : Leaves). MayDraw k.geometry k.is_visible w f l ticket) leaves (acks k.is_visible w ask.client part names n pool f ticket hand next may who)
   may_answer_all acks stays (AllRefused x is kind rest faults stopped committed) =
       let still = excuse_still w f ticket x is
       (λ fault same. subst (λ (fs : List ℕ). 1 ≤ times fault fs) (sym (too.faults ∙ faults)) (told_joined fault (faults_of x) rest (its_fault x (faults_of x) fault refl same)))
@@ -101,7 +106,7 @@ module _ (k : Start) (v w : View) (part : ClientPart) (names : NamesCell) (n : �
       λ start history p rest a. inr (subst (λ (q : Reply). IsExcused (tree_after start history) ask.client ask.op q) (sym is) (subst (λ (o : Op). ExcuseFits (tree_after start history) ask.client o x) (sym asks.op_is) (sync_fits (tree_after start history) ask.client x kind))) in
       subst (λ (l : Leaves). MayDraw k.geometry k.is_visible w f l ticket) leaves
       (may_draw k.geometry k.is_visible w ask.client part n pool f ticket (names_still w ask.client part names n pool hand) next still due
-      (λ seen s start history p known formed legal fds cells knows on. stays s start history (entry_of ticket f) p known legal (ap is_excused is) on))
+      (λ seen s start history p known formed legal fds cells knows on. stays s start history (entry_of ticket f) p known legal (ap is_excused is) on) who)
 
 -- no two files and pools have one number
 pub all_apart : (client : ℕ) (part : ClientPart) (names : NamesCell) (n : ℕ) (pool : BlockSet) (files : List FileCell) (v : View) → IsNamesGuest client part names n pool v → AreAllLive names.value files → count eqb n (under_numbers files) ≡ 0 → AreApartFrom v files

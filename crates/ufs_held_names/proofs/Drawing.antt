@@ -23,6 +23,7 @@ use Rattle.ufs_model.specs.declared.data.Desc.{Desc}
 use Rattle.ufs_model.specs.declared.data.Entry.{Entry}
 use Rattle.ufs_model.specs.declared.data.Excuse.{Excuse}
 use Rattle.ufs_model.specs.declared.data.Excuse.TheVariants as excuse
+use Rattle.ufs_model.specs.declared.data.Op.{Op}
 use Rattle.ufs_model.specs.declared.data.Reply.{Reply}
 use Rattle.ufs_model.specs.declared.data.Reply.TheVariants as reply
 use Rattle.ufs_names.specs.Calls.{AreGathered, IsAsked, IsTouched, no_bytes}
@@ -40,8 +41,10 @@ use Rattle.ufs_joint.specs.Draws.{Leaves, MayDraw}
 use Rattle.ufs_joint.specs.Known.{Knows}
 use Rattle.ufs_joint.specs.NamesHands.{AreFilesOfCells, AreNumberedOnce, IsNamesHand, IsNextCell, IsNextOf, MayExcuseNames, NamesExcusesMayDraw, NamesRequestsMayDraw, ServesNames, Serving, names_leaves, still_leaves}
 use Rattle.ufs_joint.specs.Rule.{looked_at}
+use Rattle.ufs_joint.specs.Servers.{IsAlwaysServedSo, IsServer, NeedsServer}
 use Rattle.ufs_joint.specs.Whole.{HasFileCell, HasNamesCell, pooled}
 use Rattle.ufs_joint.proofs.Blocks.{pooled_one}
+use Rattle.ufs_joint.proofs.Served.{by_server}
 use Rattle.ufs_held.specs.Drawn.{first_fds, fresh_of}
 use Rattle.ufs_noted.specs.Known.{commits_in, file_in}
 use Rattle.ufs_noted.specs.Noted.{HasServedWith, Noted, one_file, one_known}
@@ -151,7 +154,7 @@ module _ (k : Start) (n0 : ℕ) (v : View) (knows : Knows k n0 v) (part : Client
   -- ---- once it is applied, with these files, which are these cells behind it
 
   module _ (y : Noted) (left : BlockSet) (by : Actor) (entry : Entry) (desc : Option Desc) (files left_files : Files) (commits left_commits : Commits) (touched : Option ℕ) (after : ℕ → List (ℕ × FileCell)) (of_ask : IsEntryOf ask by 0 entry)
-      (gathered : (u : PosixTree) → IsNamesPart x.names u → IsAsk u ask → AreGathered u ask files) (before : AreFilesOfCells v.files files commits) where
+      (gathered : (u : PosixTree) → IsNamesPart x.names u → IsAsk u ask → AreGathered u ask files) (before : AreFilesOfCells v.files files commits) (server : IsServer by) where
     abbrev f : Fresh
     f = fresh_of entry
 
@@ -160,6 +163,9 @@ module _ (k : Start) (n0 : ℕ) (v : View) (knows : Knows k n0 v) (part : Client
 
     next_of : IsNextOf ask.client part f
     next_of = record { low = asks.low; by_client = of_ask.client; asked = asks.asked ∙ ap Some (sym of_ask.asked); seq = of_ask.seq ∙ asks.seq }
+
+    who : IsAlwaysServedSo part.fds f
+    who = by_server part.fds f (subst (λ (q : ℕ × Op). NeedsServer part.fds q.0 q.1) (λ i. (sym of_ask.client i, sym of_ask.asked i)) asks.needs) (subst IsServer (sym of_ask.server) server)
 
     told : (u : PosixTree) → ((fd : ℕ) → map.get part.fds fd ≡ desc_at u f.client fd) → IsAsk u ask
     told u same = asks.told u (λ fd. same fd ∙ ap (λ (c : ℕ). desc_at u c fd) of_ask.client)
@@ -216,7 +222,7 @@ module _ (k : Start) (n0 : ℕ) (v : View) (knows : Knows k n0 v) (part : Client
       }
 
       pub may_served : NamesRequestsMayDraw k.geometry → MayDraw k.geometry k.is_visible w f (names_left f w y left desc after ticket) ticket
-      may_served law = subst (λ (q : Leaves). MayDraw k.geometry k.is_visible w f q ticket) (sym leaves_are) (law k.is_visible w ask.client part n f ticket ask desc fds (after ticket) was then looked next_of serves)
+      may_served law = subst (λ (q : Leaves). MayDraw k.geometry k.is_visible w f q ticket) (sym leaves_are) (law k.is_visible w ask.client part n f ticket ask desc fds (after ticket) was then looked next_of serves who)
 
     -- excused
     module _ (excused : is_excused f.reply ≡ true) (ticket : ℕ) (same : y ≡ x) (untaken : left ≡ pool)
@@ -255,4 +261,4 @@ module _ (k : Start) (n0 : ℕ) (v : View) (knows : Knows k n0 v) (part : Client
           names_stay = ap (each (λ _ c. cond (is_excused f.reply) c (names_then y ticket c))) hand.names_are ∙ ap (λ (b : Bool). (tt, cond b names (names_then y ticket names)) ∷ []) excused ∙ sym hand.names_are
 
       pub may_excused : NamesExcusesMayDraw → MayDraw k.geometry k.is_visible w f (names_left f w y left desc after ticket) ticket
-      may_excused law = subst (λ (q : Leaves). MayDraw k.geometry k.is_visible w f q ticket) (sym leaves_stay) (law k.geometry k.is_visible w ask.client part names n pool files commits f ticket ask reason.0 looked next_of may_excuse)
+      may_excused law = subst (λ (q : Leaves). MayDraw k.geometry k.is_visible w f q ticket) (sym leaves_stay) (law k.geometry k.is_visible w ask.client part names n pool files commits f ticket ask reason.0 looked next_of may_excuse who)

@@ -26,6 +26,8 @@ use Rattle.ufs_joint.specs.Cells.{Start, View}
 use Rattle.ufs_joint.specs.Draws.{Leaves, MayDraw}
 use Rattle.ufs_joint.specs.NamesHands.{AreNumberedOnce, IsNextOf, still_leaves}
 use Rattle.ufs_joint.proofs.StillDraws.{Acknowledges, IsRepliedTo, IsStill, IsStillHand, may_draw, own_fds}
+use Rattle.ufs_joint.specs.Servers.{IsAlwaysServedSo, IsServer}
+use Rattle.ufs_joint.proofs.Served.{by_server}
 use Rattle.ufs_held.specs.Asking.{IsGuest}
 use Rattle.ufs_held.specs.Drawn.{first_fds, fresh_of}
 use Rattle.ufs_held.specs.Together.{HasDrawnStill, still_of}
@@ -40,13 +42,13 @@ module _ (k : Start) (v : View) (client : ℕ) (part : ClientPart) (n : ℕ) (po
   leaves : still_leaves part v ≡ still_of v
   leaves = λ i. record { fds = first_fds (sym has.clients i); files = v.files; pools = v.pools; names = v.names }
 
-  pub may_reply : IsStill v f ticket → IsRepliedTo k.geometry v f ticket → Acknowledges k.geometry k.is_visible v part f ticket → MayDraw k.geometry k.is_visible v f (still_of v) ticket
-  may_reply still due acks = subst (λ (l : Leaves). MayDraw k.geometry k.is_visible v f l ticket) leaves (may_draw k.geometry k.is_visible v client part n pool f ticket still_hand next still due acks)
+  pub may_reply : IsStill v f ticket → IsRepliedTo k.geometry v f ticket → Acknowledges k.geometry k.is_visible v part f ticket → IsAlwaysServedSo part.fds f → MayDraw k.geometry k.is_visible v f (still_of v) ticket
+  may_reply still due acks who = subst (λ (l : Leaves). MayDraw k.geometry k.is_visible v f l ticket) leaves (may_draw k.geometry k.is_visible v client part n pool f ticket still_hand next still due acks who)
 
 refused_by : (t : PosixTree) (client fd : ℕ) → desc_at t client fd ≡ None → (posix t client (op.Fsync fd)).1 ≡ reply.Refused Ebadf
 refused_by t client fd is = ap (λ (o : Option Desc). (served t client (op.Fsync fd) (first_of (refused_if (is_none o) Ebadf) None)).1) is
 
-module _ (k : Start) (v : View) (part : ClientPart) (n : ℕ) (pool : BlockSet) (ask : Ask) (by : Actor) (ticket : ℕ) (has : IsGuest ask.client part n pool v) (asks : AsksUnopened part ask) where
+module _ (k : Start) (v : View) (part : ClientPart) (n : ℕ) (pool : BlockSet) (ask : Ask) (by : Actor) (ticket : ℕ) (has : IsGuest ask.client part n pool v) (asks : AsksUnopened part ask) (server : IsServer by) where
   abbrev f : Fresh
   f = record { client = ask.client; seq = ask.seq; by = by; op = ask.op; reply = reply.Refused Ebadf }
 
@@ -74,7 +76,7 @@ module _ (k : Start) (v : View) (part : ClientPart) (n : ℕ) (pool : BlockSet) 
   acks stays seen s start history p known formed legal fds cells knows on = stays s start history (entry_of ticket f) p known legal (ap leaves_tree asks.op_is) (inl refl) on
 
   pub may_refuse : StillStaysKept → MayDraw k.geometry k.is_visible v f (still_of v) ticket
-  may_refuse stays = may_reply k v ask.client part n pool f ticket has next still due (acks stays)
+  may_refuse stays = may_reply k v ask.client part n pool f ticket has next still due (acks stays) (by_server part.fds f asks.needs server)
 
 -- the client goes back with one more entry
 pub replied_guest : (client : ℕ) (part : ClientPart) (n : ℕ) (pool : BlockSet) (v z : View) (e : Entry) → IsGuest client part n pool v → e.client ≡ client → HasDrawnStill e.ticket (fresh_of e) v z → IsGuest client (answered part e) n pool z

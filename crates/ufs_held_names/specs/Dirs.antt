@@ -17,6 +17,7 @@ use Rattle.ufs_model.specs.declared.data.Reply.{Reply}
 use Rattle.ufs_model.specs.declared.data.Reply.TheVariants as reply
 use Rattle.ufs_hand_laws.specs.Parts.{ClientPart}
 use Rattle.ufs_joint.specs.Cells.{NamesCell, View}
+use Rattle.ufs_joint.specs.Servers.{NeedsServer}
 use Rattle.ufs_turns.specs.Lent.{AreTold}
 use Rattle.ufs_held.specs.Asking.{IsGuest, IsSyncReply, faults_of, is_of_turn}
 use Rattle.ufs_held.specs.Stopping.{ExcusesByStop, StopsByReply}
@@ -34,6 +35,7 @@ pub record AsksDir (part : ClientPart) (ask : Ask) : Type 0 where
   pub is : fin.get part.fds fd ≡ Some desc
   pub of : desc.file ≡ None
   pub told : (t : PosixTree) → ((n : ℕ) → fin.get part.fds n ≡ desc_at t ask.client n) → IsAsk t ask
+  pub needs : NeedsServer part.fds ask.client ask.op
 
 -- The client asked for an `fsync` of a descriptor that it doesn't have.
 pub record AsksUnopened (part : ClientPart) (ask : Ask) : Type 0 where
@@ -43,6 +45,7 @@ pub record AsksUnopened (part : ClientPart) (ask : Ask) : Type 0 where
   pub fd : ℕ
   pub op_is : ask.op ≡ op.Fsync fd
   pub none : fin.get part.fds fd ≡ None
+  pub needs : NeedsServer part.fds ask.client ask.op
 
 -- The client has one more entry, and asks nothing; its descriptors stay.
 abbrev pub answered : ClientPart → Entry → ClientPart

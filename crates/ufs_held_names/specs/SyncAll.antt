@@ -19,6 +19,7 @@ use Rattle.ufs_names.specs.NamesPart.{NamesPart}
 use Rattle.ufs_hand_laws.specs.Owned.{Has, count}
 use Rattle.ufs_hand_laws.specs.Parts.{ClientPart}
 use Rattle.ufs_joint.specs.Cells.{FileCell, NamesCell, View}
+use Rattle.ufs_joint.specs.Servers.{NeedsServer}
 use Rattle.ufs_turns.specs.Lent.{AreTold}
 use Rattle.ufs_held.specs.Asking.{IsGuest, IsSyncReply, faults_of, is_of_turn}
 use Rattle.ufs_held.specs.Together.{under_numbers}
@@ -32,6 +33,7 @@ pub record AsksSync (part : ClientPart) (ask : Ask) : Type 0 where
   pub asked : part.asked ≡ Some ask.op
   pub seq : ask.seq ≡ length part.entries
   pub op_is : ask.op ≡ op.Sync
+  pub needs : NeedsServer part.fds ask.client ask.op
 
 -- Each live file is among these, and no two of them have one number.
 pub record AreAllLive (names : NamesPart) (files : List FileCell) : Type 0 where

@@ -2,6 +2,7 @@
 ghost use Rattle.std.specs.Prelude.{ℕ, ◌≡◌, []};
 ghost use Rattle.ufs_bitmap.specs.Blocks.{BlockSet};
 ghost use Rattle.ufs_hand_laws.specs.Parts.{ClientPart};
+ghost use Rattle.ufs_joint.specs.Servers.{IsServer};
 ghost use Rattle.ufs_held.specs.Asking.{IsGuest};
 ghost use Rattle.ufs_held_names.specs.Dirs.{AsksDir, HasSyncedDir, IsAnsweredBy, MayAnswer};
 ghost use Rattle.ufs_held_names.specs.Births.{KnowsBirths};
@@ -29,6 +30,7 @@ pub(crate) fn fsync_dir_lent<N: Naming, T: Turns<N>>(
     requires calm { right.old.faults ≡ [] }
     requires births { KnowsBirths reached.old (first_names noted.old right.old.names) }
     requires guest { (part : ClientPart) × (n : ℕ) × (pool : BlockSet) × IsGuest ask.client part n pool guest × AsksDir part ask }
+    requires server { IsServer by }
     ensures held { HoldsNames noted.new right.new }
     ensures calm { right.new.faults ≡ [] }
     ensures births { KnowsBirths reached.new (first_names noted.new right.new.names) }
@@ -56,6 +58,7 @@ fn answer<N: Naming>(
     requires held { HoldsNames noted.now right.old }
     requires calm { right.old.faults ≡ [] }
     requires guest { (part : ClientPart) × (n : ℕ) × (pool : BlockSet) × IsGuest ask.client part n pool guest × AsksDir part ask }
+    requires server { IsServer by }
     requires may { MayAnswer N.start.is_visible (first_names noted.now right.old.names) guest reply }
     ensures held { HoldsNames noted.now right.new }
     ensures calm { right.new.faults ≡ [] }

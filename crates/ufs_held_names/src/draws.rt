@@ -16,6 +16,7 @@ ghost use Rattle.ufs_joint.specs.Cells.{FileCell, NamesCell};
 ghost use Rattle.ufs_joint.specs.Draws.{drawn};
 ghost use Rattle.ufs_joint.specs.NamesHands.{IsNamesHand};
 ghost use Rattle.ufs_joint.specs.Rule.{MayDrawAny};
+ghost use Rattle.ufs_joint.specs.Servers.{IsServer};
 ghost use Rattle.ufs_noted.specs.Known.{commits_in, file_in};
 ghost use Rattle.ufs_noted.specs.Noted.{HasServedWith, MayLack, one_file, one_known};
 ghost use Rattle.ufs_held.specs.Drawn.{fresh_of};
@@ -49,6 +50,7 @@ pub(crate) fn draw_alone<N: Naming>(
     requires formed { IsGeometry geometry.now }
     requires its { geometry.now ≡ N.start.geometry }
     requires hand { (part : ClientPart) × (names : NamesCell) × (n : ℕ) × IsNamesHand right.old ask.client part names n pool.old × (right.old.files ≡ []) × (noted_in names ≡ noted.old) × AsksNames part ask }
+    requires server { IsServer by }
     requires numbers { noted.old.names.next < 2 ^ 31 }
     requires needed { IsNeeded noted.old.names ask None }
     ensures entry { IsEntryOf ask by result.applied.entry.ticket result.applied.entry }
@@ -124,6 +126,7 @@ pub(crate) fn draw_with<N: Naming>(
     requires formed { IsGeometry geometry.now }
     requires its { geometry.now ≡ N.start.geometry }
     requires hand { (part : ClientPart) × (names : NamesCell) × (n : ℕ) × (cell : FileCell) × IsNamesHand right.old ask.client part names n pool.old × (right.old.files ≡ (file.hand.file, cell) ∷ []) × (cell.value ≡ state_of file.hand file.commits) × (noted_in names ≡ noted.old) × AsksNames part ask }
+    requires server { IsServer by }
     requires numbers { noted.old.names.next < 2 ^ 31 }
     requires needed { IsNeeded noted.old.names ask (Some file.hand.file) }
     ensures entry { IsEntryOf ask by result.applied.entry.ticket result.applied.entry }

@@ -18,6 +18,7 @@ ghost use Rattle.ufs_hand_laws.specs.Owned.{count};
 ghost use Rattle.ufs_hand_laws.specs.Parts.{ClientPart};
 ghost use Rattle.ufs_file_commits.specs.State.{file_committed};
 ghost use Rattle.ufs_joint.specs.NamesTurns.{live_files};
+ghost use Rattle.ufs_joint.specs.Servers.{IsServer};
 ghost use Rattle.ufs_store.specs.Refusals.{fault_in, is_no_space};
 ghost use Rattle.ufs_store.specs.declared.fault.StoreFault.TheVariants as refusal;
 ghost use Rattle.ufs_turns.specs.Lent.{AreTold, IsBare, IsBeside, StopsByFault, TellsStop, TellsWhere};
@@ -191,6 +192,7 @@ impl<N: Naming> HeldNames<N> {
         requires formed { IsGeometry geometry.now }
         requires its { geometry.now ≡ N.start.geometry }
         requires guest { (part : ClientPart) × (n : ℕ) × IsGuest ask.client part n pool.old guest × AsksNames part ask × IsNamedApart n self.old.value.next file }
+        requires server { IsServer by }
         requires numbers { self.old.value.next < 2 ^ 31 }
         requires needed { IsNeeded self.old.value ask (number_of file) }
         ensures entry { IsEntryOf ask by result.entry.ticket result.entry }
@@ -281,6 +283,7 @@ impl<N: Naming> HeldNames<N> {
         requires formed { IsGeometry geometry.now }
         requires its { geometry.now ≡ N.start.geometry }
         requires guest { (part : ClientPart) × (n : ℕ) × (pool : BlockSet) × IsGuest ask.client part n pool guest × Asks part ask × (n ≢ file.value.file.file) }
+        requires server { IsServer by }
         requires fsync { (fd : ℕ) × (ask.op ≡ op.Fsync fd) }
         requires named { IsOf ask.desc file.value.file.file }
         ensures entry { IsEntryOf ask by result.entry.ticket result.entry }
@@ -326,6 +329,7 @@ impl<N: Naming> HeldNames<N> {
         door: &mut T,
     ) -> NamesSynced<N>
         requires guest { (part : ClientPart) × (n : ℕ) × (pool : BlockSet) × IsGuest ask.client part n pool guest × AsksDir part ask }
+        requires server { IsServer by }
         ensures entry { IsEntryOf ask by result.entry.ticket result.entry }
         ensures replied { IsSyncReply result.entry.reply }
         ensures guest { (part : ClientPart) (n : ℕ) (pool : BlockSet) → IsGuest ask.client part n pool guest → IsGuest ask.client (answered part result.entry) n pool result.guest }
@@ -401,6 +405,7 @@ impl<N: Naming> HeldNames<N> {
         requires formed { IsGeometry geometry.now }
         requires its { geometry.now ≡ N.start.geometry }
         requires guest { (part : ClientPart) × (n : ℕ) × (pool : BlockSet) × IsGuest ask.client part n pool guest × AsksSync part ask × (count eqb n (under_numbers files.old) ≡ 0) }
+        requires server { IsServer by }
         requires all { AreAllLive self.old.value files.old }
         ensures entry { IsEntryOf ask by result.entry.ticket result.entry }
         ensures replied { IsSyncReply result.entry.reply }

@@ -6,6 +6,7 @@ ghost use Rattle.ufs_model.specs.declared.data.PartName.TheVariants.{File};
 ghost use Rattle.ufs_hand_laws.specs.Parts.{ClientPart};
 ghost use Rattle.ufs_promise_laws.specs.Parts.{committed_as};
 ghost use Rattle.ufs_joint.specs.Cells.{given_of};
+ghost use Rattle.ufs_joint.specs.Servers.{IsServer};
 ghost use Rattle.ufs_held.specs.Asking.{IsGuest};
 ghost use Rattle.ufs_held.specs.Held.{IsHeld};
 ghost use Rattle.ufs_held_names.specs.Asked.{IsNamedApart, IsNeeded, number_of};
@@ -43,6 +44,7 @@ pub(crate) fn serve_any<N: Naming>(
     requires held { HoldsNames noted.old right.old }
     requires calm { right.old.faults ≡ [] }
     requires guest { (part : ClientPart) × (n : ℕ) × IsGuest ask.client part n pool.old guest × AsksNames part ask × IsNamedApart n noted.old.names.next file }
+    requires server { IsServer by }
     requires numbers { noted.old.names.next < 2 ^ 31 }
     requires needed { IsNeeded noted.old.names ask (number_of file) }
     ensures held { HoldsNames noted.new right.new }
@@ -71,6 +73,7 @@ fn serve_alone<N: Naming>(
     requires held { HoldsNames noted.old right.old }
     requires calm { right.old.faults ≡ [] }
     requires guest { (part : ClientPart) × (n : ℕ) × IsGuest ask.client part n pool.old guest × AsksNames part ask × IsNamedApart n noted.old.names.next None }
+    requires server { IsServer by }
     requires numbers { noted.old.names.next < 2 ^ 31 }
     requires needed { IsNeeded noted.old.names ask None }
     ensures held { HoldsNames noted.new right.new }
@@ -109,6 +112,7 @@ fn serve_with<N: Naming>(
     requires held { HoldsNames noted.old right.old }
     requires calm { right.old.faults ≡ [] }
     requires guest { (part : ClientPart) × (n : ℕ) × IsGuest ask.client part n pool.old guest × AsksNames part ask × IsNamedApart n noted.old.names.next (Some file) }
+    requires server { IsServer by }
     requires numbers { noted.old.names.next < 2 ^ 31 }
     requires needed { IsNeeded noted.old.names ask (Some file.value.file.file) }
     ensures held { HoldsNames noted.new right.new }

@@ -9,6 +9,7 @@ ghost use Rattle.ufs_model.specs.History.{is_excused};
 ghost use Rattle.ufs_hand_laws.specs.Owned.{count};
 ghost use Rattle.ufs_hand_laws.specs.Parts.{ClientPart};
 ghost use Rattle.ufs_joint.specs.NamesTurns.{live_files};
+ghost use Rattle.ufs_joint.specs.Servers.{IsServer};
 ghost use Rattle.ufs_store.specs.Refusals.{fault_in, is_no_space};
 ghost use Rattle.ufs_store.specs.declared.fault.StoreFault.TheVariants as refusal;
 ghost use Rattle.ufs_turns.specs.Lent.{AreTold, IsBare, IsBeside, StopsByFault, TellsStop, TellsWhere};
@@ -49,6 +50,7 @@ pub(crate) fn sync_lent<N: Naming, T: Turns<N>>(
     requires calm { right.old.faults ≡ [] }
     requires births { KnowsBirths reached.old (first_names noted.old right.old.names) }
     requires guest { (part : ClientPart) × (n : ℕ) × (pool : BlockSet) × IsGuest ask.client part n pool guest × AsksSync part ask × (count eqb n (under_numbers files.old) ≡ 0) }
+    requires server { IsServer by }
     requires all { AreAllLive noted.old.names files.old }
     ensures held { HoldsNames noted.new right.new }
     ensures calm { right.new.faults ≡ [] }

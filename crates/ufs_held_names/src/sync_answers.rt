@@ -4,6 +4,7 @@ ghost use Rattle.ufs_bitmap.specs.Blocks.{BlockSet};
 ghost use Rattle.ufs_layout.specs.Areas.{IsGeometry};
 ghost use Rattle.ufs_hand_laws.specs.Owned.{count};
 ghost use Rattle.ufs_hand_laws.specs.Parts.{ClientPart};
+ghost use Rattle.ufs_joint.specs.Servers.{IsServer};
 ghost use Rattle.ufs_held.specs.Asking.{IsGuest};
 ghost use Rattle.ufs_held.specs.Together.{under_numbers};
 ghost use Rattle.ufs_held_names.specs.Dirs.{IsAnsweredBy};
@@ -34,6 +35,7 @@ pub(crate) fn answer_all<N: Naming>(
     requires held { HoldsNames noted.now right.old }
     requires calm { right.old.faults ≡ [] }
     requires guest { (part : ClientPart) × (n : ℕ) × (pool : BlockSet) × IsGuest ask.client part n pool guest × AsksSync part ask × (count eqb n (under_numbers files.old) ≡ 0) }
+    requires server { IsServer by }
     requires all { AreAllLive noted.now.names files.old }
     requires may { MayAnswerAll N.start.is_visible (first_names noted.now right.old.names) files.old guest reply }
     ensures held { HoldsNames noted.now right.new }

@@ -7,6 +7,7 @@ ghost use Rattle.ufs_model.specs.declared.data.Excuse.TheVariants as excuse;
 ghost use Rattle.ufs_model.specs.declared.data.Op.TheVariants as op;
 ghost use Rattle.ufs_hand_laws.specs.Parts.{ClientPart};
 ghost use Rattle.ufs_joint.specs.NamesTurns.{live_files};
+ghost use Rattle.ufs_joint.specs.Servers.{IsServer};
 ghost use Rattle.ufs_held.specs.Asking.{Asks, IsGuest, faults_of, is_of_turn};
 ghost use Rattle.ufs_held_names.specs.Births.{KnowsBirths};
 ghost use Rattle.ufs_held_names.specs.HeldNames.{HoldsNames, first_names};
@@ -39,6 +40,7 @@ pub(crate) fn fsync_lent<N: Naming, T: Turns<N>>(
     requires calm { right.old.faults ≡ [] }
     requires births { KnowsBirths reached.old (first_names noted.old right.old.names) }
     requires guest { (part : ClientPart) × (n : ℕ) × (pool : BlockSet) × IsGuest ask.client part n pool guest × Asks part ask × (n ≢ file.value.file.file) }
+    requires server { IsServer by }
     requires fsync { (fd : ℕ) × (ask.op ≡ op.Fsync fd) }
     requires named { IsOf ask.desc file.value.file.file }
     ensures held { HoldsNames noted.new right.new }
@@ -73,6 +75,7 @@ fn sync_born<N: Naming, T: Turns<N>>(
     requires calm { right.old.faults ≡ [] }
     requires all { (first_names noted.now right.old.names).named ≡ live_files noted.now.names }
     requires guest { (part : ClientPart) × (n : ℕ) × (pool : BlockSet) × IsGuest ask.client part n pool guest × Asks part ask × (n ≢ file.value.file.file) }
+    requires server { IsServer by }
     requires fsync { (fd : ℕ) × (ask.op ≡ op.Fsync fd) }
     requires named { IsOf ask.desc file.value.file.file }
     ensures held { HoldsNames noted.now right.new }
@@ -100,6 +103,7 @@ fn excuse_file<N: Naming>(
     cause: Excuse,
 ) -> FileSynced<N>
     requires guest { (part : ClientPart) × (n : ℕ) × (pool : BlockSet) × IsGuest ask.client part n pool guest × Asks part ask × (n ≢ file.value.file.file) }
+    requires server { IsServer by }
     requires fsync { (fd : ℕ) × (ask.op ≡ op.Fsync fd) }
     requires named { IsOf ask.desc file.value.file.file }
     requires kind { is_of_turn cause ≡ true }

@@ -7,6 +7,7 @@ ghost use Rattle.ufs_held_names.specs.Dirs.{AsksUnopened, answered};
 ghost use Rattle.ufs_model.specs.declared.data.Errno.TheVariants.{Ebadf};
 ghost use Rattle.ufs_model.specs.declared.data.Reply.TheVariants as reply;
 ghost use Rattle.ufs_hand_laws.specs.Parts.{ClientPart};
+ghost use Rattle.ufs_joint.specs.Servers.{IsServer};
 
 use crate::held_names::NamesSynced;
 use ufs_held::draw_reply;
@@ -21,7 +22,8 @@ pub fn refuse_unopened<N: Naming>(
     mut guest: Hand<N>,
     by: Actor,
 ) -> NamesSynced<N>
-    requires { (part : ClientPart) × (n : ℕ) × (pool : BlockSet) × IsGuest ask.client part n pool guest × AsksUnopened part ask }
+    requires guest { (part : ClientPart) × (n : ℕ) × (pool : BlockSet) × IsGuest ask.client part n pool guest × AsksUnopened part ask }
+    requires server { IsServer by }
     ensures entry { IsEntryOf ask by result.entry.ticket result.entry }
     ensures replied { result.entry.reply ≡ reply.Refused Ebadf }
     ensures guest { (part : ClientPart) (n : ℕ) (pool : BlockSet) → IsGuest ask.client part n pool guest → IsGuest ask.client (answered part result.entry) n pool result.guest }

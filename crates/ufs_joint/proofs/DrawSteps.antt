@@ -43,6 +43,7 @@ use Rattle.ufs_joint.proofs.NoneLost.{joined, parted}
 use Rattle.ufs_joint.specs.NoneLost.{HandHas, IsHad}
 use Rattle.ufs_joint.proofs.Forgetting.{less_is_kept}
 use Rattle.ufs_joint.proofs.Pools.{pools_stay}
+use Rattle.ufs_joint.proofs.Served.{served_push}
 use Rattle.ufs_joint.proofs.Parting.{cells_there, commits_after, file_after, freed_fewer, freed_in, names_after, other_pool, own_free, same_cells, same_names_cell, still_apart}
 use Rattle.ufs_joint.proofs.Takes.{take_front, take_whole}
 
@@ -562,6 +563,7 @@ module _ (k : Start) (word : Word) (views : List View) (i : ℕ) (v : View) (f :
     begun = o.begun;
     may_begin = o.may_begin;
     leads = leads_after;
+    served = λ start begun. served_push start h e (o.served start begun) (to start begun).served;
     unread = λ file place c is absent. (let x = (stays_away o.begun o.may_begin file place c is absent).0 in o.unread file place x.0 x.1 x.2);
     disk = disk_after;
   }

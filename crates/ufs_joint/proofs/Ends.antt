@@ -131,6 +131,7 @@ module _ (k : Start) (word : Word) (views : List View) (i : ℕ) (v : View) (res
     history = o.history;
     all_drawn = o.tickets_once.tickets;
     legal = (o.leads o.begun o.may_begin).legal;
+    served = o.served o.begun o.may_begin;
     order = o.tickets_once.numbers;
     transcripts = transcripts;
     merged = record {
@@ -298,6 +299,7 @@ module _ (k : Start) (c : CanBegin k) where
     formed = c.formed;
     begun = k.tree;
     may_begin = record { tree = c.tree; alike = alikes.itself k.tree; picked = λ pick h. absurd h; seen = λ _. refl };
+    served = λ start b. tt;
     leads = λ start b. record {
       legal = record { entries = tt; faults = tt };
       clients = λ n p e fd. ap (λ (q : ClientPart). fin.get q.fds fd) (client_is n p e) ∙ fin.get-empty nat_cmp fd ∙ sym (ap (λ fds. fin.get fds (n, fd)) b.alike.fds ∙ c.closed n fd);

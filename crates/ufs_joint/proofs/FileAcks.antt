@@ -20,6 +20,7 @@ use Rattle.ufs_joint.specs.Cells.{FileCell, View}
 use Rattle.ufs_joint.specs.Draws.{Leaves, MayDraw}
 use Rattle.ufs_joint.specs.FileHands.{AcknowledgementsMayDraw, IsFileHand, MayAcknowledge, same_leaves}
 use Rattle.ufs_joint.specs.NamesHands.{IsNextOf, still_leaves}
+use Rattle.ufs_joint.specs.Servers.{IsAlwaysServedSo}
 use Rattle.ufs_joint.specs.Whole.{KnowsCells}
 use Rattle.ufs_joint.proofs.StillDraws as draws
 use Rattle.ufs_joint.proofs.StillDraws.{Acknowledges, IsStillHand, own_fds}
@@ -35,7 +36,7 @@ pub all_stays : (v : View) (client : ℕ) (part : ClientPart) (file : ℕ) (cell
 all_stays v client part file cell n pool g visible f ticket hand may = subst (λ (q : Leaves). MayDraw g visible v f q ticket) (leaves_same v client part file cell n pool hand) may
 
 module _ (acks : FilesAreAcknowledged) (g : Geometry) (visible : Bool) (v : View) (client : ℕ) (part : ClientPart) (file : ℕ) (cell : FileCell) (n : ℕ) (pool : BlockSet) (f : Fresh) (ticket fd : ℕ) (d : Desc)
-    (hand : IsFileHand v client part file cell n pool) (may : MayAcknowledge visible client part file cell f fd d) where
+    (hand : IsFileHand v client part file cell n pool) (may : MayAcknowledge visible client part file cell f fd d) (who : IsAlwaysServedSo part.fds f) where
   has_file : Has (file, cell) v.files
   has_file = subst (Has (file, cell)) (sym hand.files) (inl refl)
 
@@ -64,7 +65,7 @@ module _ (acks : FilesAreAcknowledged) (g : Geometry) (visible : Bool) (v : View
   may_draw : MayDraw g visible v f (same_leaves part file cell n pool) ticket
   may_draw = all_stays v client part file cell n pool g visible f ticket hand
       (draws.may_draw g visible v client part n pool f ticket its_hand asked (done_still v f ticket may.done (inr (fd, may.op_is)))
-      (λ start history p rest a. inl (fsync_done v f ticket may.done fd may.op_is (tree_after start history) d (desc (tree_after start history) (own_fds g v client part n pool f ticket its_hand asked start history p rest a)))) acknowledges)
+      (λ start history p rest a. inl (fsync_done v f ticket may.done fd may.op_is (tree_after start history) d (desc (tree_after start history) (own_fds g v client part n pool f ticket its_hand asked start history p rest a)))) acknowledges who)
 
 pub acknowledgements_may_draw : FilesAreAcknowledged → AcknowledgementsMayDraw
-acknowledgements_may_draw acks g visible v client part file cell n pool f ticket fd d hand may = may_draw acks g visible v client part file cell n pool f ticket fd d hand may
+acknowledgements_may_draw acks g visible v client part file cell n pool f ticket fd d hand may who = may_draw acks g visible v client part file cell n pool f ticket fd d hand may who

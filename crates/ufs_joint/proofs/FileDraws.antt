@@ -48,6 +48,7 @@ use Rattle.ufs_joint.specs.Cells.{FileCell, View}
 use Rattle.ufs_joint.specs.Draws.{DrawsOnDisk, DrawsTo, IsAround, Leaves, MayDraw}
 use Rattle.ufs_joint.specs.FileHands.{FileRequestsMayDraw, IsFileHand, ServesFile, own_desc, served_leaves}
 use Rattle.ufs_joint.specs.Picks.{IsAbsent, bytes_at}
+use Rattle.ufs_joint.specs.Servers.{IsAlwaysServedSo}
 use Rattle.ufs_joint.specs.Whole.{GoOnBy, HasFileCell, pooled}
 use Rattle.ufs_joint.proofs.Blocks.{in_union, pooled_one, union_left, union_right}
 use Rattle.ufs_joint.proofs.NoneLost.{file_keeps}
@@ -159,7 +160,7 @@ and_off false = refl
 
 module _ (stays : FileRequestsStayKept) (names_keep : KeepsNames)
     (g : Geometry) (visible : Bool) (v : View) (client : ℕ) (part : ClientPart) (file : ℕ) (cell : FileCell) (n : ℕ) (pool left : BlockSet) (f : Fresh) (ticket : ℕ) (ask : Ask) (server : Actor) (d : Desc) (next : DurableState) (desc : Option Desc) (fds : OwnFds)
-    (hand : IsFileHand v client part file cell n pool) (serves : ServesFile client part file cell pool left f ticket ask server d next desc fds) where
+    (hand : IsFileHand v client part file cell n pool) (serves : ServesFile client part file cell pool left f ticket ask server d next desc fds) (who : IsAlwaysServedSo part.fds f) where
   abbrev l : Leaves
   l = served_leaves fds file cell next ticket n left
 
@@ -261,6 +262,7 @@ module _ (stays : FileRequestsStayKept) (names_keep : KeepsNames)
     to : DrawsTo g v f l ticket go start history p rest
     to = record {
       legal = legal;
+      served = who t (λ fd. a.fds client part has_part fd ∙ ap (λ c. desc_at t c fd) (sym serves.by_client));
       fds = λ fd. this fd (fd_named ask.op) refl ∙ ap (λ (u : PosixTree). desc_at u f.client fd) (sym goes_tree);
       others = λ c not fd. sym (stepped.told.others c fd (inl (λ is. not (is ∙ sym same_client)))) ∙ ap (λ (u : PosixTree). desc_at u c fd) (sym goes_tree);
       parts = subst (ArePartsOf (go p)) (sym goes_tree) (parts_by_requests names_keep g rest t e p cell.value.file next left ask server ticket desc d here serves.on_file asked serves.is of applied a.server serves.served a.parts);
@@ -379,5 +381,5 @@ module _ (stays : FileRequestsStayKept) (names_keep : KeepsNames)
           by false = omega arith
 
 pub file_requests_may_draw : FileRequestsStayKept → KeepsNames → FileRequestsMayDraw
-file_requests_may_draw stays names_keep g visible v client part file cell n pool left f ticket ask server d next desc fds hand serves =
-    may_draw stays names_keep g visible v client part file cell n pool left f ticket ask server d next desc fds hand serves
+file_requests_may_draw stays names_keep g visible v client part file cell n pool left f ticket ask server d next desc fds hand serves who =
+    may_draw stays names_keep g visible v client part file cell n pool left f ticket ask server d next desc fds hand serves who

@@ -22,13 +22,14 @@ use Rattle.ufs_joint.specs.KnownDraws.{ExcusesStayKept}
 use Rattle.ufs_joint.specs.Cells.{FileCell, View}
 use Rattle.ufs_joint.specs.Draws.{IsAround, MayDraw}
 use Rattle.ufs_joint.specs.FileHands.{ExcusesMayDraw, IsFileHand, MayExcuse, own_desc, same_leaves}
+use Rattle.ufs_joint.specs.Servers.{IsAlwaysServedSo}
 use Rattle.ufs_joint.proofs.FileAcks.{all_stays}
 use Rattle.ufs_joint.proofs.FileDraws.{no_last, no_new_fd}
 use Rattle.ufs_joint.proofs.StillDraws as draws
 use Rattle.ufs_joint.proofs.StillKinds.{excuse_still, file_still}
 
 module _ (stays : ExcusesStayKept) (g : Geometry) (visible : Bool) (v : View) (client : ℕ) (part : ClientPart) (file : ℕ) (cell : FileCell) (n : ℕ) (pool : BlockSet) (f : Fresh) (ticket : ℕ) (ask : Ask) (x : Excuse)
-    (hand : IsFileHand v client part file cell n pool) (may : MayExcuse v client part file cell f ask x) where
+    (hand : IsFileHand v client part file cell n pool) (may : MayExcuse v client part file cell f ask x) (who : IsAlwaysServedSo part.fds f) where
   has_part : Has (client, part) v.clients
   has_part = subst (Has (client, part)) (sym hand.clients) (inl refl)
 
@@ -61,7 +62,7 @@ module _ (stays : ExcusesStayKept) (g : Geometry) (visible : Bool) (v : View) (c
   may_draw = all_stays v client part file cell n pool g visible f ticket hand
       (draws.may_draw g visible v client part n pool f ticket (file_still v client part file cell n pool hand) (record { low = may.low; by_client = may.by_client; asked = may.asked; seq = may.seq })
       (excuse_still v f ticket x may.replied may.device may.stopped may.committed may.asks) due
-      (λ seen s start history p known formed legal fds cells knows on. stays s start history (entry_of ticket f) p known legal (ap is_excused may.replied) on))
+      (λ seen s start history p known formed legal fds cells knows on. stays s start history (entry_of ticket f) p known legal (ap is_excused may.replied) on) who)
 
 pub excuses_may_draw : ExcusesStayKept → ExcusesMayDraw
-excuses_may_draw stays g visible v client part file cell n pool f ticket ask x hand may = may_draw stays g visible v client part file cell n pool f ticket ask x hand may
+excuses_may_draw stays g visible v client part file cell n pool f ticket ask x hand may who = may_draw stays g visible v client part file cell n pool f ticket ask x hand may who

@@ -7,6 +7,7 @@ pub mod Picking
 pub mod FaultsTold
 pub mod Parting
 pub mod NoneLost
+pub mod Served
 pub mod DrawSteps
 pub mod TurnEnding
 pub mod OneFile

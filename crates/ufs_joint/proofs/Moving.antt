@@ -139,6 +139,7 @@ module _ (k : Start) (word : Word) (views : List View) (i : ℕ) (v : View) (was
     formed = ap (λ (s : StoreCell). geometry_of_store (store_of s)) (sym it_is) ∙ o.formed;
     begun = o.begun;
     may_begin = o.may_begin;
+    served = o.served;
     leads = λ start b. record { legal = (o.leads start b).legal; clients = (o.leads start b).clients; parts = (o.leads start b).parts; away = (o.leads start b).away };
     unread = o.unread;
     disk = disk_then;

@@ -21,6 +21,7 @@ use Rattle.ufs_joint.specs.Acks.{AllIsAcknowledged, DirsAreAcknowledged}
 use Rattle.ufs_joint.specs.Cells.{NamesCell, View}
 use Rattle.ufs_joint.specs.Draws.{MayDraw}
 use Rattle.ufs_joint.specs.NamesHands.{DirAcknowledgementsMayDraw, IsNamesHand, IsNextOf, MayAcknowledgeAll, MayAcknowledgeDir, SyncsMayDraw, still_leaves}
+use Rattle.ufs_joint.specs.Servers.{IsAlwaysServedSo}
 use Rattle.ufs_joint.specs.Whole.{HasCells, KnowsCells}
 use Rattle.ufs_joint.proofs.StillDraws.{IsStillHand, may_draw, own_fds}
 use Rattle.ufs_joint.proofs.StillKinds.{done_still, fsync_done, names_still}
@@ -43,7 +44,7 @@ module _ (visible : Bool) (v : View) (client : ℕ) (part : ClientPart) (names :
 -- ---- an `fsync` of a directory
 
 module _ (dirs : DirsAreAcknowledged) (g : Geometry) (visible : Bool) (v : View) (client : ℕ) (part : ClientPart) (names : NamesCell) (n : ℕ) (pool : BlockSet) (f : Fresh) (ticket fd : ℕ) (d : Desc)
-    (hand : IsNamesHand v client part names n pool) (asked : IsNextOf client part f) (may : MayAcknowledgeDir visible part names f fd d) where
+    (hand : IsNamesHand v client part names n pool) (asked : IsNextOf client part f) (may : MayAcknowledgeDir visible part names f fd d) (who : IsAlwaysServedSo part.fds f) where
   dir_hand : IsStillHand v client part n pool
   dir_hand = names_still v client part names n pool hand
 
@@ -55,15 +56,15 @@ module _ (dirs : DirsAreAcknowledged) (g : Geometry) (visible : Bool) (v : View)
       (λ start history p rest a. inl (fsync_done v f ticket may.done fd may.op_is (tree_after start history) d (desc (tree_after start history) (own_fds g v client part n pool f ticket dir_hand asked start history p rest a))))
       (λ seen s start history p known formed legal fds cells knows on.
       dirs s start history (entry_of ticket f) p known fd legal may.op_is (ap (λ (x : Option Desc). (unwrap_or x closed).file) (desc (tree_after start history) fds) ∙ may.of)
-      (names_known visible v client part names n pool hand start history known (may.known seen) knows) on)
+      (names_known visible v client part names n pool hand start history known (may.known seen) knows) on) who
 
 pub dirs_may_draw : DirsAreAcknowledged → DirAcknowledgementsMayDraw
-dirs_may_draw dirs g visible v client part names n pool f ticket fd d hand asked may = dir_may_draw dirs g visible v client part names n pool f ticket fd d hand asked may
+dirs_may_draw dirs g visible v client part names n pool f ticket fd d hand asked may who = dir_may_draw dirs g visible v client part names n pool f ticket fd d hand asked may who
 
 -- ---- a `sync`
 
 module _ (g : Geometry) (all : AllIsAcknowledged g) (visible : Bool) (v : View) (client : ℕ) (part : ClientPart) (names : NamesCell) (n : ℕ) (pool : BlockSet) (f : Fresh) (ticket : ℕ)
-    (hand : IsNamesHand v client part names n pool) (asked : IsNextOf client part f) (may : MayAcknowledgeAll visible v names f) where
+    (hand : IsNamesHand v client part names n pool) (asked : IsNextOf client part f) (may : MayAcknowledgeAll visible v names f) (who : IsAlwaysServedSo part.fds f) where
   known_all : visible ≡ true → (start : PosixTree) (history : List Entry) (p : Parts) (known : Known) → HasCells v p → KnowsCells start history v known → IsAllKnown start history p known
   known_all seen start history p known cells knows = record {
     names = names_known visible v client part names n pool hand start history known (may.known seen) knows;
@@ -79,7 +80,7 @@ module _ (g : Geometry) (all : AllIsAcknowledged g) (visible : Bool) (v : View) 
   pub sync_may_draw : MayDraw g visible v f (still_leaves part v) ticket
   sync_may_draw = may_draw g visible v client part n pool f ticket (names_still v client part names n pool hand) asked (done_still v f ticket may.done (inl may.op_is))
       (λ start history p rest a. inl (may.done ∙ sym (ap (λ o. (posix (tree_after start history) f.client o).1) may.op_is)))
-      (λ seen s start history p known formed legal fds cells knows on. all s start history (entry_of ticket f) p known formed legal may.op_is (known_all seen start history p known cells knows) on)
+      (λ seen s start history p known formed legal fds cells knows on. all s start history (entry_of ticket f) p known formed legal may.op_is (known_all seen start history p known cells knows) on) who
 
 pub syncs_may_draw : (g : Geometry) → AllIsAcknowledged g → SyncsMayDraw g
-syncs_may_draw g all visible v client part names n pool f ticket hand asked may = sync_may_draw g all visible v client part names n pool f ticket hand asked may
+syncs_may_draw g all visible v client part names n pool f ticket hand asked may who = sync_may_draw g all visible v client part names n pool f ticket hand asked may who

@@ -60,6 +60,7 @@ use Rattle.ufs_joint.specs.Draws.{DrawsOnDisk, DrawsTo, IsAround, IsUnknown, Lea
 use Rattle.ufs_joint.specs.NamesHands.{Changes, IsNamesHand, IsNew, IsNextCell, IsNextOf, NamesRequestsMayDraw, ServesNames, Serving, Stays, names_leaves, own_parts}
 use Rattle.ufs_joint.specs.NoneLost.{IsDropped, IsFree, IsHad, OfDir, OfFile, OfPool}
 use Rattle.ufs_joint.specs.Picks.{IsAbsent, bytes_at}
+use Rattle.ufs_joint.specs.Servers.{IsAlwaysServedSo}
 use Rattle.ufs_joint.specs.Whole.{GoOnBy, HasCells, HasFileCell, HasNamesCell, commits_of, hand_of, pooled}
 use Rattle.ufs_joint.proofs.Blocks.{pooled_one}
 use Rattle.ufs_joint.proofs.Exchanging.{exchanged, get_exchanged}
@@ -126,7 +127,7 @@ is_none_of (Some x) e = absurd cc
 
 module _ (lends : LentIsServed) (request : ServedIsRequest) (go_on : RequestsGoOn) (sounds : RequestsAreSound) (beside : FilesStayBeside) (g : Geometry) (stays : LentRequestsStayKept g)
     (visible : Bool) (v : View) (client : ℕ) (part : ClientPart) (n : ℕ) (f : Fresh) (ticket : ℕ) (ask : Ask) (desc : Option Desc) (fds : OwnFds) (after : List (ℕ × FileCell)) (was left : Serving)
-    (hand : IsNamesHand v client part was.names n was.pool) (by_client : IsNextOf client part f) (serves : ServesNames part f ticket ask desc fds v.files after was left) where
+    (hand : IsNamesHand v client part was.names n was.pool) (by_client : IsNextOf client part f) (serves : ServesNames part f ticket ask desc fds v.files after was left) (who : IsAlwaysServedSo part.fds f) where
   abbrev l : Leaves
   l = names_leaves fds after n left
 
@@ -559,6 +560,7 @@ module _ (lends : LentIsServed) (request : ServedIsRequest) (go_on : RequestsGoO
     to : DrawsTo g v f l ticket go start history p rest
     to = record {
       legal = legal;
+      served = who t its_fds;
       fds = λ fd. fds_then fd ∙ ap (λ (q : PosixTree). desc_at q f.client fd) (sym goes_tree);
       others = λ c not fd. sym (h.served.told.others c fd (inl (λ is. not (is ∙ sym serves.ask_client)))) ∙ ap (λ (q : PosixTree). desc_at q c fd) (sym goes_tree);
       parts = subst (ArePartsOf (go p)) (sym goes_tree) (parts_told (mid p) (go p).commits as_told u (go_on t u own (mid p) serves.lent serves.given_back its_request));
@@ -654,5 +656,5 @@ module _ (lends : LentIsServed) (request : ServedIsRequest) (go_on : RequestsGoO
       known_so file c (IsNew none next is) = inl (record { known = ap (λ (q : FileCell). q.known) is; born = ap (λ (q : FileCell). q.born) is })
 
 pub names_requests_may_draw : LentIsServed → ServedIsRequest → RequestsGoOn → RequestsAreSound → FilesStayBeside → (g : Geometry) → LentRequestsStayKept g → NamesRequestsMayDraw g
-names_requests_may_draw lends request go_on sounds beside g stays visible v client part n f ticket ask desc fds after was left hand by_client serves =
-    may_draw lends request go_on sounds beside g stays visible v client part n f ticket ask desc fds after was left hand by_client serves
+names_requests_may_draw lends request go_on sounds beside g stays visible v client part n f ticket ask desc fds after was left hand by_client serves who =
+    may_draw lends request go_on sounds beside g stays visible v client part n f ticket ask desc fds after was left hand by_client serves who

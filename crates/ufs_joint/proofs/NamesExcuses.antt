@@ -22,12 +22,13 @@ use Rattle.ufs_joint.specs.KnownDraws.{ExcusesStayKept}
 use Rattle.ufs_joint.specs.Cells.{NamesCell, View}
 use Rattle.ufs_joint.specs.Draws.{IsAround, MayDraw}
 use Rattle.ufs_joint.specs.NamesHands.{IsNamesHand, IsNextOf, MayExcuseNames, NamesExcusesMayDraw, still_leaves}
+use Rattle.ufs_joint.specs.Servers.{IsAlwaysServedSo}
 use Rattle.ufs_joint.proofs.HandFiles.{sized}
 use Rattle.ufs_joint.proofs.StillDraws.{IsStillHand, may_draw, own_fds}
 use Rattle.ufs_joint.proofs.StillKinds.{excuse_still, names_still}
 
 module _ (stays : ExcusesStayKept) (g : Geometry) (visible : Bool) (v : View) (client : ℕ) (part : ClientPart) (names : NamesCell) (n : ℕ) (pool : BlockSet) (files : Files) (commits : Commits) (f : Fresh) (ticket : ℕ) (ask : Ask) (x : Excuse)
-    (hand : IsNamesHand v client part names n pool) (asked : IsNextOf client part f) (may : MayExcuseNames v part names files commits f ask x) where
+    (hand : IsNamesHand v client part names n pool) (asked : IsNextOf client part f) (may : MayExcuseNames v part names files commits f ask x) (who : IsAlwaysServedSo part.fds f) where
   its_hand : IsStillHand v client part n pool
   its_hand = names_still v client part names n pool hand
 
@@ -48,7 +49,7 @@ module _ (stays : ExcusesStayKept) (g : Geometry) (visible : Bool) (v : View) (c
 
   pub excuse_may_draw : MayDraw g visible v f (still_leaves part v) ticket
   excuse_may_draw = may_draw g visible v client part n pool f ticket its_hand asked (excuse_still v f ticket x may.replied may.device may.stopped may.committed may.asks) due
-      (λ seen s start history p known formed legal fds cells knows on. stays s start history (entry_of ticket f) p known legal (ap is_excused may.replied) on)
+      (λ seen s start history p known formed legal fds cells knows on. stays s start history (entry_of ticket f) p known legal (ap is_excused may.replied) on) who
 
 pub names_excuses_may_draw : ExcusesStayKept → NamesExcusesMayDraw
-names_excuses_may_draw stays g visible v client part names n pool files commits f ticket ask x hand asked may = excuse_may_draw stays g visible v client part names n pool files commits f ticket ask x hand asked may
+names_excuses_may_draw stays g visible v client part names n pool files commits f ticket ask x hand asked may who = excuse_may_draw stays g visible v client part names n pool files commits f ticket ask x hand asked may who

@@ -54,6 +54,7 @@ other_views k word views more o held seen faults = record {
   begun = o.begun;
   may_begin = o.may_begin;
   leads = o.leads;
+  served = o.served;
   unread = o.unread;
   disk = o.disk;
 }
@@ -247,6 +248,7 @@ module _ (k : Start) (word : Word) (views : List View) (i : ℕ) (v : View) (c :
     formed = o.formed;
     begun = o.begun;
     may_begin = o.may_begin;
+    served = o.served;
     leads = λ start begun. record {
       legal = (o.leads start begun).legal;
       clients = λ n p is fd. let y = client_was n p is in ap (λ z. fin.get z fd) y.3 ∙ (o.leads start begun).clients n y.0 y.1 fd;
@@ -375,6 +377,7 @@ module _ (k : Start) (word : Word) (views : List View) (i : ℕ) (v : View) (s :
     formed = ap (λ (q : StoreCell). geometry_of_store (store_of q)) (sym it_is) ∙ o.formed;
     begun = o.begun;
     may_begin = o.may_begin;
+    served = o.served;
     leads = λ start b. record { legal = (o.leads start b).legal; clients = (o.leads start b).clients; parts = (o.leads start b).parts; away = (o.leads start b).away };
     unread = o.unread;
     disk = disk_then;

@@ -27,6 +27,7 @@ use Rattle.ufs_joint.specs.Cells.{FileCell, View}
 use Rattle.ufs_joint.specs.Draws.{DrawsOnDisk, DrawsTo, IsAround, Leaves, MayDraw}
 use Rattle.ufs_joint.specs.NamesHands.{AreNumberedOnce, IsNextOf, still_leaves}
 use Rattle.ufs_joint.specs.Picks.{bytes_at}
+use Rattle.ufs_joint.specs.Servers.{IsAlwaysServedSo}
 use Rattle.ufs_joint.specs.Whole.{GoOnBy, HasCells, KnowsCells, commits_of, hand_of}
 use Rattle.ufs_joint.proofs.OneFile.{only_here}
 
@@ -85,7 +86,7 @@ own_fds g v client part n pool f ticket hand asked start history p rest a fd =
     a.fds client part (subst (Has (client, part)) (sym hand.clients) (inl refl)) fd ∙ ap (λ c. desc_at (tree_after start history) c fd) (sym asked.by_client)
 
 module _ (g : Geometry) (visible : Bool) (v : View) (client : ℕ) (part : ClientPart) (n : ℕ) (pool : BlockSet) (f : Fresh) (ticket : ℕ)
-    (hand : IsStillHand v client part n pool) (asked : IsNextOf client part f) (still : IsStill v f ticket) (replied : IsRepliedTo g v f ticket) (acks : Acknowledges g visible v part f ticket) where
+    (hand : IsStillHand v client part n pool) (asked : IsNextOf client part f) (still : IsStill v f ticket) (replied : IsRepliedTo g v f ticket) (acks : Acknowledges g visible v part f ticket) (who : IsAlwaysServedSo part.fds f) where
   abbrev l : Leaves
   l = still_leaves part v
 
@@ -120,6 +121,7 @@ module _ (g : Geometry) (visible : Bool) (v : View) (client : ℕ) (part : Clien
     to : DrawsTo g v f l ticket go start history p rest
     to = record {
       legal = legal;
+      served = who t fds;
       fds = λ x. fds x ∙ ap (λ (u : PosixTree). desc_at u f.client x) (sym same_tree);
       others = λ c not x. ap (λ (u : PosixTree). desc_at u c x) (sym same_tree);
       parts = subst (ArePartsOf p) (sym same_tree) a.parts;

@@ -163,6 +163,7 @@ module _ (k : Start) (word : Word) (views : List View) (i : ℕ) (v : View) (nam
     formed = o.formed;
     begun = o.begun;
     may_begin = o.may_begin;
+    served = o.served;
     leads = λ start b. record {
       legal = (o.leads start b).legal;
       clients = (o.leads start b).clients;

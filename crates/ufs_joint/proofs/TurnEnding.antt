@@ -549,6 +549,7 @@ module _ (k : Start) (word : Word) (views : List View) (i : ℕ) (v : View) (t :
     begun = begun_after;
     may_begin = may_begin_after;
     leads = leads_after;
+    served = λ start begun. o.served start (older start begun);
     unread = unread_after;
     disk = disk_after;
   }

@@ -24,6 +24,7 @@ use Rattle.ufs_joint.specs.Cells.{FileCell, NamesCell, View}
 use Rattle.ufs_joint.specs.NoneLost.{IsHad}
 use Rattle.ufs_promise_laws.specs.Known.{IsDiskKept, Known}
 use Rattle.ufs_joint.specs.Picks.{IsAbsent, bytes_at}
+use Rattle.ufs_joint.specs.Servers.{IsServedBy}
 use Rattle.ufs_joint.specs.Whole.{GoOnBy, HasCells, KnowsCells, pooled}
 
 -- ---- the view afterwards
@@ -72,6 +73,7 @@ module _ (g : Geometry) (v : View) (f : Fresh) (l : Leaves) (n : ℕ) (next : Pa
   -- The history stays legal, and leads to the next parts, which are sound.
   pub record DrawsTo : Type 0 where
     pub legal : IsLegal start longer
+    pub served : IsServedBy (tree_after start history) f.client f.op f.by
     pub fds : (fd : ℕ) → fin.get l.fds fd ≡ desc_at (tree_after start longer) f.client fd
     pub others : (c : ℕ) → c ≢ f.client → (fd : ℕ) → desc_at (tree_after start history) c fd ≡ desc_at (tree_after start longer) c fd
     pub parts : ArePartsOf (next p) (tree_after start longer)

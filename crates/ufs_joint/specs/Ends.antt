@@ -25,6 +25,7 @@ use Rattle.ufs_joint.specs.Faults.{IsOfSession, IsStopOf}
 use Rattle.ufs_joint.specs.NoneLost.{HandHas}
 use Rattle.ufs_promise_laws.specs.Known.{IsDiskKept, Known}
 use Rattle.ufs_joint.specs.Picks.{Pick}
+use Rattle.ufs_joint.specs.Servers.{AreServedSo}
 use Rattle.ufs_joint.specs.Sound.{AreJoined, IsExplainedState, MayHaveBegun}
 use Rattle.ufs_joint.specs.Whole.{HasCells, HasNamesCell, birth_known_by, commits_of, hand_of, no_blocks, pooled}
 
@@ -95,8 +96,9 @@ pub record IsAlwaysExplained (start : PosixTree) (word : Word) (history : List E
   pub past : (x : Stretch) → Has x s.past → (i : ℕ) → x.from ≤ i → i ≤ x.to → (cells : Cells) → Has cells x.states → IsExplainedState s.sectors start (take i history) cells
   pub now : (i : ℕ) → s.stamp ≤ i → i ≤ word.tickets → IsExplainedState s.sectors start (take i history) s.state
 
--- One history: legal from a tree with which the session may have begun, with all tickets and each client's entries in their order. The
--- hand's cells, with no other file, are the parts of the tree to which it leads, sound, and on the disk, which is always explained.
+-- One history: legal from a tree with which the session may have begun, with all tickets and each client's entries in their order, each
+-- served by its client, where that answers it itself, and else by a server. The hand's cells, with no other file, are the parts of the
+-- tree to which it leads, sound, and on the disk, which is always explained.
 pub record IsWhole (k : Start) (word : Word) (v : View) (store : StoreCell) : Type 0 where
   pub start : PosixTree
   pub picks : List Pick
@@ -104,6 +106,7 @@ pub record IsWhole (k : Start) (word : Word) (v : View) (store : StoreCell) : Ty
   pub history : List Entry
   pub all_drawn : length history ≡ word.tickets
   pub legal : IsLegal start history
+  pub served : AreServedSo start history
   pub order : (c : ℕ) → map (λ e. e.seq) (entries_of c history) ≡ range_with_len 0 (length (entries_of c history))
   pub transcripts : (c : ℕ) (p : ClientPart) → Has (c, p) v.clients → p.entries ≡ entries_of c history
   pub merged : IsMerge v history

@@ -42,6 +42,7 @@ use Rattle.ufs_joint.specs.Cells.{FileCell, StoreCell, View, store_of, store_sin
 use Rattle.ufs_joint.specs.Disks.{states_behind}
 use Rattle.ufs_joint.specs.Draws.{Leaves, MayDraw}
 use Rattle.ufs_joint.specs.Picks.{picks_from}
+use Rattle.ufs_joint.specs.Servers.{IsAlwaysServedSo}
 use Rattle.ufs_joint.specs.Turns.{AreFaultsTold, MayEndTurn, Turn}
 
 -- The hand has the client, the file, whose number is its own, and the pool, and not the names.
@@ -85,7 +86,7 @@ served_leaves fds file cell next ticket n left = record { fds = fds; files = (fi
 -- So it may be drawn.
 abbrev pub FileRequestsMayDraw : Type 0
 FileRequestsMayDraw = (g : Geometry) (visible : Bool) (v : View) (client : ℕ) (part : ClientPart) (file : ℕ) (cell : FileCell) (n : ℕ) (pool left : BlockSet) (f : Fresh) (ticket : ℕ) (ask : Ask) (server : Actor) (d : Desc) (next : DurableState) (desc : Option Desc) (fds : OwnFds)
-    → IsFileHand v client part file cell n pool → ServesFile client part file cell pool left f ticket ask server d next desc fds → MayDraw g visible v f (served_leaves fds file cell next ticket n left) ticket
+    → IsFileHand v client part file cell n pool → ServesFile client part file cell pool left f ticket ask server d next desc fds → IsAlwaysServedSo part.fds f → MayDraw g visible v f (served_leaves fds file cell next ticket n left) ticket
 
 -- ---- an acknowledgement
 
@@ -109,7 +110,7 @@ same_leaves part file cell n pool = record { fds = part.fds; files = (file, cell
 
 abbrev pub AcknowledgementsMayDraw : Type 0
 AcknowledgementsMayDraw = (g : Geometry) (visible : Bool) (v : View) (client : ℕ) (part : ClientPart) (file : ℕ) (cell : FileCell) (n : ℕ) (pool : BlockSet) (f : Fresh) (ticket fd : ℕ) (d : Desc)
-    → IsFileHand v client part file cell n pool → MayAcknowledge visible client part file cell f fd d → MayDraw g visible v f (same_leaves part file cell n pool) ticket
+    → IsFileHand v client part file cell n pool → MayAcknowledge visible client part file cell f fd d → IsAlwaysServedSo part.fds f → MayDraw g visible v f (same_leaves part file cell n pool) ticket
 
 -- ---- an excuse
 
@@ -135,7 +136,7 @@ pub record MayExcuse (v : View) (client : ℕ) (part : ClientPart) (file : ℕ) 
 
 abbrev pub ExcusesMayDraw : Type 0
 ExcusesMayDraw = (g : Geometry) (visible : Bool) (v : View) (client : ℕ) (part : ClientPart) (file : ℕ) (cell : FileCell) (n : ℕ) (pool : BlockSet) (f : Fresh) (ticket : ℕ) (ask : Ask) (x : Excuse)
-    → IsFileHand v client part file cell n pool → MayExcuse v client part file cell f ask x → MayDraw g visible v f (same_leaves part file cell n pool) ticket
+    → IsFileHand v client part file cell n pool → MayExcuse v client part file cell f ask x → IsAlwaysServedSo part.fds f → MayDraw g visible v f (same_leaves part file cell n pool) ticket
 
 -- ---- a commit
 

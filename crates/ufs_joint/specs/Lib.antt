@@ -6,6 +6,7 @@ pub mod Faults
 pub mod Whole
 pub mod NoneLost
 pub mod Sound
+pub mod Servers
 pub mod Draws
 pub mod Turns
 pub mod Marks

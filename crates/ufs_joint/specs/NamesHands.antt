@@ -26,6 +26,7 @@ use Rattle.ufs_hand_laws.specs.declared.fresh.Fresh.{Fresh}
 use Rattle.ufs_promise_laws.specs.Parts.{Commits, Parts, durable_in}
 use Rattle.ufs_joint.specs.Cells.{FileCell, NamesCell, View}
 use Rattle.ufs_joint.specs.Draws.{Leaves, MayDraw}
+use Rattle.ufs_joint.specs.Servers.{IsAlwaysServedSo}
 
 -- Each of these cells stands under its file's number, once.
 pub record AreNumberedOnce (cells : List (ℕ × FileCell)) : Type 0 where
@@ -62,7 +63,7 @@ pub record MayAcknowledgeDir (visible : Bool) (part : ClientPart) (names : Names
 
 abbrev pub DirAcknowledgementsMayDraw : Type 0
 DirAcknowledgementsMayDraw = (g : Geometry) (visible : Bool) (v : View) (client : ℕ) (part : ClientPart) (names : NamesCell) (n : ℕ) (pool : BlockSet) (f : Fresh) (ticket fd : ℕ) (d : Desc)
-    → IsNamesHand v client part names n pool → IsNextOf client part f → MayAcknowledgeDir visible part names f fd d → MayDraw g visible v f (still_leaves part v) ticket
+    → IsNamesHand v client part names n pool → IsNextOf client part f → MayAcknowledgeDir visible part names f fd d → IsAlwaysServedSo part.fds f → MayDraw g visible v f (still_leaves part v) ticket
 
 -- A `sync` is done: so is what changed of each live file, which the hand has.
 pub record MayAcknowledgeAll (visible : Bool) (v : View) (names : NamesCell) (f : Fresh) : Type 0 where
@@ -73,7 +74,7 @@ pub record MayAcknowledgeAll (visible : Bool) (v : View) (names : NamesCell) (f 
 
 abbrev pub SyncsMayDraw : Geometry → Type 0
 SyncsMayDraw g = (visible : Bool) (v : View) (client : ℕ) (part : ClientPart) (names : NamesCell) (n : ℕ) (pool : BlockSet) (f : Fresh) (ticket : ℕ)
-    → IsNamesHand v client part names n pool → IsNextOf client part f → MayAcknowledgeAll visible v names f → MayDraw g visible v f (still_leaves part v) ticket
+    → IsNamesHand v client part names n pool → IsNextOf client part f → MayAcknowledgeAll visible v names f → IsAlwaysServedSo part.fds f → MayDraw g visible v f (still_leaves part v) ticket
 
 -- ---- a request of the names
 
@@ -135,7 +136,7 @@ names_leaves fds after n left = record { fds = fds; files = after; pools = (n, l
 -- So it may be drawn.
 abbrev pub NamesRequestsMayDraw : Geometry → Type 0
 NamesRequestsMayDraw g = (visible : Bool) (v : View) (client : ℕ) (part : ClientPart) (n : ℕ) (f : Fresh) (ticket : ℕ) (ask : Ask) (desc : Option Desc) (fds : OwnFds) (after : List (ℕ × FileCell)) (was left : Serving)
-    → IsNamesHand v client part was.names n was.pool → IsNextOf client part f → ServesNames part f ticket ask desc fds v.files after was left → MayDraw g visible v f (names_leaves fds after n left) ticket
+    → IsNamesHand v client part was.names n was.pool → IsNextOf client part f → ServesNames part f ticket ask desc fds v.files after was left → IsAlwaysServedSo part.fds f → MayDraw g visible v f (names_leaves fds after n left) ticket
 
 -- ---- an excuse
 
@@ -156,4 +157,4 @@ pub record MayExcuseNames (v : View) (part : ClientPart) (names : NamesCell) (go
 
 abbrev pub NamesExcusesMayDraw : Type 0
 NamesExcusesMayDraw = (g : Geometry) (visible : Bool) (v : View) (client : ℕ) (part : ClientPart) (names : NamesCell) (n : ℕ) (pool : BlockSet) (files : Files) (commits : Commits) (f : Fresh) (ticket : ℕ) (ask : Ask) (x : Excuse)
-    → IsNamesHand v client part names n pool → IsNextOf client part f → MayExcuseNames v part names files commits f ask x → MayDraw g visible v f (still_leaves part v) ticket
+    → IsNamesHand v client part names n pool → IsNextOf client part f → MayExcuseNames v part names files commits f ask x → IsAlwaysServedSo part.fds f → MayDraw g visible v f (still_leaves part v) ticket

@@ -30,6 +30,7 @@ use Rattle.ufs_joint.specs.Faults.{AreFaultsOnce}
 use Rattle.ufs_joint.specs.NoneLost.{HandHas, IsHad}
 use Rattle.ufs_promise_laws.specs.Known.{IsDiskKept}
 use Rattle.ufs_joint.specs.Picks.{HasPicked, IsAbsent, IsUnpicked, Pick, bytes_at}
+use Rattle.ufs_joint.specs.Servers.{AreServedSo}
 use Rattle.ufs_joint.specs.Whole.{AreFreeIn, ArePartsIn, ArePoolsApart, HasFileCell, HasNamesCell, known_in, no_blocks}
 
 -- ---- each cell is in one hand
@@ -156,6 +157,7 @@ pub record IsSound (k : Start) (word : Word) (views : List View) : Type 0 where
   pub begun : PosixTree
   pub may_begin : MayHaveBegun k picks begun
   pub leads : (start : PosixTree) → MayHaveBegun k picks start → LeadsTo start history world parts
+  pub served : (start : PosixTree) → MayHaveBegun k picks start → AreServedSo start history
   -- and of what isn't in memory nothing was read
   pub unread : (file place : ℕ) (c : FileCell) → world.file file ≡ Some c → IsAbsent c place → IsUnpicked picks file place
   -- the disk holds them

@@ -53,7 +53,7 @@ module _ (k : Start) (laws : NamesLaws k.geometry) (n : ℕ) (v u s : View) (was
 
   drew : IsSound k (at (suc n)) (v1 ∷ u ∷ s ∷ [])
   drew = laws.draw k (at n) (v ∷ u ∷ s ∷ []) 0 v a.fresh (names_leaves a.fds a.after a.number a.left) sound refl
-      (laws.requests k.is_visible v a.client a.part a.number a.fresh n a.ask a.told a.fds a.after a.was a.left a.hand a.next a.serves)
+      (laws.requests k.is_visible v a.client a.part a.number a.fresh n a.ask a.told a.fds a.after a.was a.left a.hand a.next a.serves a.who)
 
   parted : IsSound k (at (suc n)) (kept_of Names v1 ∷ u ∷ s ∷ given_of Names v1 ∷ [])
   parted = laws.split k (at (suc n)) (v1 ∷ u ∷ s ∷ []) 0 v1 Names drew refl
@@ -66,7 +66,7 @@ module _ (k : Start) (laws : NamesLaws k.geometry) (n : ℕ) (v u s : View) (was
 
   meanwhile : IsSound k (at (suc (suc n))) (kept_of Names v1 ∷ u1 ∷ w1 ∷ spent ∷ [])
   meanwhile = laws.draw k (at (suc n)) (kept_of Names v1 ∷ u ∷ w1 ∷ spent ∷ []) 1 u b.fresh (served_leaves b.fds b.file b.cell b.next (suc n) b.number b.left) turned refl
-      (laws.writes k.geometry k.is_visible u b.client b.part b.file b.cell b.number b.pool b.left b.fresh (suc n) b.ask b.server b.desc b.next b.told b.fds b.hand b.serves)
+      (laws.writes k.geometry k.is_visible u b.client b.part b.file b.cell b.number b.pool b.left b.fresh (suc n) b.ask b.server b.desc b.next b.told b.fds b.hand b.serves b.who)
 
   -- what is known of the names was so before
   known : k.is_visible ≡ true → a.left.names.known ≤ suc n

@@ -42,7 +42,7 @@ module _ (k : Start) (laws : Laws k.geometry) (n : ℕ) (v u w s : View) (was : 
 
   wrote : IsSound k (at (suc n)) (v1 ∷ u ∷ w ∷ s ∷ [])
   wrote = laws.draw k (at n) (v ∷ u ∷ w ∷ s ∷ []) 0 v a.fresh (served_leaves a.fds a.file a.cell a.next n a.number a.left) sound refl
-      (laws.requests k.geometry k.is_visible v a.client a.part a.file a.cell a.number a.pool a.left a.fresh n a.ask a.server a.desc a.next a.told a.fds a.hand a.serves)
+      (laws.requests k.geometry k.is_visible v a.client a.part a.file a.cell a.number a.pool a.left a.fresh n a.ask a.server a.desc a.next a.told a.fds a.hand a.serves a.who)
 
   joined : IsSound k (at (suc n)) (v2 ∷ u ∷ w ∷ spent ∷ [])
   joined = laws.join k (at (suc n)) (v1 ∷ u ∷ w ∷ s ∷ []) 0 3 v1 s wrote refl (λ e. cc) refl
@@ -52,7 +52,7 @@ module _ (k : Start) (laws : Laws k.geometry) (n : ℕ) (v u w s : View) (was : 
 
   meanwhile : IsSound k (at (suc (suc n))) (v3 ∷ u1 ∷ w ∷ spent ∷ [])
   meanwhile = laws.draw k (at (suc n)) (v3 ∷ u ∷ w ∷ spent ∷ []) 1 u b.fresh (served_leaves b.fds b.file b.cell b.next (suc n) b.number b.left) turned refl
-      (laws.requests k.geometry k.is_visible u b.client b.part b.file b.cell b.number b.pool b.left b.fresh (suc n) b.ask b.server b.desc b.next b.told b.fds b.hand b.serves)
+      (laws.requests k.geometry k.is_visible u b.client b.part b.file b.cell b.number b.pool b.left b.fresh (suc n) b.ask b.server b.desc b.next b.told b.fds b.hand b.serves b.who)
 
   -- what is known of the file was so before
   known : k.is_visible ≡ true → a.cell.known ≤ suc n
@@ -75,4 +75,4 @@ module _ (k : Start) (laws : Laws k.geometry) (n : ℕ) (v u w s : View) (was : 
 
   pub keeps : IsSound k (at (suc (suc (suc n)))) (row_end k n v u w s was a b f c)
   keeps = laws.draw k (at (suc (suc n))) _ 2 w c.fresh (same_leaves c.part c.file c.cell c.number c.pool) (laws.split k (at (suc (suc n))) (v4 ∷ u1 ∷ w ∷ spent ∷ []) 0 v4 Store stopped refl) refl
-      (laws.acknowledgements k.geometry k.is_visible w c.client c.part c.file c.cell c.number c.pool c.fresh (suc (suc n)) c.fd c.desc c.hand c.may)
+      (laws.acknowledgements k.geometry k.is_visible w c.client c.part c.file c.cell c.number c.pool c.fresh (suc (suc n)) c.fd c.desc c.hand c.may c.who)

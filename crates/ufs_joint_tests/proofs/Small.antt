@@ -212,6 +212,7 @@ module _ (n : NamesPart) (s : StoreState) (tickets : ℕ) where
     to : DrawsTo small (back n s tickets) excused (all_left n) ticket (λ q. q) start history p rest
     to = record {
       legal = legal-push start history e a.legal (record { numbered = sym a.so_many; replied = inr fits }) (tells_new excused.reply history (λ fault is. cc));
+      served = record { own = λ its. cc; sent = λ its. tt };
       fds = λ x. a.fds 0 asking (inl refl) x ∙ ap (λ (u : PosixTree). desc_at u 0 x) (sym same_tree);
       others = λ c not x. ap (λ (u : PosixTree). desc_at u c x) (sym same_tree);
       parts = subst (ArePartsOf p) (sym same_tree) a.parts;

@@ -12,6 +12,7 @@ use Rattle.ufs_joint.specs.Draws.{drawn}
 use Rattle.ufs_joint.specs.Marks.{births_told}
 use Rattle.ufs_joint.specs.NamesHands.{IsNamesHand, IsNextOf, ServesNames, Serving, names_leaves}
 use Rattle.ufs_joint.specs.NamesTurns.{CommitsNames, committed_names_turn, names_committed}
+use Rattle.ufs_joint.specs.Servers.{IsAlwaysServedSo}
 use Rattle.ufs_joint.specs.Sound.{IsSound}
 use Rattle.ufs_joint.specs.Turns.{begun_at, turn_begun, turn_ended}
 use Rattle.ufs_joint_tests.specs.Row.{IsStoreHand, Writes, at, written}
@@ -31,6 +32,7 @@ pub record Requests (v : View) (ticket : ℕ) : Type 0 where
   pub hand : IsNamesHand v client part was.names number was.pool
   pub next : IsNextOf client part fresh
   pub serves : ServesNames part fresh ticket ask told fds v.files after was left
+  pub who : IsAlwaysServedSo part.fds fresh
 
 module _ (v : View) (ticket : ℕ) (a : Requests v ticket) where
   abbrev pub requested : View

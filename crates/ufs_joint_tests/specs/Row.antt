@@ -15,6 +15,7 @@ use Rattle.ufs_store.specs.State.{geometry_of_store}
 use Rattle.ufs_joint.specs.Cells.{FileCell, Start, StoreCell, View, Word, both_of, given_of, kept_of, spent, store_of}
 use Rattle.ufs_joint.specs.Draws.{drawn}
 use Rattle.ufs_joint.specs.FileHands.{FailsFile, IsFileHand, MayAcknowledge, ServesFile, failed_turn, same_leaves, served_leaves}
+use Rattle.ufs_joint.specs.Servers.{IsAlwaysServedSo}
 use Rattle.ufs_joint.specs.Sound.{IsSound}
 use Rattle.ufs_joint.specs.Turns.{begun_at, turn_begun, turn_ended}
 
@@ -39,6 +40,7 @@ pub record Writes (v : View) (ticket : ℕ) : Type 0 where
   pub told : Option Desc
   pub fds : OwnFds
   pub serves : ServesFile client part file cell pool left fresh ticket ask server desc next told fds
+  pub who : IsAlwaysServedSo part.fds fresh
 
 module _ (v : View) (ticket : ℕ) (a : Writes v ticket) where
   abbrev pub cell_written : FileCell
@@ -60,6 +62,7 @@ pub record Acknowledges (visible : Bool) (v : View) : Type 0 where
   pub fd : ℕ
   pub desc : Desc
   pub may : MayAcknowledge visible client part file cell fresh fd desc
+  pub who : IsAlwaysServedSo part.fds fresh
 
 module _ (visible : Bool) (v : View) (a : Acknowledges visible v) (ticket : ℕ) where
   abbrev pub acknowledged : View

@@ -5,6 +5,7 @@ use Rattle.std.specs.Coded.{Coded, code_by, coded×, coded_bool}
 use Rattle.ufs_joint.specs.Cells.{Start, View}
 use Rattle.ufs_joint.specs.Codes.{view_code}
 use Rattle.ufs_joint.specs.FileHands.{own_desc}
+use Rattle.ufs_joint.specs.Servers.{NeedsServer}
 use Rattle.ufs_model.specs.Asks.{IsAsk, fd_named, file_in}
 use Rattle.ufs_model.specs.Bounds.{IsBounded}
 use Rattle.ufs_model.specs.PosixTree.{PosixTree, desc_at}
@@ -64,6 +65,8 @@ pub record IsAsked (k : Start) (ask : Ask) (v : View) : Type 0 where
   pub desc : ask.desc ≡ own_desc self.fds (fd_named ask.op)
   -- so are the others that are told, in each tree that has its descriptors
   pub told : (t : PosixTree) → ((fd : ℕ) → fin.get self.fds fd ≡ desc_at t ask.client fd) → IsAsk t ask
+  -- and it doesn't answer the request itself
+  pub needs : NeedsServer self.fds ask.client ask.op
   pub dropped : (l : Lease) → Has l self.copies → RestsOn ask.op (file_in ask.desc) ask.last l → ⊥
   -- no server grants a lease yet: so it has no copy of any
   pub unleased : self.copies ≡ []

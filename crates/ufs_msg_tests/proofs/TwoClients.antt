@@ -86,6 +86,7 @@ module _ (n : NamesPart) (s : StoreState) (at then : ℕ) where
     asked = refl;
     desc = refl;
     told = λ t same. record { desc = refl; fd = refl; last = refl };
+    needs = λ t same. refl;
     dropped = λ l has rests. rests;
     unleased = refl;
   }
@@ -102,6 +103,7 @@ module _ (n : NamesPart) (s : StoreState) (at then : ℕ) where
     asked = refl;
     desc = refl;
     told = λ t same. record { desc = refl; fd = refl; last = refl };
+    needs = λ t same. refl;
     dropped = λ l has rests. rests;
     unleased = refl;
   }

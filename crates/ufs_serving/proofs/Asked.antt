@@ -112,6 +112,7 @@ module _ (k : Start) (ask : Ask) (n : ℕ) (v : View) (asked : IsAsked k ask v) 
     asked = asked.asked;
     desc = asked.desc;
     told = asked.told;
+    needs = asked.needs;
     dropped = asked.dropped;
     unleased = asked.unleased;
   }
@@ -129,4 +130,5 @@ module _ (k : Start) (ask : Ask) (n : ℕ) (v : View) (asked : IsAsked k ask v) 
         no_fd = is.fd ∙ on.no_fd t.fds ask.client;
         not_last = is.last ∙ on.not_last t.fds ask.client;
         on_file = on.on_file;
+        needs = asked.needs;
       }

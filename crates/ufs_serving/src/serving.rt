@@ -8,6 +8,7 @@ ghost use Rattle.ufs_msg.specs.Requests.{HasClientAlone};
 ghost use Rattle.ufs_crash_laws.specs.Changes.{asks_commit};
 ghost use Rattle.ufs_hand_laws.specs.Parts.{ClientPart};
 ghost use Rattle.ufs_joint.specs.FirstHand.{HasPoolAlone};
+ghost use Rattle.ufs_joint.specs.Servers.{IsServer};
 ghost use Rattle.ufs_serving.specs.Pools.{most_at_rest};
 ghost use Rattle.ufs_serving.specs.Serving.{IsServedAt};
 
@@ -33,6 +34,7 @@ pub fn serve_change<N: Naming, T: Turns<N>>(
 ) -> (HeldFile<N>, Served<N>)
     requires pool { HasPoolAlone number pool.old right.old }
     requires asked { (part : ClientPart) × HasClientAlone ask.client part client × Asks part ask }
+    requires server { IsServer by }
     requires no_commit { asks_commit ask.op ≡ false }
     requires bounded { IsBounded ask.op }
     requires named { IsOf ask.desc held.value.file.file }

@@ -7,6 +7,7 @@ ghost use Rattle.ufs_msg.specs.Requests.{HasClientAlone};
 ghost use Rattle.ufs_hand_laws.specs.Parts.{ClientPart};
 ghost use Rattle.ufs_serving.specs.Serving.{IsSyncedAt};
 ghost use Rattle.ufs_joint.specs.FirstHand.{HasPoolAlone};
+ghost use Rattle.ufs_joint.specs.Servers.{IsServer};
 
 use crate::pool::{lend_pool, take_pool};
 use ufs_bitmap::Pool;
@@ -29,6 +30,7 @@ pub fn serve_sync<N: Naming, T: Turns<N>>(
 ) -> (HeldFile<N>, Served<N>)
     requires pool { HasPoolAlone number pool.now right.old }
     requires asked { (part : ClientPart) × HasClientAlone ask.client part client × Asks part ask }
+    requires server { IsServer by }
     requires fsync { (fd : ℕ) × (ask.op ≡ op.Fsync fd) }
     requires named { IsOf ask.desc held.value.file.file }
     requires apart { number ≢ held.value.file.file }

@@ -3,10 +3,10 @@ use Rattle.ufs_at_primary.specs.Dirs.{IsDirDone}
 use Rattle.ufs_at_primary.proofs.dirs.sync_dir.Goals as goal
 
 pub refuse_unopened-requires : goal.refuse_unopened-requires
-refuse_unopened-requires g c = (let f = c.requires in (f.0, f.1, f.2, f.3, f.5 c.in-None.is))
+refuse_unopened-requires g c = (let f = c.requires in record { guest = (f.0, f.1, f.2, f.3, f.5 c.in-None.is); server = tt })
 
 pub fsync_dir-requires : goal.fsync_dir-requires
-fsync_dir-requires g c = (let f = c.requires in record { guest = (f.0, f.1, f.2, f.3, f.4 (ap is_some c.in-Some.is)) })
+fsync_dir-requires g c = (let f = c.requires in record { guest = (f.0, f.1, f.2, f.3, f.4 (ap is_some c.in-Some.is)); server = tt })
 
 pub returns-in-None-clause-done : goal.returns-in-None-clause-done
 returns-in-None-clause-done g c =

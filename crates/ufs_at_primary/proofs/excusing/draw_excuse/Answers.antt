@@ -16,7 +16,7 @@ draw_reply-entry-requires g c =
     let k = g.N.Naming.start in
     record {
       may = λ ticket. subst (λ (x : Excuse). MayDraw k.geometry k.is_visible c.args.guest (replied_to c.args.ask Primary (reply.Excused x)) (still_of c.args.guest) ticket) (sym c.from-cause.ensures)
-          (may_excuse k c.args.guest f.0 f.1 f.2 c.args.ask ticket f.3 f.4 c.draw_law.ensures.excused);
+          (may_excuse k c.args.guest f.0 f.1 f.2 c.args.ask ticket f.3 f.4 f.5 c.draw_law.ensures.excused);
     }
 
 pub returns-clause-replied : goal.returns-clause-replied

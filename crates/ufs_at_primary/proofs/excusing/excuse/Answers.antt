@@ -22,7 +22,7 @@ draw_excuse-entry-requires g c =
     let a = c.into_parts-client.ensures.asked in
     let p = c.requires.pool in
     let r = c.into_parts-client.result in
-    (a.self, 4294967295, p.0, c.lend_pool-guest.ensures.guest 4294967295 p.0 r.1.client a.self p.1 a.alone, next_of g.N.Naming.start r.1 r.0 a)
+    (a.self, 4294967295, p.0, c.lend_pool-guest.ensures.guest 4294967295 p.0 r.1.client a.self p.1 a.alone, next_of g.N.Naming.start r.1 r.0 a, a.needs)
 
 pub take_pool-guest-requires : goal.take_pool-guest-requires
 take_pool-guest-requires g c =

@@ -19,7 +19,7 @@ new-requires g c =
     let b = c.requires.both in
     let ask = c.args.ask in
     let left = c.mark_asked.ensures.left b.0 b.1 b.2 in
-    is_asked g.N.Naming.start ask b.0 c.split-own.result c.requires.there c.requires.low c.requires.few c.requires.bounded b.3 b.4
+    is_asked g.N.Naming.start ask b.0 c.split-own.result c.requires.there c.requires.low c.requires.few c.requires.bounded b.3 b.4 c.requires.sent
     (subst (HasClientAlone ask.client (record b.0 { asked = Some ask.op })) (sym c.split-own.ensures.given) (client_given ask.client _ left.before c.mark_asked.new.hand left.both))
 
 pub returns-clause-away : goal.returns-clause-away

@@ -44,7 +44,7 @@ draw_entry-ticket-requires-clause-may g c n =
       same_desc = e.desc;
     } in
     subst (λ (v : View). MayDraw g.N.Naming.start.geometry g.N.Naming.start.is_visible v (fresh_of entry) (held_leaves (fresh_of entry) v y left desc n) n) (sym c.look.ensures.cells)
-    (may_draw g.N.Naming.start c.look.result c.args.right.now c.look.ensures.knows h.0 h.1 h.2 x c.args.pool.now c.args.ask h.3 h.4 h.5 y left c.args.by entry desc applied e.number e.taken c.requires.no_commit c.requires.named c.a_file_request_is_drawn.ensures c.an_excuse_is_drawn.ensures n)
+    (may_draw g.N.Naming.start c.look.result c.args.right.now c.look.ensures.knows h.0 h.1 h.2 x c.args.pool.now c.args.ask h.3 h.4 h.5 y left c.args.by entry desc applied e.number e.taken c.requires.no_commit c.requires.named c.requires.server c.a_file_request_is_drawn.ensures c.an_excuse_is_drawn.ensures n)
 
 pub returns-clause-faults : goal.returns-clause-faults
 returns-clause-faults g c =
@@ -73,7 +73,7 @@ returns-clause-faults g c =
     } in
     ap (λ (v : View). v.faults) c.draw_entry-ticket.ensures.cells
     ∙ ap (λ (v : View). left_faults entry.reply v.faults) c.look.ensures.cells
-    ∙ calm g.N.Naming.start c.look.result c.args.right.now c.look.ensures.knows h.0 h.1 h.2 x c.args.pool.now c.args.ask h.3 h.4 h.5 y left c.args.by entry desc applied e.number e.taken c.requires.no_commit c.requires.named c.args.right.now.faults
+    ∙ calm g.N.Naming.start c.look.result c.args.right.now c.look.ensures.knows h.0 h.1 h.2 x c.args.pool.now c.args.ask h.3 h.4 h.5 y left c.args.by entry desc applied e.number e.taken c.requires.no_commit c.requires.named c.requires.server c.args.right.now.faults
 
 pub returns-clause-later : goal.returns-clause-later
 returns-clause-later g c =

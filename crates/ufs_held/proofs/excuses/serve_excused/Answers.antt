@@ -26,7 +26,7 @@ draw_reply-entry-requires g c =
     let cause = c.args.cause in
     let hand = subst (λ (v : View). IsFileHand v c.args.ask.client f.0 x.file.file held.cell f.1 f.2) (sym c.join.ensures) (joined_hand own c.args.guest x c.args.ask.client f.0 f.1 f.2 held f.3) in
     record {
-      may = λ ticket. may_excuse g.N.Naming.start c.join.new.self f.0 x.file.file held.cell f.1 f.2 c.args.ask c.args.by ticket hand f.4 c.an_excuse_is_drawn.ensures cause
+      may = λ ticket. may_excuse g.N.Naming.start c.join.new.self f.0 x.file.file held.cell f.1 f.2 c.args.ask c.args.by ticket hand f.4 c.requires.server c.an_excuse_is_drawn.ensures cause
           (λ fault is. subst (λ (v : View). 1 ≤ times fault v.faults) (sym c.join.ensures) (told_joined fault own.faults c.args.guest.faults (its_fault cause own.faults fault c.requires.told is)))
           (λ fault is. subst (λ (v : View). v.stop ≡ Some fault) (sym c.join.ensures) (stop_joined own.stop c.args.guest.stop fault (c.requires.stopped fault is)))
           (λ fault by is. subst (λ (v : View). v.stop ≡ Some fault) (sym c.join.ensures) (stop_joined own.stop c.args.guest.stop fault (c.requires.committed fault by is)))

@@ -42,7 +42,7 @@ draw_reply-entry-requires g c =
     let then = held_synced visible own synced x y held c.sync_file.ensures.beside c.sync_file.ensures.away done in
     let hand = subst (λ (v : View). IsFileHand v c.args.ask.client f.0 y.file.file then.cell f.1 f.2) (sym c.join.ensures) (joined_hand synced c.args.guest y c.args.ask.client f.0 f.1 f.2 then f.3) in
     record {
-      may = λ ticket. may_acknowledge g.N.Naming.start c.join.new.self f.0 y.file.file then.cell f.1 f.2 c.args.ask c.args.by ticket hand f.4 c.an_acknowledgement_is_drawn.ensures c.requires.fsync.0 c.requires.fsync.1
+      may = λ ticket. may_acknowledge g.N.Naming.start c.join.new.self f.0 y.file.file then.cell f.1 f.2 c.args.ask c.args.by ticket hand f.4 c.requires.server c.an_acknowledgement_is_drawn.ensures c.requires.fsync.0 c.requires.fsync.1
           (subst (IsOf c.args.ask.desc) (sym done.file.number) c.requires.named) (ap (λ (q : FileCell). q.born) (sym (first_held x own held)) ∙ c.requires.born) done.all;
     }
 

@@ -21,7 +21,7 @@ draw_reply-entry-requires g c =
     let may = may_joined own c.args.guest x held k.is_visible c.args.reply (subst (λ (q : NamesCell). MayAnswer k.is_visible q c.args.guest c.args.reply) (first_held x own held) c.requires.may) in
     record {
       may = λ ticket. may_answer k c.join.new.self f.0 held.cell f.1 f.2 c.args.ask c.args.by c.args.reply ticket
-          (subst (IsNamesGuest c.args.ask.client f.0 held.cell f.1 f.2) (sym joined) (joined_guest own c.args.guest x held c.args.ask.client f.0 f.1 f.2 f.3)) f.4
+          (subst (IsNamesGuest c.args.ask.client f.0 held.cell f.1 f.2) (sym joined) (joined_guest own c.args.guest x held c.args.ask.client f.0 f.1 f.2 f.3)) f.4 c.requires.server
           c.a_directory_is_acknowledged.ensures c.a_names_excuse_is_drawn.ensures (subst (λ (v : View). MayAnswer k.is_visible held.cell v c.args.reply) (sym joined) may);
     }
 

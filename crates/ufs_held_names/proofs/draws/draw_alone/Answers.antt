@@ -64,10 +64,10 @@ draw_made-ticket-requires-clause-may g c ticket =
     subst (λ (q : View). MayDraw k.geometry k.is_visible q (fresh_of entry) (names_left (fresh_of entry) q y left desc (new_cells made) ticket) ticket) (sym c.look.ensures.cells)
     (by_reply (is_excused entry.reply) _
     (λ served.
-    may_served k c.look.result v know h.0 h.1 h.2 c.args.pool.now c.args.ask h.3 x h.5 h.6 y left c.args.by entry desc map.empty (one_file x.names.next made) map.empty map.empty None (new_cells made) e.entry gathered before served ticket (e.served served)
+    may_served k c.look.result v know h.0 h.1 h.2 c.args.pool.now c.args.ask h.3 x h.5 h.6 y left c.args.by entry desc map.empty (one_file x.names.next made) map.empty map.empty None (new_cells made) e.entry gathered before c.requires.server served ticket (e.served served)
     (new_files x.names.next ticket made e.young) (new_once x.names.next ticket made e.young) (new_next v.files h.4 x.names.next ticket made e.young) (subst NamesRequestsMayDraw c.requires.its c.a_names_request_is_drawn.ensures))
     (λ excused.
-    may_excused k c.look.result v know h.0 h.1 h.2 c.args.pool.now c.args.ask h.3 x h.5 h.6 y left c.args.by entry desc map.empty (one_file x.names.next made) map.empty map.empty None (new_cells made) e.entry gathered before excused ticket (e.unchanged excused) (e.untaken excused)
+    may_excused k c.look.result v know h.0 h.1 h.2 c.args.pool.now c.args.ask h.3 x h.5 h.6 y left c.args.by entry desc map.empty (one_file x.names.next made) map.empty map.empty None (new_cells made) e.entry gathered before c.requires.server excused ticket (e.unchanged excused) (e.untaken excused)
     (λ q is fault. let caused = e.cause q is in no_fault x.names t part c.args.ask.client caused.0 c.args.ask.op q (e.fits q is t asked) caused.2 fault) e.fits c.a_names_excuse_is_drawn.ensures))
 
 pub returns-clause-faults : goal.returns-clause-faults

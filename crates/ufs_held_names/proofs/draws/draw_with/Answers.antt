@@ -83,10 +83,10 @@ draw_kept_file-ticket-requires-clause-may g c ticket =
     subst (λ (q : View). MayDraw k.geometry k.is_visible q (fresh_of entry) (names_left (fresh_of entry) q y left desc (next_cells kept q.files) ticket) ticket) (sym c.look.ensures.cells)
     (by_reply (is_excused entry.reply) _
     (λ served.
-    may_served k c.look.result v know h.0 h.1 h.2 c.args.pool.now c.args.ask h.4 x h.7 h.8 y left c.args.by entry desc (one_file file.hand.file (Some file.hand)) (one_file file.hand.file (file_in kept)) (one_known file.hand.file (Some file.commits)) (one_known file.hand.file (commits_in kept)) (Some file.hand.file) (next_cells kept v.files) e.entry gathered before served ticket (e.served served)
+    may_served k c.look.result v know h.0 h.1 h.2 c.args.pool.now c.args.ask h.4 x h.7 h.8 y left c.args.by entry desc (one_file file.hand.file (Some file.hand)) (one_file file.hand.file (file_in kept)) (one_known file.hand.file (Some file.commits)) (one_known file.hand.file (commits_in kept)) (Some file.hand.file) (next_cells kept v.files) e.entry gathered before c.requires.server served ticket (e.served served)
     (subst (λ cs. AreFilesOfCells (next_cells kept cs ticket) (one_file file.hand.file (file_in kept)) (one_known file.hand.file (commits_in kept))) (sym h.5) (next_files file.hand.file ticket h.3 kept e.number)) (subst (λ cs. AreNumberedOnce (next_cells kept cs ticket)) (sym h.5) (next_once file.hand.file ticket h.3 kept e.number)) (subst (λ cs. (f : ℕ) (q : FileCell) → Has (f, q) (next_cells kept cs ticket) → IsNextCell v.files x.names.next ticket (Some file.hand.file) f q) (sym h.5) (next_next v.files file.hand.file ticket h.3 h.5 x.names.next kept)) (subst NamesRequestsMayDraw c.requires.its c.a_names_request_is_drawn.ensures))
     (λ excused.
-    may_excused k c.look.result v know h.0 h.1 h.2 c.args.pool.now c.args.ask h.4 x h.7 h.8 y left c.args.by entry desc (one_file file.hand.file (Some file.hand)) (one_file file.hand.file (file_in kept)) (one_known file.hand.file (Some file.commits)) (one_known file.hand.file (commits_in kept)) (Some file.hand.file) (next_cells kept v.files) e.entry gathered before excused ticket (e.unchanged excused) (e.untaken excused)
+    may_excused k c.look.result v know h.0 h.1 h.2 c.args.pool.now c.args.ask h.4 x h.7 h.8 y left c.args.by entry desc (one_file file.hand.file (Some file.hand)) (one_file file.hand.file (file_in kept)) (one_known file.hand.file (Some file.commits)) (one_known file.hand.file (commits_in kept)) (Some file.hand.file) (next_cells kept v.files) e.entry gathered before c.requires.server excused ticket (e.unchanged excused) (e.untaken excused)
     (λ q is fault. let caused = e.cause q is in no_fault x.names t part c.args.ask.client caused.0 c.args.ask.op q (e.fits q is t asked) caused.2 fault) e.fits c.a_names_excuse_is_drawn.ensures))
 
 pub returns-clause-faults : goal.returns-clause-faults

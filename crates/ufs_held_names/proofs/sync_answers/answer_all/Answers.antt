@@ -36,7 +36,7 @@ draw_with_files-ticket-requires g c =
       apart = all_apart client f.0 held.cell f.1 f.2 olds c.join.new.self has all f.5;
       may = λ w too ticket.
           subst (λ (q : Fresh). MayDraw k.geometry k.is_visible w q (still_of w) ticket) (sym c.reply_to-fresh.ensures)
-          (may_answer_all k c.join.new.self w f.0 held.cell f.1 f.2 olds c.args.ask c.args.by c.args.reply ticket has f.4 all too (subst SyncsMayDraw c.requires.its c.a_sync_is_acknowledged.ensures) c.draw_law.ensures.excused
+          (may_answer_all k c.join.new.self w f.0 held.cell f.1 f.2 olds c.args.ask c.args.by c.args.reply ticket has f.4 all too c.requires.server (subst SyncsMayDraw c.requires.its c.a_sync_is_acknowledged.ensures) c.draw_law.ensures.excused
           (subst (λ (v : View). MayAnswerAll k.is_visible held.cell olds v c.args.reply) (sym joined) may));
     }
 

@@ -42,7 +42,7 @@ draw_reply-entry-requires g c =
     let rest = c.requires.told in
     let hand = subst (λ (v : View). IsFileHand v c.args.ask.client f.0 x.file.file there.cell f.1 f.2) (sym joined) (joined_hand told back x c.args.ask.client f.0 f.1 f.2 there came) in
     record {
-      may = λ ticket. may_excuse g.N.Naming.start c.join.new.self f.0 x.file.file there.cell f.1 f.2 c.args.ask c.args.by ticket hand f.4 c.an_excuse_is_drawn.ensures cause
+      may = λ ticket. may_excuse g.N.Naming.start c.join.new.self f.0 x.file.file there.cell f.1 f.2 c.args.ask c.args.by ticket hand f.4 c.requires.server c.an_excuse_is_drawn.ensures cause
           (λ fault is.
           subst (λ (v : View). 1 ≤ times fault v.faults) (sym c.join.ensures)
           (told_joined fault c.args.guest.faults own.faults (subst (λ (fs : List ℕ). 1 ≤ times fault fs) (sym rest.1) (told_joined fault (faults_of cause) rest.0 (its_fault cause (faults_of cause) fault refl is)))))

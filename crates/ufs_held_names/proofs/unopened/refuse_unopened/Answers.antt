@@ -9,8 +9,8 @@ use Rattle.ufs_held_names.proofs.unopened.refuse_unopened.Goals as goal
 
 pub draw_reply-entry-requires : goal.draw_reply-entry-requires
 draw_reply-entry-requires g c =
-    let f = c.requires in
-    record { may = λ ticket. may_refuse g.N.Naming.start c.args.guest f.0 f.1 f.2 c.args.ask c.args.by ticket f.3 f.4 c.draw_law.ensures.still }
+    let f = c.requires.guest in
+    record { may = λ ticket. may_refuse g.N.Naming.start c.args.guest f.0 f.1 f.2 c.args.ask c.args.by ticket f.3 f.4 c.requires.server c.draw_law.ensures.still }
 
 pub returns : goal.returns
 returns g c =

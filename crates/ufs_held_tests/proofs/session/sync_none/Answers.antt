@@ -10,7 +10,7 @@ pub sync-requires-clause-guest : goal.sync-requires-clause-guest
 sync-requires-clause-guest g c =
     let f = c.requires.guest in
     let none : c.as_mut_slice.result.now ≡ [] = c.as_mut_slice.ensures.value ∙ c.new-files.ensures.items in
-    (f.0, f.1, f.2, f.3, record { low = omega arith; asked = f.4; seq = sym (ap length f.5); op_is = refl }, ap (λ (cs : List FileCell). count eqb f.1 (under_numbers cs)) none)
+    (f.0, f.1, f.2, f.3, record { low = omega arith; asked = f.4; seq = sym (ap length f.5); op_is = refl; needs = λ t same. refl }, ap (λ (cs : List FileCell). count eqb f.1 (under_numbers cs)) none)
 
 pub sync-requires-clause-all : goal.sync-requires-clause-all
 sync-requires-clause-all g c =

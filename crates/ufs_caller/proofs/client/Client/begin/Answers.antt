@@ -67,6 +67,9 @@ send_off-request-requires-clause-both g c =
     let h = home k s.number s.told.items s.fds s.left.items left s.hand s.kept s.trip s.hints room tied c.args.self.now c.self.view_is c.requires.idle ask c.in-Some.op e.client seq e.asked next tells in
     (h.self, h.before, h.both, for k s.number s.told.items s.fds s.left.items left s.hand s.kept s.trip s.hints room tied c.args.self.now c.self.view_is c.requires.idle ask c.in-Some.op e.client seq e.asked next tells, h.unleased)
 
+pub send_off-request-requires-clause-sent : goal.send_off-request-requires-clause-sent
+send_off-request-requires-clause-sent g c = λ t is. sym (c.answer_own.ensures.own t is) ∙ none_is c.answer_own.result c.in_default-answer_own.not-Some
+
 pub send_off-request-requires-clause-bounded : goal.send_off-request-requires-clause-bounded
 send_off-request-requires-clause-bounded g c =
     let k = g.N.Naming.start in
