@@ -105,6 +105,7 @@ module _ (k : Start) (ask : Ask) (before : View) (asked : IsAsked k ask before) 
       seq = of.seq ∙ asked.seq;
       few = subst (λ (n : ℕ). n < 65536) (sym of.seq) asked.few;
       idle = refl;
+      by = subst (IsServerThere k) (sym of.server) tt;
       desc_is = sym (ap (λ (o : Op). own_desc asked.self.fds (fd_told o entry.reply)) is_sync);
       owned = λ x file at has. absurd cc;
       unowned = λ none. refl;

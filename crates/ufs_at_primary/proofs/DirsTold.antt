@@ -75,6 +75,7 @@ module _ (k : Start) (ask : Ask) (before : View) (asked : IsAsked k ask before) 
         seq = of.seq ∙ asked.seq;
         few = subst (λ (n : ℕ). n < 65536) (sym of.seq) asked.few;
         idle = refl;
+        by = subst (IsServerThere k) (sym of.server) tt;
         desc_is = asked.desc ∙ ap (λ (o : Op). own_desc asked.self.fds (fd_named o)) is.fsync.1 ∙ ap (own_desc asked.self.fds) (sym told);
         owned = λ x file at has. absurd (no_owner ask.desc x file is.dir at has);
         unowned = λ none. refl;

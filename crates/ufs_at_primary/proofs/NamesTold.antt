@@ -137,6 +137,7 @@ module _ (k : Start) (ask : Ask) (before : View) (asked : IsAsked k ask before) 
     seq = of.seq ∙ asked.seq;
     few = subst (λ (n : ℕ). n < 65536) (sym of.seq) asked.few;
     idle = ap (λ (p : ClientPart). p.asked) answered.is;
+    by = subst (IsServerThere k) (sym of.server) tt;
     desc_is = desc_then (fd_told entry.op entry.reply) refl;
     owned = λ x file is at. subst IsSome (sym owner_is) (owned_some owners (file_in ask.desc) (file_in desc) file (file_then x file is at));
     unowned = λ none. owner_is ∙ unowned_none owners (file_in ask.desc) (file_in desc) (none_of none) (then_none none);

@@ -188,6 +188,7 @@ module _ (k : Start) (number : ℕ) (told : List Told) (table : Descs) (left lef
           });
         };
         servers = subst (AreServersThere k) (sym hints_are) (used_there k hints tied.servers (file_in ask.desc));
+        made = tied.made;
         bounded = all_bounded.1;
         few = few_was;
         room_is = room_was;
@@ -228,6 +229,7 @@ starts k number hand left room low there closed home few bounded fits = record {
   ranged = λ fd some. absurd (no_desc (subst IsSome (no_get fd) some));
   place = (home, refl);
   servers = λ file server c. absurd (let within = c.1 in omega arith);
+  made = λ x none. absurd none;
   bounded = bounded;
   few = omega (arith, few);
   room_is = omega (arith, fits);

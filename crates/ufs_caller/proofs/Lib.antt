@@ -5,6 +5,7 @@ pub mod Back
 pub mod OwnParts
 pub mod OwnDraw
 pub mod Homes
+pub mod Made
 pub mod Servers
 pub mod Places
 pub mod Tries

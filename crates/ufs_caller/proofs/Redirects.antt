@@ -85,6 +85,7 @@ module _ (k : Start) (number : ℕ) (told : List Told) (table : Descs) (left : L
           kept_may = λ y e. subst (MayGo number (length told) table place.request trip'.to) (some_same r y e) (record { ask = by_r; may = subst (λ (s : Actor). MayServe s r.ask) (sym to') may_r });
         };
         servers = some_renewed k hints tied.servers trip.file x.to hints' there renewed;
+        made = tied.made;
         bounded = tied.bounded;
         few = subst (λ (t : Option Trip). length told + (one (is_some t) + length left) ≤ 65536) is tied.few;
         room_is = subst (λ (t : Option Trip). length told + (one (is_some t) + length left) ≤ room) is tied.room_is;

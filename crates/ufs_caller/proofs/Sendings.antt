@@ -44,6 +44,7 @@ module _ (k : Start) (number : ℕ) (told : List Told) (table : Descs) (left : L
     ranged = tied.ranged;
     place = subst (IsPlaceTied k number told table hand kept') (sym is) on;
     servers = tied.servers;
+    made = tied.made;
     bounded = tied.bounded;
     few = tied.few;
     room_is = tied.room_is;

@@ -31,6 +31,7 @@ use Rattle.ufs_caller.specs.declared.trip.Trip.{Trip}
 use Rattle.ufs_caller.proofs.Homes.{entries_after, entries_many, own_of, own_same}
 use Rattle.ufs_caller.proofs.Places.{some_same}
 use Rattle.ufs_caller.proofs.Redirects.{asked_is, errand_now, not_kept, place, seen_now, tickets_are}
+use Rattle.ufs_caller.proofs.Made.{made_more}
 use Rattle.ufs_caller.proofs.Servers.{told_renewed}
 use Rattle.ufs_caller.proofs.Tries.{errand_at, seen}
 
@@ -120,7 +121,7 @@ module _ (k : Start) (entry : Entry) (told : List Told) (table : Descs) (left : 
   }
 
   module _ (told' : List Told) (told_is : told' ≡ told ++ record { entry = entry; via = trip.via } ∷ []) (room' : ℕ) (same_room : room' ≡ room)
-      (file : Option ℕ) (owner : Option Actor) (hints' : Pairs) (there : (s : Actor) → owner ≡ Some s → IsServerThere k s) (renewed : AreRenewedBy file owner hints hints') where
+      (file : Option ℕ) (owner : Option Actor) (hints' : Pairs) (there : (s : Actor) → owner ≡ Some s → IsServerThere k s) (by : IsServerThere k entry.by) (renewed : AreRenewedBy file owner hints hints') where
     abbrev x : Told
     x = record { entry = entry; via = trip.via }
 
@@ -141,6 +142,7 @@ module _ (k : Start) (entry : Entry) (told : List Told) (table : Descs) (left : 
       ranged = λ n t. back.ranged n (subst IsSome (sym (table_same n)) t);
       place = (subst (λ (es : List Entry). IsHome entry.client es table' hand') (sym (ap entries_in told_is ∙ entries_after told x)) home, not_kept k entry.client told table left hand kept o hints room tied trip is a view sent);
       servers = told_renewed k hints tied.servers file owner hints' there renewed;
+      made = made_more k entry.client told told' x told_is (inr by) tied.made;
       bounded = tied.bounded;
       few = omega (arith, many, few_was);
       room_is = omega (arith, many, room_was, same_room);

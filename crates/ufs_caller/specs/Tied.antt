@@ -11,8 +11,8 @@ use Rattle.ufs_model.specs.PosixTree.{desc_at}
 use Rattle.ufs_model.specs.declared.data.Actor.{Actor}
 use Rattle.ufs_model.specs.declared.data.Op.{Op}
 use Rattle.ufs_msg.specs.Requests.{Asked}
-use Rattle.ufs_msg.specs.There.{IsClientThere, IsServerThere, MayServe}
-use Rattle.ufs_hand_laws.specs.Owned.{one}
+use Rattle.ufs_msg.specs.There.{IsClientThere, IsServerThere, MayHaveServed, MayServe}
+use Rattle.ufs_hand_laws.specs.Owned.{Has, one}
 use Rattle.ufs_caller.specs.Callers.{Errand, IsAskBy, entries_in, file_asked}
 use Rattle.ufs_caller.specs.Hands.{IsAway, IsHome, request_in, tickets_in}
 use Rattle.ufs_caller.specs.declared.told.Told.{Told}
@@ -26,6 +26,10 @@ pub record IsItsForm (k : Start) (geometry : Geometry) : Type 0 where
 -- each hint names a server that is there
 abbrev pub AreServersThere : Start → Pairs → Type 0
 AreServersThere k hints = (file : ℕ) (server : Actor) → Contains hints (file, server) → IsServerThere k server
+
+-- each answer is by the client itself, or by a server that is there
+abbrev pub AreMadeThere : Start → ℕ → List Told → Type 0
+AreMadeThere k number told = (x : Told) → Has x told → MayHaveServed k number x.entry.by
 
 -- a request that was given back is the one that was asked, and may go where it is to go
 pub record MayGo (number seq : ℕ) (table : Descs) (request : Op) (to : Actor) (r : Asked) : Type 0 where
@@ -51,6 +55,7 @@ pub record IsTied (k : Start) (number : ℕ) (told : List Told) (table : Descs) 
   pub ranged : AreInRange table
   pub place : IsPlaceTied k number told table hand kept trip
   pub servers : AreServersThere k hints
+  pub made : AreMadeThere k number told
   pub bounded : AllByRecursion IsBounded left
   -- there are 65,536 requests at most, and room for all entries
   pub few : length told + (one (is_some trip) + length left) ≤ 65536

@@ -9,6 +9,7 @@ ghost use Rattle.ufs_msg.specs.There.{IsClientThere};
 ghost use Rattle.std.specs.FinMap as fin;
 ghost use Rattle.ufs_caller.specs.Callers.{entries_in, new_caller};
 ghost use Rattle.ufs_caller.specs.Hands.{IsHome};
+ghost use Rattle.ufs_caller.specs.Tied.{AreMadeThere};
 ghost use Rattle.ufs_caller.specs.Turns.{AreRenewed, AreRenewedBy, HasKept, HasSent, IsAnswered, IsTry, IsTurn, SendsOn};
 
 use crate::hands::{see_by, send_off, take_home};
@@ -103,11 +104,13 @@ impl<N: Naming> Client<N> {
         self.trip.is_some()
     }
 
-    /// Its hand and its answers, where no request is under way. The hand's part of the client has just these answers.
+    /// Its hand and its answers, where no request is under way. The hand's part of the client has just these answers, each made by itself
+    /// or by a server that is there.
     pub fn into_parts(self) -> (Hand<N>, Vec<Told>)
         requires idle { self.errand ≡ None }
         ensures told { result.1.items ≡ self.told }
         ensures home { IsHome self.number (entries_in self.told) self.fds result.0 }
+        ensures made { AreMadeThere N.start self.number self.told }
     {
         let Client { hand, told, .. } = self;
         (hand, told)

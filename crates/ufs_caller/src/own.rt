@@ -15,6 +15,7 @@ ghost use Rattle.ufs_joint.specs.Rule.{MayDrawAny};
 ghost use Rattle.ufs_hand_laws.specs.Parts.{AskedPart, ClientPart};
 ghost use Rattle.ufs_caller.specs.Hands.{HasBoth, IsAskFor, IsHome};
 ghost use Rattle.ufs_caller.specs.Own.{IsMadeBy, left_by, with_desc};
+ghost use Rattle.ufs_caller.specs.Tied.{AreMadeThere};
 
 use crate::hands::mark_asked;
 use crate::{Told, Via};
@@ -50,10 +51,12 @@ pub fn answer_itself<N: Naming>(
     requires own { (t : PosixTree) → IsAsk t ask → is_own t ask.client ask.op ≡ true }
     requires posix { (t : PosixTree) → IsAsk t ask → IsOwnAnswer t ask.client ask.op answer.reply answer.desc }
     requires plain { is_excused answer.reply ≡ false }
+    requires made { AreMadeThere N.start ask.client told.old.items }
     ensures home { IsHome ask.client (entries_in told.new.items) fds.new hand.new }
     ensures ranged { AreInRange fds.new }
     ensures told { (entry : Entry) × (told.new.items ≡ told.old.items ++ record { entry = entry; via = [] } ∷ []) × IsMadeBy ask answer.reply entry × (hand.old.seen ≤ entry.ticket) × (entry.ticket < hand.new.seen) }
     ensures fds { (t : PosixTree) → AreOf t.fds ask.client fds.old → AreOf (posix t ask.client ask.op).0.fds ask.client fds.new }
+    ensures made { AreMadeThere N.start ask.client told.new.items }
     ensures capacity { vec_capacity told.new ≡ vec_capacity told.old }
 {
     let desc = answer.desc;

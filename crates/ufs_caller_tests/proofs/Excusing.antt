@@ -155,6 +155,7 @@ module _ (k : Start) (blind : k.is_visible ≡ false) (ask : Ask) (v : View) (is
       seq = is.seq;
       few = is.few;
       idle = refl;
+      by = tt;
       desc_is = refl;
       owned = λ d file none of. absurd (none_some d none);
       unowned = λ none. refl;

@@ -39,7 +39,7 @@ pub record Sent : Type 0 where
 abbrev pub sent_code : Coded Sent
 sent_code = code_by (Asked × Actor) (coded× asked_code actor'.the_row.coded) (λ s. (s.request, s.to)) (λ p. record { request = p.0; to = p.1 }) (λ _. refl)
 
--- The entry is the last of the hand's client, which has no request left that it asked.
+-- The entry is the last of the hand's client, which has no request left that it asked; a server that is there served it.
 pub record IsTold (k : Start) (entry : Entry) (desc : Option Desc) (owner : Option Actor) (lease : Option Lease) (v : View) : Type 0 where
   pub mine : IsClientThere k entry.client
   pub self : ClientPart
@@ -50,6 +50,7 @@ pub record IsTold (k : Start) (entry : Entry) (desc : Option Desc) (owner : Opti
   pub seq : entry.seq ≡ length before
   pub few : entry.seq < 65536
   pub idle : self.asked ≡ None
+  pub by : IsServerThere k entry.by
   pub desc_is : desc ≡ own_desc self.fds (fd_told entry.op entry.reply)
   -- it is told who has the file that a descriptor stands for, and no owner but of a request on a descriptor
   pub owned : (d : Desc) (file : ℕ) → desc ≡ Some d → d.file ≡ Some file → IsSome owner

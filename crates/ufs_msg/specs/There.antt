@@ -1,5 +1,5 @@
 -- Which clients and servers a session has, and which requests go to a worker.
-use Rattle.std.specs.Prelude.{ℕ, ◌-◌, ◌≤◌, ◌<◌, ◌≡◌, Bool, true, false, length, Some, refl}
+use Rattle.std.specs.Prelude.{ℕ, ◌-◌, ◌≤◌, ◌<◌, ◌≡◌, ◌⊎◌, Bool, true, false, length, Some, refl}
 use Rattle.std.proofs.Math.Bridge.{le_prop}
 use Rattle.ufs_joint.specs.Cells.{Start}
 use Rattle.ufs_model.specs.declared.data.Actor.{Actor}
@@ -34,6 +34,10 @@ among_prop workers (actor.Client client) x y = absurd x
 
 abbrev pub IsServerThere : Start → Actor → Type 0
 IsServerThere k who = IsServerAmong (worker_count k) who
+
+-- who may have served a client's request: it itself, or a server that is there
+abbrev pub MayHaveServed : Start → ℕ → Actor → Type 0
+MayHaveServed k client who = (who ≡ actor.Client client) ⊎ IsServerThere k who
 
 -- the seven kinds of request that a client sends to the worker that it believes to have the file
 abbrev pub is_by_hint : Op → Bool

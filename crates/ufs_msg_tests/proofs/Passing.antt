@@ -35,6 +35,7 @@ is_told n s tickets ticket = record {
   seq = refl;
   few = omega arith;
   idle = refl;
+  by = tt;
   desc_is = refl;
   owned = λ d file is of. absurd (none_some is);
   unowned = λ none. refl;

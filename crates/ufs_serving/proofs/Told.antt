@@ -38,6 +38,7 @@ module _ (k : Start) (ask : Ask) (before : View) (asked : IsAsked k ask before) 
     seq = of.seq ∙ asked.seq;
     few = subst (λ (n : ℕ). n < 65536) (sym of.seq) asked.few;
     idle = ap (λ (p : ClientPart). p.asked) answered.is;
+    by = subst (IsServerThere k) (sym of.server) here;
     desc_is = desc_then desc refl some ∙ ap (own_desc after.fds) (sym (on.told entry.reply));
     owned = λ d file _ _. refl;
     unowned = λ none. (let e = on.told entry.reply in absurd cc);

@@ -1,9 +1,10 @@
-use Rattle.std.proofs.Common.{List, [], ◌∷◌, ◌++◌, sym, subst, ap, ◌∙◌}
+use Rattle.std.proofs.Common.{inl, List, [], ◌∷◌, ◌++◌, sym, subst, ap, ◌∙◌}
 use Rattle.ufs_model.specs.declared.data.Actor.{Actor}
 use Rattle.ufs_model.specs.declared.data.Entry.{Entry}
 use Rattle.ufs_caller.specs.Callers.{entries_in}
 use Rattle.ufs_caller.specs.Hands.{IsHome}
 use Rattle.ufs_caller.proofs.Homes.{ask_for, entries_after, entries_many, fds_after, home_after, range_after}
+use Rattle.ufs_caller.proofs.Made.{made_more}
 use Rattle.ufs_caller.proofs.own.answer_itself.Goals as goal
 
 pub draw_own-entry-requires-clause-both : goal.draw_own-entry-requires-clause-both
@@ -21,6 +22,10 @@ returns-clause-home g c =
     (sym (ap entries_in c.push_reserved.ensures.items ∙ entries_after c.args.told.now.items (record { entry = entry; via = c.new.result })))
     (home_after ask (entries_in c.args.told.now.items) c.args.fds.now c.args.hand.now h (c.requires.seq ∙ sym (entries_many c.args.told.now.items)) c.requires.next
     c.args.answer.reply c.args.answer.desc c.requires.posix c.requires.ranged entry c.draw_own-entry.ensures.made c.keep.new.fds c.keep.ensures c.draw_own-entry.new.hand b.0 b.1)
+
+pub returns-clause-made : goal.returns-clause-made
+returns-clause-made g c =
+    made_more g.N.Naming.start c.args.ask.client c.args.told.now.items _ (record { entry = c.draw_own-entry.result; via = c.new.result }) c.push_reserved.ensures.items (inl c.draw_own-entry.ensures.made.by) c.requires.made
 
 pub returns-clause-ranged : goal.returns-clause-ranged
 returns-clause-ranged g c =

@@ -1,4 +1,4 @@
-use Rattle.std.proofs.Common.{◌≡◌, false, ◌∷◌, ◌++◌, Option, Some, None, is_some, refl, sym, subst, ap, ◌∙◌}
+use Rattle.std.proofs.Common.{◌≡◌, ℕ, false, ◌∷◌, ◌++◌, Option, Some, None, is_some, refl, sym, subst, ap, ◌∙◌}
 use Rattle.std.specs.Option.{option_to_list}
 use Rattle.std.specs.Vec.{vec_capacity}
 use Rattle.ufs_client.specs.Own.{is_own}
@@ -7,7 +7,7 @@ use Rattle.ufs_model.specs.Asks.{IsAsk}
 use Rattle.ufs_model.specs.PosixTree.{PosixTree}
 use Rattle.ufs_model.specs.declared.data.Op.{Op}
 use Rattle.ufs_msg.specs.Requests.{Asked}
-use Rattle.ufs_caller.specs.Tied.{IsTied}
+use Rattle.ufs_caller.specs.Tied.{AreMadeThere, IsTied}
 use Rattle.ufs_caller.specs.Turns.{HasKept, Sends}
 use Rattle.ufs_caller.specs.declared.trip.Trip.{Trip}
 use Rattle.ufs_caller.proofs.Beginnings.{answers, bounded, for, has_kept, home, sends, tells_of, tied_ready}
@@ -32,6 +32,9 @@ answer_itself-requires-clause-home g c =
     let seq = e.seq ∙ c.len.ensures ∙ s.told.ok.0 in
     let tells = tells_of ask c.in-Some.op s.fds e.asked e.desc e.fd e.last in
     home k s.number s.told.items s.fds s.left.items left s.hand s.kept s.trip s.hints room tied c.args.self.now c.self.view_is c.requires.idle ask c.in-Some.op e.client seq e.asked next tells
+
+pub answer_itself-requires-clause-made : goal.answer_itself-requires-clause-made
+answer_itself-requires-clause-made g c = subst (λ (n : ℕ). AreMadeThere g.N.Naming.start n c.self.inside.told.items) (sym c.ask-ask.ensures.client) c.self.invariant.0.made
 
 pub returns-in-Some-answer_own-clause-turn : goal.returns-in-Some-answer_own-clause-turn
 returns-in-Some-answer_own-clause-turn g c =

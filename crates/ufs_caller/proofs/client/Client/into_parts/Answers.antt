@@ -2,8 +2,12 @@ use Rattle.std.proofs.Common.{subst}
 use Rattle.std.specs.Vec.{vec_capacity}
 use Rattle.ufs_caller.specs.Callers.{Caller, entries_in}
 use Rattle.ufs_caller.specs.Hands.{IsHome}
+use Rattle.ufs_caller.specs.Tied.{AreMadeThere}
 use Rattle.ufs_caller.proofs.Beginnings.{place_home}
 use Rattle.ufs_caller.proofs.client.Client.into_parts.Goals as goal
+
+pub returns-clause-made : goal.returns-clause-made
+returns-clause-made g c = subst (λ (a : Caller). AreMadeThere g.N.Naming.start a.number a.told) c.self.view_is c.self.invariant.0.made
 
 pub returns-clause-home : goal.returns-clause-home
 returns-clause-home g c =

@@ -25,7 +25,7 @@ invariant_of-self-2 g c =
     let back = c.take_home.ensures was.away.before was.request was.away.alone was.away.asked tied.closed in (
       subst (λ (x : ℕ × Option Trip). IsTied k x.0 c.push_reserved.new.self.items c.keep.new.fds s.left.items c.take_home.new.hand s.kept x.1 c.renew_owner.new.hints (vec_capacity c.push_reserved.new.self)) (λ i. (mine i, sym c.take.ensures.after i))
           (tied_told k entry s.told.items s.fds s.left.items s.hand s.kept s.trip s.hints room tied c.in-Some.trip is c.args.self.now view c.requires.sent r.2 c.take_home.new.hand back c.keep.new.fds c.keep.ensures
-          c.push_reserved.new.self.items c.push_reserved.ensures.items (vec_capacity c.push_reserved.new.self) c.push_reserved.ensures.capacity c.file_told.result r.3 c.renew_owner.new.hints c.into_parts-back.ensures.told.there c.renew_owner.ensures),
+          c.push_reserved.new.self.items c.push_reserved.ensures.items (vec_capacity c.push_reserved.new.self) c.push_reserved.ensures.capacity c.file_told.result r.3 c.renew_owner.new.hints c.into_parts-back.ensures.told.there c.into_parts-back.ensures.told.by c.renew_owner.ensures),
       c.self.invariant.1,
     )
 
@@ -44,5 +44,5 @@ returns-clause-answered g c =
     let back = c.take_home.ensures was.away.before was.request was.away.alone was.away.asked tied.closed in
     subst (λ (x : (ℕ × Option Trip) × answers.Told). IsAnswered x.1 c.args.self.now (seen x.0.0 c.push_reserved.new.self.items c.keep.new.fds s.left.items c.take_home.new.hand s.kept x.0.1 c.renew_owner.new.hints)) (λ i. ((mine i, sym c.take.ensures.after i), c.into_parts-back.ensures.same i))
     (answered k entry s.told.items s.fds s.left.items s.hand s.kept s.trip s.hints room tied c.in-Some.trip is c.args.self.now view c.requires.sent r.2 c.take_home.new.hand back c.keep.new.fds c.keep.ensures
-    c.push_reserved.new.self.items c.push_reserved.ensures.items (vec_capacity c.push_reserved.new.self) c.push_reserved.ensures.capacity c.file_told.result r.3 c.renew_owner.new.hints c.into_parts-back.ensures.told.there c.renew_owner.ensures
+    c.push_reserved.new.self.items c.push_reserved.ensures.items (vec_capacity c.push_reserved.new.self) c.push_reserved.ensures.capacity c.file_told.result r.3 c.renew_owner.new.hints c.into_parts-back.ensures.told.there c.into_parts-back.ensures.told.by c.renew_owner.ensures
     r.4 r.0 c.file_told.ensures)
