@@ -1,5 +1,5 @@
 -- The hands of names, store, files, pools and clients, and the one that is left.
-use Rattle.std.proofs.Common.{◌≡◌, ◌≤◌, ℕ, Bool, true, eqb, [], ◌∷◌, length, map, ap, refl, sym, ◌∙◌, subst, arith}
+use Rattle.std.proofs.Common.{◌≡◌, ◌≤◌, ℕ, Bool, true, eqb, inl, List, [], ◌∷◌, ◌++◌, length, map, ap, refl, sym, ◌∙◌, subst, arith}
 use Rattle.std.specs.Prelude.{IsTrue}
 use Rattle.ufs_bitmap.specs.Blocks.{BlockSet}
 use Rattle.ufs_disk.specs.Moments.{all}
@@ -13,12 +13,12 @@ use Rattle.ufs_model.specs.declared.data.PartName.{PartName}
 use Rattle.ufs_model.specs.declared.data.PartName.TheVariants.{File, Names, Store}
 use Rattle.ufs_noted.specs.Noted.{Noted}
 use Rattle.ufs_hand_laws.specs.Owned.{Has, count, named, only, without}
-use Rattle.ufs_hand_laws.specs.Parts.{is_asked, is_client, is_file, is_names, is_store}
+use Rattle.ufs_hand_laws.specs.Parts.{Cells, is_asked, is_client, is_file, is_names, is_store}
 use Rattle.ufs_hand_laws.proofs.Keys.{alike, itself}
 use Rattle.ufs_hand_laws.proofs.Owning.{count_has, weigh_cut}
 use Rattle.ufs_store.specs.State.{StoreState, geometry_of_store}
 use Rattle.ufs_store_steps.specs.Cells.{cells_of}
-use Rattle.ufs_turns.specs.HeldStore.{HasStoreAlone, IsHeldStore, counted_in, sectors_in}
+use Rattle.ufs_turns.specs.HeldStore.{AreRepeated, HasStoreAlone, IsHeldStore, counted_in, sectors_in, state_in}
 use Rattle.ufs_joint.specs.FirstHand.{HasPoolAlone}
 use Rattle.ufs_dealt.specs.Dealt.{AreApart, rest_of}
 use Rattle.ufs_dealt.proofs.Cutting.{only_absent, only_none, only_this, without_absent, without_none}
@@ -83,6 +83,7 @@ holds_store k visible keeps v s first alone formed sees = record {
     size = sym (ap sectors_in first);
     since = λ _. (let n = counted in omega (arith, n));
     covers = λ _ x has. absurd (subst (Has x) none has);
+    passes = λ _. subst (λ (xs : List Cells). AreRepeated xs (cells_of s.sectors s.moments.state ∷ [])) (λ i. sym (ap state_in first) i ++ sym none i) (inl (refl, tt));
   };
 }
   where

@@ -79,6 +79,7 @@ module _ (names : NamesCell) (right : View) (named : HasNamesAlone names right) 
     size = h.size;
     since = h.since;
     covers = h.covers;
+    passes = h.passes;
   }
 
 -- ---- every cell is there, also once the last turn of the store began

@@ -1,5 +1,5 @@
 -- What is known of a session that has ended.
-use Rattle.std.proofs.Common.{◌≡◌, ◌⊎◌, inl, inr, ℕ, ◌+◌, ◌≤◌, Bool, true, length, List, [], map, take, Option, None, is_some, ap, sym, refl, ◌∙◌, subst, arith}
+use Rattle.std.proofs.Common.{◌≡◌, ◌⊎◌, inl, inr, ℕ, ◌+◌, ◌≤◌, Bool, true, length, List, [], ◌∷◌, ◌++◌, map, take, Option, None, is_some, ap, sym, refl, ◌∙◌, subst, arith}
 use Rattle.std.specs.Prelude.{IsSome, IsTrue, unwrap_or}
 use native.Mathlib.Decide.{dec_le}
 use Rattle.std.specs.Cmp.{nat_cmp_total}
@@ -43,12 +43,13 @@ use Rattle.ufs_joint.specs.Sound.{IsExplainedState}
 use Rattle.ufs_joint.specs.Turns.{begun_at, turn_begun}
 use Rattle.ufs_joint.proofs.Kept.{kept_going}
 use Rattle.ufs_joint.proofs.Takes.{fewer_before, fewer_names_before}
-use Rattle.ufs_turns.specs.HeldStore.{IsPassed, IsStoreIn, begun_in, begun_view, counted_in}
-use Rattle.ufs_gathered.specs.Ended.{AnswerAll, AnswerFirst, AreAllKnown, HasEnded, IsExplainedAtStamps}
+use Rattle.ufs_turns.specs.HeldStore.{IsPassed, IsStoreIn, begun_in, begun_view, counted_in, state_in, states_in}
+use Rattle.ufs_gathered.specs.Ended.{AnswerAll, AnswerFirst, AreAllKnown, AreExplainedAlong, HasEnded, IsExplainedAtStamps}
 use Rattle.ufs_gathered.specs.Gathered.{AreHome, HasAllOf}
 use Rattle.ufs_gathered.proofs.Histories.{each_rises, its_own, none_there, same_history}
 use Rattle.ufs_gathered.proofs.Homes.{here_at, one_of}
 use Rattle.ufs_gathered.proofs.Joined.{in_numbered, numbered_in}
+use Rattle.ufs_gathered.proofs.Throughout.{more_along, once_along, past_along}
 
 live_is : (n : NamesPart) (file : ℕ) → set.contains (live_files n) file ≡ is_some (fin.get n.held file)
 live_is n file = contains-from_list nat_cmp_total (fin.keys n.held) file ∙ sym (contains_key-keys n.held file)
@@ -146,6 +147,16 @@ module _ (k : Start) (visible keeps : Bool) (names : NamesCell) (files : List Fi
           each = λ i low high. e.past p.0 (inr p.1) i low high state p.2;
         }
 
+    throughout : AreExplainedAlong s.sectors whole.start whole.history 0 (state_in k.view.store ++ states_behind (counted_in k.view.store) s) (length whole.history)
+    throughout =
+        let last = cells_of s.sectors s.moments.state in
+        let before : AreExplainedAlong s.sectors whole.start whole.history 0 (states_in home.past ++ last ∷ []) e.upto =
+        past_along s.sectors whole.start whole.history was.past e.upto e.joined (λ x has c of i low high. e.past x has i low high c of) in
+        let each : AreExplainedAlong s.sectors whole.start whole.history 0 (states_in home.past ++ last ∷ []) m =
+        more_along s.sectors whole.start whole.history 0 e.upto m (states_in home.past) last before e.within (λ i low high. e.now i (let a = e.stamped in omega (arith, a, low)) high) in
+        subst (λ (q : ℕ). AreExplainedAlong s.sectors whole.start whole.history 0 (state_in k.view.store ++ states_behind (counted_in k.view.store) s) q) (sym whole.all_drawn)
+        (once_along s.sectors whole.start whole.history 0 m (state_in k.view.store ++ states_behind (counted_in k.view.store) s) (states_in home.past ++ last ∷ []) (home.passes seen) each)
+
     -- the history of which it is known what is committed is the whole one
     same : knows.history ≡ whole.history
     same = same_history whole.start knows.start whole.history knows.history whole.legal.entries knows.around.legal.entries few each
@@ -240,5 +251,6 @@ module _ (k : Start) (visible keeps : Bool) (names : NamesCell) (files : List Fi
     has_files = λ x of. whole.cells.files x.value.file.file x (has_file x of);
     crash = λ seen. crash rest disk_whole seen;
     stamped = λ seen. stamped rest disk_whole seen;
+    throughout = λ seen. throughout rest disk_whole seen;
     last = λ seen going committed. last rest disk_whole seen going committed there is_last held;
   }

@@ -1,5 +1,5 @@
 -- Histories with the same entries, and stretches without a gap.
-use Rattle.std.proofs.Common.{◌≡◌, inl, inr, ⊎_elim, ℕ, ◌+◌, ◌≤◌, Bool, true, false, cond, eqb, eqb-true, length, List, [], ◌∷◌, ap, sym, refl, ◌∙◌, subst, arith}
+use Rattle.std.proofs.Common.{◌≡◌, ◌⊎◌, inl, inr, ⊎_elim, ℕ, ◌+◌, ◌≤◌, Bool, true, false, cond, eqb, eqb-true, length, List, [], ◌∷◌, ap, sym, refl, ◌∙◌, subst, arith}
 use Rattle.ufs_model.specs.History.{IsLegalFrom, entries_of, goes_on}
 use Rattle.ufs_model.specs.PosixTree.{PosixTree}
 use Rattle.ufs_model.specs.declared.data.Entry.{Entry}
@@ -51,5 +51,9 @@ none_there (x ∷ xs) none = absurd (none x (inl refl))
 
 pub each_rises : (past : List Stretch) (upto : ℕ) → AreJoined past upto → (y : Stretch) → Has y past → y.from ≤ y.to
 each_rises [] upto joined y has = absurd has
-each_rises (x ∷ past) upto joined y (inl is) = subst (λ (z : Stretch). z.from ≤ z.to) (sym is) joined.1
-each_rises (x ∷ past) upto joined y (inr has) = each_rises past joined.2.0 joined.2.2 y has
+each_rises (x ∷ past) upto joined y (inl is) = subst (λ (z : Stretch). z.from ≤ z.to) (sym is) joined.0
+each_rises (x ∷ past) upto joined y (inr has) = by joined.1
+  where
+    by : ((x.states ≡ []) × AreJoined past upto) ⊎ ((1 ≤ length x.states) × (x.to ≡ upto) × ((z : ℕ) × (x.from ≤ z) × (z ≤ upto) × AreJoined past z)) → y.from ≤ y.to
+    by (inl h) = each_rises past upto h.1 y has
+    by (inr h) = each_rises past h.2.0 h.2.3 y has

@@ -1,6 +1,7 @@
 pub mod Joined
 mod Homes
 mod Histories
+mod Throughout
 mod AllThere
 mod AtEnd
 pub mod Cleaned

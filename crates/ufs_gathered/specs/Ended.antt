@@ -1,5 +1,5 @@
 -- What is known of a session on hands that has ended.
-use Rattle.std.specs.Prelude.{ℕ, ◌≡◌, ◌≤◌, ◌<◌, ◌-◌, ◌^◌, ◌⊎◌, true, List, length, map, take, Some, None}
+use Rattle.std.specs.Prelude.{ℕ, ◌≡◌, ◌≤◌, ◌<◌, ◌-◌, ◌^◌, ◌⊎◌, ◌++◌, true, List, [], ◌∷◌, length, map, take, Some, None}
 use Rattle.ufs_client.specs.Played.{IsMerged, transcript}
 use Rattle.ufs_disk.specs.Disk.{Leaves}
 use Rattle.ufs_promise_laws.specs.Last.{StandsForTree}
@@ -25,7 +25,7 @@ use Rattle.ufs_joint.specs.Picks.{Pick}
 use Rattle.ufs_joint.specs.Servers.{AreServedSo}
 use Rattle.ufs_joint.specs.Sound.{IsExplainedState, MayHaveBegun}
 use Rattle.ufs_joint.specs.Whole.{HasFileCell, HasNamesCell}
-use Rattle.ufs_turns.specs.HeldStore.{counted_in, sectors_in}
+use Rattle.ufs_turns.specs.HeldStore.{counted_in, sectors_in, state_in}
 
 -- ---- scripts
 
@@ -52,6 +52,13 @@ pub record IsExplainedAtStamps (sectors : ℕ) (start : PosixTree) (history : Li
   pub to : ℕ
   pub rises : from ≤ to
   pub each : (i : ℕ) → from ≤ i → i ≤ to → IsExplainedState sectors start (take i history) state
+
+-- The states, in the order of time: whatever a crash leaves of each is explained by the first entries, for each number of them from the
+-- one up to which the state before it was explained so to another, and is proper.
+abbrev pub AreExplainedAlong : ℕ → PosixTree → List Entry → ℕ → List Cells → ℕ → Type 0
+AreExplainedAlong sectors start history from [] to = from ≡ to
+AreExplainedAlong sectors start history from (state ∷ states) to =
+    (upto : ℕ) × (from ≤ upto) × ((i : ℕ) → from ≤ i → i ≤ upto → IsExplainedState sectors start (take i history) state) × AreExplainedAlong sectors start history upto states to
 
 -- All that changed of names and files is known as committed, and so is the birth of each live file.
 pub record AreAllKnown (names : NamesCell) (files : List FileCell) : Type 0 where
@@ -92,5 +99,7 @@ pub record HasEnded (k : Start) (tickets : ℕ) (lists : List (List Entry)) (nam
   pub crash : k.is_visible ≡ true → Leaves (IsExplainedImage s.sectors start history) s.moments.state
   -- so it is with each state that the disk was in since the session began, by the first entries;
   pub stamped : k.is_visible ≡ true → (state : Cells) → Has state (states_behind (counted_in k.view.store) s) → IsExplainedAtStamps s.sectors start history state
+  -- they are so in the order of time, from the state at the beginning on, and by all entries at the end;
+  pub throughout : k.is_visible ≡ true → AreExplainedAlong s.sectors start history 0 (state_in k.view.store ++ states_behind (counted_in k.view.store) s) (length history)
   -- and once everything is committed, and the store goes on, it stands for the last tree.
   pub last : k.is_visible ≡ true → s.stop ≡ None → AreAllKnown names files → Leaves (StandsForTree s.sectors (tree_after start history)) s.moments.state

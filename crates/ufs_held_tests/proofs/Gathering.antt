@@ -90,7 +90,7 @@ module _ (n : NamesPart) (s : StoreState) (r : ℕ) where
   home visible keeps formed = record {
     cell = cell_of 0 [] s;
     alone = record { clients = refl; asked = refl; files = refl; pools = refl; names = refl; store = refl };
-    store = record { stamp = 0; past = []; has = refl; sees = λ seen. absurd (blind seen); formed = formed; size = refl; since = λ seen. absurd (blind seen); covers = λ seen. absurd (blind seen) };
+    store = record { stamp = 0; past = []; has = refl; sees = λ seen. absurd (blind seen); formed = formed; size = refl; since = λ seen. absurd (blind seen); covers = λ seen. absurd (blind seen); passes = λ seen. absurd (blind seen) };
   }
 
   pub names_there : (x : Noted) → x ≡ record { names = n; fresh = []; dropped = set.empty } → HoldsNames x (given_of Names without_store)

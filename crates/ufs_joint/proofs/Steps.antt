@@ -339,7 +339,7 @@ module _ (k : Start) (word : Word) (views : List View) (i : ℕ) (v : View) (s :
       since = λ j from low. subst (λ (q : List Entry). IsKeptSince k.geometry k.tree q then o.free) (sym (same_whole j from)) latest;
       past = record {
         upto = n;
-        joined = (refl, (let a = low_stamp in let b = ap (λ (q : StoreCell). q.stamp) it_is in omega (arith, a, b)), (d.past.upto, (let a = d.past.stamped in let b = ap (λ (q : StoreCell). q.stamp) it_is in omega (arith, a, b)), subst (λ (q : StoreCell). AreJoined q.past d.past.upto) it_is d.past.joined));
+        joined = ((let a = low_stamp in let b = ap (λ (q : StoreCell). q.stamp) it_is in omega (arith, a, b)), inr (omega arith, refl, (d.past.upto, (let a = d.past.stamped in let b = ap (λ (q : StoreCell). q.stamp) it_is in omega (arith, a, b)), (let b = d.past.within in omega (arith, b)), subst (λ (q : StoreCell). AreJoined q.past d.past.upto) it_is d.past.joined)));
         stamped = omega arith;
         within = omega arith;
         each = each_of;

@@ -426,14 +426,33 @@ module _ (k : Start) (word : Word) (views : List View) (i : ℕ) (v : View) (t :
 
     past_after : ArePastExplained k.tree word h (ended_at n t)
     past_after = record {
-      upto = n;
-      joined = (refl, (let a = same_stamp in let b = stamped in omega (arith, a, b)), (d.past.upto, (let a = same_stamp in let b = d.past.stamped in omega (arith, a, b)), subst (λ (p : List Stretch). AreJoined p d.past.upto) (sym same_past) d.past.joined));
-      stamped = let a = same_stamp in let b = stamped in omega (arith, a, b);
-      within = omega arith;
+      upto = upto_then t.passed;
+      joined = ((let a = same_stamp in let b = stamped in omega (arith, a, b)), joined_then t.passed refl);
+      stamped = stamped_then t.passed;
+      within = within_then t.passed;
       each = λ x has j from low cells there. each_of x has j from low cells there;
       ended = λ x has. ⊎_elim (λ (e : x ≡ went n t). let a = ap (λ (y : Stretch). y.to) e in omega (arith, a)) (λ y. d.past.ended x (subst (Has x) same_past y)) has;
     }
       where
+        upto_then : List Cells → ℕ
+        upto_then [] = d.past.upto
+        upto_then (x ∷ xs) = n
+
+        past_then : AreJoined t.store.past d.past.upto
+        past_then = subst (λ (p : List Stretch). AreJoined p d.past.upto) (sym same_past) d.past.joined
+
+        joined_then : (xs : List Cells) → t.passed ≡ xs → ((t.passed ≡ []) × AreJoined t.store.past (upto_then xs)) ⊎ ((1 ≤ length t.passed) × (n ≡ upto_then xs) × ((y : ℕ) × (t.store.stamp ≤ y) × (y ≤ upto_then xs) × AreJoined t.store.past y))
+        joined_then [] e = inl (e, past_then)
+        joined_then (x ∷ xs) e = inr ((let l = ap (length {A = Cells}) e in omega (arith, l)), refl, (d.past.upto, (let a = same_stamp in let b = d.past.stamped in omega (arith, a, b)), (let b = d.past.within in omega (arith, b)), past_then))
+
+        stamped_then : (xs : List Cells) → t.store.stamp ≤ upto_then xs
+        stamped_then [] = let a = same_stamp in let b = d.past.stamped in omega (arith, a, b)
+        stamped_then (x ∷ xs) = let a = same_stamp in let b = stamped in omega (arith, a, b)
+
+        within_then : (xs : List Cells) → upto_then xs ≤ n
+        within_then [] = d.past.within
+        within_then (x ∷ xs) = omega arith
+
         each_of : (x : Stretch) → (x ≡ went n t) ⊎ Has x t.store.past → (j : ℕ) → x.from ≤ j → j ≤ x.to → (cells : Cells) → Has cells x.states → IsExplainedState t.store.sectors k.tree (take j h) cells
         each_of x (inl e) j from low cells there =
             let a = ap (λ (y : Stretch). y.from) e in let b = ap (λ (y : Stretch). y.to) e in let c = same_stamp in

@@ -111,10 +111,11 @@ IsExplainedWithin sectors start history image = (whole : Image) × ((sector : �
 abbrev pub IsExplainedState : ℕ → PosixTree → List Entry → Cells → Type 0
 IsExplainedState sectors start history cells = Leaves (IsExplainedWithin sectors start history) (state_of cells)
 
--- The stretches leave no gap from the beginning up to so many tickets: each begins where the one before it ends, or earlier.
+-- The stretches leave no gap from the beginning up to so many tickets, but for those in which the disk passed no state: each begins where
+-- the one before it ends, or earlier, and ends no earlier.
 abbrev pub AreJoined : List Stretch → ℕ → Type 0
 AreJoined [] upto = upto ≡ 0
-AreJoined (x ∷ past) upto = (x.to ≡ upto) × (x.from ≤ x.to) × ((y : ℕ) × (x.from ≤ y) × AreJoined past y)
+AreJoined (x ∷ past) upto = (x.from ≤ x.to) × (((x.states ≡ []) × AreJoined past upto) ⊎ ((1 ≤ length x.states) × (x.to ≡ upto) × ((y : ℕ) × (x.from ≤ y) × (y ≤ upto) × AreJoined past y)))
 
 -- Each state of a stretch is explained by the first entries, for each number of them between its ends.
 pub record ArePastExplained (start : PosixTree) (word : Word) (history : List Entry) (s : StoreCell) : Type 0 where

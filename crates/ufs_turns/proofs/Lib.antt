@@ -1,4 +1,5 @@
 pub mod Hands
+pub mod Repeated
 pub mod Turning
 pub mod Syncing
 pub mod Emptying

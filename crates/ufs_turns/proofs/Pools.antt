@@ -136,6 +136,7 @@ module _ (k : Start) (visible keeps : Bool) (m : ℕ) (v w z : View) (s t : Stor
     size = home.size;
     since = home.since;
     covers = home.covers;
+    passes = home.passes;
   })
 
   pub beside_then : v.seen ≤ m → IsBesidePools v z

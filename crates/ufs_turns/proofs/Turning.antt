@@ -3,7 +3,7 @@ use Rattle.std.proofs.Common.{◌≡◌, zero, suc, ◌+◌, ◌-◌, ◌^◌, �
 use Rattle.std.specs.Prelude.{Err, IsTrue, Result, drop}
 use native.Mathlib.Decide.{dec_le}
 use Rattle.std.proofs.lemmas.Bool.{leb-false}
-use Rattle.std.proofs.lemmas.List.{length-append, map-append}
+use Rattle.std.proofs.lemmas.List.{append_assoc, length-append, map-append}
 use Rattle.ufs_disk.specs.Disk.{IsWhole}
 use Rattle.ufs_disk.specs.Moments.{all}
 use Rattle.ufs_model.specs.declared.data.Entry.{Entry}
@@ -24,8 +24,9 @@ use Rattle.ufs_promise_laws.specs.Known.{Known}
 use Rattle.ufs_joint.specs.Known.{Knows}
 use Rattle.ufs_joint.specs.Turns.{AreFaultsTold, begun_at, rested, turn_begun}
 use Rattle.ufs_joint.proofs.Disks.{drop_behind, store_as_cell}
-use Rattle.ufs_turns.specs.HeldStore.{IsPassed, IsStoreIn, begun_in, begun_view, counted_in}
+use Rattle.ufs_turns.specs.HeldStore.{AreRepeated, IsPassed, IsStoreIn, begun_in, begun_view, counted_in, state_in, states_in}
 use Rattle.ufs_turns.specs.Told.{fault_told, told_list}
+use Rattle.ufs_turns.proofs.Repeated.{ends_mapped, ends_so, goes_on_so}
 
 drop_within : {A : Type 0} (n : ℕ) (xs ys : List A) → n ≤ length xs → drop n (xs ++ ys) ≡ drop n xs ++ ys
 drop_within zero xs ys low = refl
@@ -186,21 +187,34 @@ module _ (k : Start) (visible keeps : Bool) (n : ℕ) (v w : View) (s t : StoreS
     size = sectors ∙ home.size;
     since = λ seen. (let a = home.since seen in let b = ap length (on seen).1 in let d = length-append (all s.moments) (on seen).0 in omega (arith, a, b, d));
     covers = covers;
+    passes = passes;
   }
     where
+      parts : (seen : k.is_visible ≡ true) → states_behind first t ≡ map (cells_of s.sectors) (drop first (all s.moments)) ++ map (cells_of s.sectors) (on seen).0
+      parts seen =
+          (λ i. map (cells_of (sectors i)) (drop first ((on seen).1 i))) ∙ ap (map (cells_of s.sectors)) (drop_within first (all s.moments) (on seen).0 (home.since seen))
+          ∙ map-append (cells_of s.sectors) (drop first (all s.moments)) (on seen).0
+
+      ran_has : (seen : k.is_visible ≡ true) → map (cells_of s.sectors) (on seen).0 ≡ states_behind (length (all s.moments)) t
+      ran_has seen = sym ((λ i. map (cells_of (sectors i)) (drop (length (all s.moments)) ((on seen).1 i))) ∙ ap (map (cells_of s.sectors)) (drop_behind (all s.moments) (on seen).0))
+
+      passes : k.is_visible ≡ true → AreRepeated (state_in k.view.store ++ states_behind (counted_in k.view.store) t) (states_in (ran m ∷ past) ++ cells_of t.sectors t.moments.state ∷ [])
+      passes seen =
+          let new = map (cells_of s.sectors) (on seen).0 in
+          let ends = ends_mapped (cells_of s.sectors) (on seen).0 s.moments.state t.moments.state (ends_so s.moments.earlier t.moments.earlier (on seen).0 s.moments.state t.moments.state (on seen).1) in
+          let its : AreRepeated ((state_in k.view.store ++ states_behind first s) ++ new) (((states_in home.past ++ cells_of s.sectors s.moments.state ∷ []) ++ new) ++ cells_of s.sectors t.moments.state ∷ []) =
+          goes_on_so (state_in k.view.store ++ states_behind first s) (states_in home.past) new (cells_of s.sectors s.moments.state) (cells_of s.sectors t.moments.state) (home.passes seen) ends in
+          let ran_so : ((states_in home.past ++ cells_of s.sectors s.moments.state ∷ []) ++ new) ++ cells_of s.sectors t.moments.state ∷ [] ≡ states_in (ran m ∷ past) ++ cells_of t.sectors t.moments.state ∷ [] =
+          λ i. ((states_in home.past ++ cells_of s.sectors s.moments.state ∷ []) ++ ran_has seen i) ++ cells_of (sym sectors i) t.moments.state ∷ [] in
+          let parts_so : (state_in k.view.store ++ states_behind first s) ++ new ≡ state_in k.view.store ++ states_behind first t =
+          append_assoc (state_in k.view.store) (states_behind first s) new ∙ ap (λ (q : List Cells). state_in k.view.store ++ q) (sym (parts seen)) in
+          subst (λ (x : List Cells × List Cells). AreRepeated x.0 x.1) (λ i. (parts_so i, ran_so i)) its
+
       covers : k.is_visible ≡ true → (x : Cells) → Has x (states_behind (counted_in k.view.store) t) → (x ≡ cells_of t.sectors t.moments.state) ⊎ IsPassed x (ran m ∷ past)
-      covers seen x has = inr (⊎_elim old_ones new_ones (has_append x (map (cells_of s.sectors) (drop first (all s.moments))) (map (cells_of s.sectors) (on seen).0) (subst (Has x) parts has)))
+      covers seen x has = inr (⊎_elim old_ones new_ones (has_append x (map (cells_of s.sectors) (drop first (all s.moments))) (map (cells_of s.sectors) (on seen).0) (subst (Has x) (parts seen) has)))
         where
-          parts : states_behind first t ≡ map (cells_of s.sectors) (drop first (all s.moments)) ++ map (cells_of s.sectors) (on seen).0
-          parts =
-              (λ i. map (cells_of (sectors i)) (drop first ((on seen).1 i))) ∙ ap (map (cells_of s.sectors)) (drop_within first (all s.moments) (on seen).0 (home.since seen))
-              ∙ map-append (cells_of s.sectors) (drop first (all s.moments)) (on seen).0
-
-          ran_has : map (cells_of s.sectors) (on seen).0 ≡ states_behind (length (all s.moments)) t
-          ran_has = sym ((λ i. map (cells_of (sectors i)) (drop (length (all s.moments)) ((on seen).1 i))) ∙ ap (map (cells_of s.sectors)) (drop_behind (all s.moments) (on seen).0))
-
           new_ones : Has x (map (cells_of s.sectors) (on seen).0) → IsPassed x (ran m ∷ past)
-          new_ones h = (ran m, inl refl, subst (Has x) ran_has h)
+          new_ones h = (ran m, inl refl, subst (Has x) (ran_has seen) h)
 
           old_of : (x ≡ cells_of s.sectors s.moments.state) ⊎ IsPassed x home.past → IsPassed x (ran m ∷ past)
           old_of (inl is) = (rested n (cell_of home.stamp home.past s), inr (inl refl), inl is)

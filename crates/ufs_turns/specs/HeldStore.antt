@@ -1,5 +1,5 @@
 -- What lies under the lock: the store, and the hand of the store's cell, which goes with it.
-use Rattle.std.specs.Prelude.{ℕ, ◌≡◌, ◌≤◌, ◌⊎◌, Bool, IsTrue, true, cond, List, [], ◌∷◌, length, Option}
+use Rattle.std.specs.Prelude.{ℕ, ◌≡◌, ◌≤◌, ◌⊎◌, ◌++◌, Bool, IsTrue, true, cond, List, [], ◌∷◌, length, Option}
 use Rattle.ufs_bitmap.specs.Blocks.{BlockSet}
 use Rattle.ufs_disk.specs.Moments.{all}
 use Rattle.ufs_file_commits.specs.State.{DurableState}
@@ -47,8 +47,26 @@ sectors_in (c ∷ cs) = c.1.sectors
 abbrev pub IsPassed : Cells → List Stretch → Type 0
 IsPassed x past = (y : Stretch) × Has y past × Has x y.states
 
+-- The second list is the first, with each of it once or more.
+abbrev pub AreRepeated : {A : Type 0} → List A → List A → Type 0
+AreRepeated [] [] = Unit {0}
+AreRepeated [] (y ∷ ys) = ⊥
+AreRepeated (x ∷ xs) [] = ⊥
+AreRepeated (x ∷ xs) (y ∷ ys) = ((x ≡ y) × AreRepeated xs ys) ⊎ ((x ≡ y) × AreRepeated (x ∷ xs) ys)
+
+-- the state of a store's disk
+abbrev pub state_in : List (Unit {0} × StoreCell) → List Cells
+state_in [] = []
+state_in (c ∷ cs) = c.1.state ∷ []
+
+-- the states of stretches, the oldest first
+abbrev pub states_in : List Stretch → List Cells
+states_in [] = []
+states_in (y ∷ past) = states_in past ++ y.states
+
 -- The store's cell, which the hand has, is this store. Of a visible disk contracts see each moment, and the stretches have each state
--- that it was in since the session began, but for the one that it is in.
+-- that it was in since the session began, but for the one that it is in, in the order of time: one stands more than once where turns
+-- began in it.
 pub record IsStoreIn (k : Start) (visible keeps : Bool) (v : View) (s : StoreState) : Type 0 where
   pub stamp : ℕ
   pub past : List Stretch
@@ -58,6 +76,7 @@ pub record IsStoreIn (k : Start) (visible keeps : Bool) (v : View) (s : StoreSta
   pub size : s.sectors ≡ sectors_in k.view.store
   pub since : k.is_visible ≡ true → counted_in k.view.store ≤ length (all s.moments)
   pub covers : k.is_visible ≡ true → (x : Cells) → Has x (states_behind (counted_in k.view.store) s) → (x ≡ cells_of s.sectors s.moments.state) ⊎ IsPassed x past
+  pub passes : k.is_visible ≡ true → AreRepeated (state_in k.view.store ++ states_behind (counted_in k.view.store) s) (states_in past ++ cells_of s.sectors s.moments.state ∷ [])
 
 -- What is known each time that the lock is taken: the hand has the store's cell alone.
 pub record IsHeldStore (k : Start) (visible keeps : Bool) (v : View) (s : StoreState) : Type 0 where

@@ -29,7 +29,7 @@ module _ (n : NamesPart) (s : StoreState) where
   held visible keeps formed = record {
     cell = cell_of 0 [] s;
     alone = record { clients = refl; asked = refl; files = refl; pools = refl; names = refl; store = refl };
-    store = record { stamp = 0; past = []; has = refl; sees = λ seen. absurd (blind seen); formed = formed; size = refl; since = λ seen. absurd (blind seen); covers = λ seen. absurd (blind seen) };
+    store = record { stamp = 0; past = []; has = refl; sees = λ seen. absurd (blind seen); formed = formed; size = refl; since = λ seen. absurd (blind seen); covers = λ seen. absurd (blind seen); passes = λ seen. absurd (blind seen) };
   }
 
   pub lends : LendsPool 0 set.empty (given_of (File 0) (kept_of Store (small_view n s)))
