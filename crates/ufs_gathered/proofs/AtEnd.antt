@@ -1,5 +1,5 @@
 -- What is known of a session that has ended.
-use Rattle.std.proofs.Common.{◌≡◌, ◌⊎◌, inl, inr, ℕ, ◌+◌, ◌≤◌, Bool, true, length, List, [], ◌∷◌, ◌++◌, map, take, Option, None, is_some, ap, sym, refl, ◌∙◌, subst, arith}
+use Rattle.std.proofs.Common.{◌≡◌, ◌⊎◌, inl, inr, ℕ, ◌+◌, ◌≤◌, Bool, true, eqb, length, List, [], ◌∷◌, ◌++◌, map, take, Option, None, is_some, ap, sym, refl, ◌∙◌, subst, arith}
 use Rattle.std.specs.Prelude.{IsSome, IsTrue, unwrap_or}
 use native.Mathlib.Decide.{dec_le}
 use Rattle.std.specs.Cmp.{nat_cmp_total}
@@ -23,7 +23,7 @@ use Rattle.ufs_names.specs.NamesPart.{NamesPart}
 use Rattle.ufs_promise_laws.specs.FileRequests.{with_free}
 use Rattle.ufs_crash_laws.specs.Changes.{changes_of, name_changes}
 use Rattle.ufs_hand_laws.specs.DiskBytes.{state_of}
-use Rattle.ufs_hand_laws.specs.Owned.{Has}
+use Rattle.ufs_hand_laws.specs.Owned.{Has, count}
 use Rattle.ufs_hand_laws.specs.Parts.{Cells}
 use Rattle.ufs_hand_laws.proofs.Ending.{mine_has}
 use Rattle.ufs_store.specs.State.{StoreState}
@@ -110,6 +110,14 @@ module _ (k : Start) (visible keeps : Bool) (names : NamesCell) (files : List Fi
 
   complete : (scripts : List (List Op)) → AnswerAll scripts lists → IsComplete scripts whole.history
   complete scripts each client = ap (λ (es : List Entry). length es) (entries_are client) ∙ each client
+
+  -- ---- files
+
+  all_files : (file : ℕ) → IsSome (fin.get whole.parts.files file) → (x : FileCell) × Has x files × (x.value.file.file ≡ file)
+  all_files file here =
+      let x = whole.files file here in
+      let y = numbered_in files file x.0 (subst (Has (file, x.0)) all.files_are x.1) in
+      (x.0, y.1, sym y.0)
 
   -- ---- the disk
 
@@ -249,6 +257,8 @@ module _ (k : Start) (visible keeps : Bool) (names : NamesCell) (files : List Fi
     are = whole.are;
     has_names = whole.cells.names tt names has_names;
     has_files = λ x of. whole.cells.files x.value.file.file x (has_file x of);
+    all_files = all_files;
+    once = λ file. subst (λ (cs : List (ℕ × FileCell)). count eqb file cs ≤ 1) all.files_are (whole.once file);
     crash = λ seen. crash rest disk_whole seen;
     stamped = λ seen. stamped rest disk_whole seen;
     throughout = λ seen. throughout rest disk_whole seen;

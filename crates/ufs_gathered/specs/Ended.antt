@@ -1,5 +1,6 @@
 -- What is known of a session on hands that has ended.
-use Rattle.std.specs.Prelude.{ℕ, ◌≡◌, ◌≤◌, ◌<◌, ◌-◌, ◌^◌, ◌⊎◌, ◌++◌, true, List, [], ◌∷◌, length, map, take, Some, None}
+use Rattle.std.specs.Prelude.{ℕ, ◌≡◌, ◌≤◌, ◌<◌, ◌-◌, ◌^◌, ◌⊎◌, ◌++◌, eqb, true, List, [], ◌∷◌, length, map, take, Some, None, IsSome}
+use Rattle.std.specs.FinMap as fin
 use Rattle.ufs_client.specs.Played.{IsMerged, transcript}
 use Rattle.ufs_disk.specs.Disk.{Leaves}
 use Rattle.ufs_promise_laws.specs.Last.{StandsForTree}
@@ -11,9 +12,10 @@ use Rattle.ufs_model.specs.declared.data.Op.{Op}
 use Rattle.ufs_model.specs.declared.data.Reply.TheVariants as reply
 use Rattle.ufs_crash_laws.specs.Changes.{asks_commit}
 use Rattle.ufs_hand_laws.specs.FaultsOnce.{told}
-use Rattle.ufs_hand_laws.specs.Owned.{Has}
+use Rattle.ufs_hand_laws.specs.Owned.{Has, count}
 use Rattle.ufs_hand_laws.specs.Parts.{Cells}
 use Rattle.ufs_store.specs.State.{StoreState}
+use Rattle.ufs_held.specs.Together.{under_numbers}
 use Rattle.ufs_promise_laws.specs.OnDisk.{IsExplainedImage}
 use Rattle.ufs_promise_laws.specs.Parts.{Parts}
 use Rattle.ufs_promise_laws.specs.Stored.{ArePartsOf}
@@ -95,6 +97,8 @@ pub record HasEnded (k : Start) (tickets : ℕ) (lists : List (List Entry)) (nam
   pub are : ArePartsOf parts (tree_after start history)
   pub has_names : HasNamesCell parts names
   pub has_files : (c : FileCell) → Has c files → HasFileCell parts c.value.file.file c
+  pub all_files : (file : ℕ) → IsSome (fin.get parts.files file) → (c : FileCell) × Has c files × (c.value.file.file ≡ file)
+  pub once : (file : ℕ) → count eqb file (under_numbers files) ≤ 1
   -- over a visible disk: what a crash leaves now is explained by the whole history, and proper;
   pub crash : k.is_visible ≡ true → Leaves (IsExplainedImage s.sectors start history) s.moments.state
   -- so it is with each state that the disk was in since the session began, by the first entries;

@@ -23,7 +23,7 @@ use Rattle.ufs_hand_laws.specs.Parts.{AskedPart, ClientPart, only_one}
 use Rattle.ufs_hand_laws.specs.Whole.{idle_asked, idle_client}
 use Rattle.ufs_hand_laws.proofs.Ending.{has_mine, mine_has}
 use Rattle.ufs_hand_laws.proofs.Keys.{alike, itself}
-use Rattle.ufs_hand_laws.proofs.Owning.{find_has, has_count, has_find, none_some, present_find, same_some}
+use Rattle.ufs_hand_laws.proofs.Owning.{find_has, has_count, has_find, none_some, once_in, present_find, same_some}
 use Rattle.ufs_promise_laws.specs.AlwaysLaws.{RestIsExplained}
 use Rattle.ufs_promise_laws.specs.OnDisk.{IsOnDisk}
 use Rattle.ufs_promise_laws.specs.Parts.{durable_in}
@@ -144,6 +144,7 @@ module _ (k : Start) (word : Word) (views : List View) (i : ℕ) (v : View) (res
     parts = o.parts;
     cells = cells_there views i v at o.world o.one_hand o.parts o.parts_in;
     files = files;
+    once = once_in eqb itself alike (λ (u : View). u.files) o.world.file views i v at o.one_hand.files;
     are = (o.leads o.begun o.may_begin).parts;
     free = o.free;
     freed = freed;

@@ -120,6 +120,7 @@ pub record IsWhole (k : Start) (word : Word) (v : View) (store : StoreCell) : Ty
   pub parts : Parts
   pub cells : HasCells v parts
   pub files : (file : ℕ) → IsSome (fin.get parts.files file) → (c : FileCell) × Has (file, c) v.files
+  pub once : (file : ℕ) → count eqb file v.files ≤ 1
   pub are : ArePartsOf parts (tree_after start history)
   pub free : BlockSet
   pub freed : (block : ℕ) → set.contains free block ≡ true → (set.contains store.unassigned.free block ≡ true) ⊎ (set.contains (pooled v.pools) block ≡ true)
