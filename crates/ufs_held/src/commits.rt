@@ -5,7 +5,7 @@ ghost use Rattle.ufs_bitmap.specs.Taking.{set_of};
 ghost use Rattle.ufs_file_commits.specs.State.{file_committed, state_of};
 ghost use Rattle.ufs_store.specs.Refusals.{fault_in, is_no_space};
 ghost use Rattle.ufs_store.specs.declared.fault.StoreFault.TheVariants as refusal;
-ghost use Rattle.ufs_turns.specs.Lent.{AreTold, StopsByFault, TellsStop, TellsWhere};
+ghost use Rattle.ufs_turns.specs.Lent.{AreTold, Runs, StopsByFault, TellsStop, TellsWhere};
 ghost use Rattle.ufs_turns.specs.Told.{fault_told, told_list};
 ghost use Rattle.ufs_held.specs.Committed.{HasSameCells};
 ghost use Rattle.ufs_held.specs.Held.{IsHeld, first_cell};
@@ -44,6 +44,7 @@ pub(crate) fn commit_lent<N: Naming, T: Turns<N>>(
     ensures unfreed { OnErr result (AreTold (T.tells door.old) (T.tells door.new) (λ had has. has ≡ had)) }
     ensures telling { is_some (T.tells door.new) ≡ is_some (T.tells door.old) }
     ensures halts { StopsByFault (T.tells door.old) (T.tells door.new) (fault_in result) }
+    ensures ran { Runs (T.tells door.old) (T.tells door.new) (fault_in result) 1 1 }
     ensures halted { TellsStop (T.tells door.old) result }
     ensures stopped { TellsWhere (T.tells door.new) result }
     ensures refused { IfErr result (λ fault. is_no_space fault ≡ false) }
@@ -75,6 +76,7 @@ fn commit_own<N: Naming, T: Turns<N>>(
     ensures unfreed { OnErr result (AreTold (T.tells door.old) (T.tells door.new) (λ had has. has ≡ had)) }
     ensures telling { is_some (T.tells door.new) ≡ is_some (T.tells door.old) }
     ensures halts { StopsByFault (T.tells door.old) (T.tells door.new) (fault_in result) }
+    ensures ran { Runs (T.tells door.old) (T.tells door.new) (fault_in result) 1 1 }
     ensures halted { TellsStop (T.tells door.old) result }
     ensures stopped { TellsWhere (T.tells door.new) result }
     ensures refused { IfErr result (λ fault. is_no_space fault ≡ false) }

@@ -24,7 +24,7 @@ ghost use Rattle.ufs_joint.specs.Rule.{MayDrawAny};
 ghost use Rattle.ufs_joint.specs.Servers.{IsServer};
 ghost use Rattle.ufs_store.specs.Refusals.{fault_in, is_no_space};
 ghost use Rattle.ufs_store.specs.declared.fault.StoreFault.TheVariants as refusal;
-ghost use Rattle.ufs_turns.specs.Lent.{AreTold, StopsByFault, TellsStop, TellsWhere};
+ghost use Rattle.ufs_turns.specs.Lent.{AreTold, Runs, StopsByFault, TellsStop, TellsWhere};
 ghost use Rattle.ufs_turns.specs.Told.{fault_told, told_list};
 ghost use Rattle.ufs_held.specs.Asking.{Asks, IsAnswered, IsGuest, IsSyncReply};
 ghost use Rattle.ufs_held.specs.Births.{HasStill};
@@ -282,6 +282,7 @@ impl<N: Naming> HeldFile<N> {
         ensures unfreed { OnErr result (AreTold (T.tells door.old) (T.tells door.new) (λ had has. has ≡ had)) }
         ensures telling { is_some (T.tells door.new) ≡ is_some (T.tells door.old) }
         ensures halts { StopsByFault (T.tells door.old) (T.tells door.new) (fault_in result) }
+        ensures ran { Runs (T.tells door.old) (T.tells door.new) (fault_in result) 1 1 }
         ensures halted { TellsStop (T.tells door.old) result }
         ensures stopped { TellsWhere (T.tells door.new) result }
         ensures refused { IfErr result (λ fault. is_no_space fault ≡ false) }

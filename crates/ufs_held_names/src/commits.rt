@@ -6,7 +6,7 @@ ghost use Rattle.ufs_joint.specs.NamesTurns.{live_files};
 ghost use Rattle.ufs_layout.specs.Areas.{IsGeometry};
 ghost use Rattle.ufs_store.specs.Refusals.{fault_in, is_no_space};
 ghost use Rattle.ufs_store.specs.declared.fault.StoreFault.TheVariants as refusal;
-ghost use Rattle.ufs_turns.specs.Lent.{AreTold, IsBare, IsBeside, StopsByFault, TellsStop, TellsWhere};
+ghost use Rattle.ufs_turns.specs.Lent.{AreTold, IsBare, IsBeside, Runs, StopsByFault, TellsStop, TellsWhere};
 ghost use Rattle.ufs_turns.specs.Told.{fault_told, told_list};
 ghost use Rattle.ufs_held_names.specs.Births.{KnowsBirths};
 ghost use Rattle.ufs_held_names.specs.HeldNames.{AreCommitted, HoldsNames, first_names};
@@ -47,6 +47,7 @@ pub(crate) fn commit_lent<N: Naming, T: Turns<N>>(
     ensures free { AreTold (T.tells door.old) (T.tells door.new) (λ had has. has ≡ had) }
     ensures telling { is_some (T.tells door.new) ≡ is_some (T.tells door.old) }
     ensures halts { StopsByFault (T.tells door.old) (T.tells door.new) (fault_in result) }
+    ensures ran { Runs (T.tells door.old) (T.tells door.new) (fault_in result) 1 1 }
     ensures halted { TellsStop (T.tells door.old) result }
     ensures stopped { TellsWhere (T.tells door.new) result }
     ensures refused { IfErr result (λ fault. is_no_space fault ≡ false) }
@@ -91,6 +92,7 @@ fn commit_told<N: Naming, T: Turns<N>>(
     ensures free { AreTold (T.tells door.old) (T.tells door.new) (λ had has. has ≡ had) }
     ensures telling { is_some (T.tells door.new) ≡ is_some (T.tells door.old) }
     ensures halts { StopsByFault (T.tells door.old) (T.tells door.new) (fault_in result) }
+    ensures ran { Runs (T.tells door.old) (T.tells door.new) (fault_in result) 1 1 }
     ensures halted { TellsStop (T.tells door.old) result }
     ensures stopped { TellsWhere (T.tells door.new) result }
     ensures refused { IfErr result (λ fault. is_no_space fault ≡ false) }

@@ -21,7 +21,7 @@ ghost use Rattle.ufs_joint.specs.NamesTurns.{live_files};
 ghost use Rattle.ufs_joint.specs.Servers.{IsServer};
 ghost use Rattle.ufs_store.specs.Refusals.{fault_in, is_no_space};
 ghost use Rattle.ufs_store.specs.declared.fault.StoreFault.TheVariants as refusal;
-ghost use Rattle.ufs_turns.specs.Lent.{AreTold, IsBare, IsBeside, StopsByFault, TellsStop, TellsWhere};
+ghost use Rattle.ufs_turns.specs.Lent.{AreTold, IsBare, IsBeside, Runs, StopsByFault, TellsStop, TellsWhere};
 ghost use Rattle.ufs_turns.specs.Told.{fault_told, told_list};
 ghost use Rattle.ufs_noted.specs.Noted.{HasServedWith, MayLack};
 ghost use Rattle.ufs_held.specs.Asking.{Asks, IsAnswered, IsGuest, IsSyncReply};
@@ -243,6 +243,7 @@ impl<N: Naming> HeldNames<N> {
         ensures free { AreTold (T.tells door.old) (T.tells door.new) (λ had has. has ≡ had) }
         ensures telling { is_some (T.tells door.new) ≡ is_some (T.tells door.old) }
         ensures halts { StopsByFault (T.tells door.old) (T.tells door.new) (fault_in result) }
+        ensures ran { Runs (T.tells door.old) (T.tells door.new) (fault_in result) 1 1 }
         ensures halted { TellsStop (T.tells door.old) result }
         ensures stopped { TellsWhere (T.tells door.new) result }
         ensures refused { IfErr result (λ fault. is_no_space fault ≡ false) }
@@ -377,6 +378,7 @@ impl<N: Naming> HeldNames<N> {
         ensures stops { (fault : ℕ) → fault_told (fault_in result) ≡ Some fault → guest.new.stop ≡ Some fault }
         ensures telling { is_some (T.tells door.new) ≡ is_some (T.tells door.old) }
         ensures halts { StopsByFault (T.tells door.old) (T.tells door.new) (fault_in result) }
+        ensures ran { Runs (T.tells door.old) (T.tells door.new) (fault_in result) (1 + length files.old) (1 + length files.old) }
         ensures halted { TellsStop (T.tells door.old) result }
         ensures stopped { TellsWhere (T.tells door.new) result }
         ensures refused { IfErr result (λ fault. is_no_space fault ≡ false) }

@@ -1,5 +1,5 @@
 // A `sync`: the names are committed, and then each file, and it is acknowledged or excused.
-ghost use Rattle.std.specs.Prelude.{ℕ, ◌≡◌, ◌<◌, ◌++◌, eqb, length, [], true, false, Err, Some, IfErr, OnErr, OnOk, is_some};
+ghost use Rattle.std.specs.Prelude.{ℕ, ◌≡◌, ◌<◌, ◌+◌, ◌++◌, eqb, length, [], true, false, Err, Some, IfErr, OnErr, OnOk, is_some};
 ghost use Rattle.std.specs.FinSet as set;
 ghost use Rattle.ufs_bitmap.specs.Blocks.{BlockSet};
 ghost use Rattle.ufs_bitmap.specs.Taking.{set_of};
@@ -12,7 +12,7 @@ ghost use Rattle.ufs_joint.specs.NamesTurns.{live_files};
 ghost use Rattle.ufs_joint.specs.Servers.{IsServer};
 ghost use Rattle.ufs_store.specs.Refusals.{fault_in, is_no_space};
 ghost use Rattle.ufs_store.specs.declared.fault.StoreFault.TheVariants as refusal;
-ghost use Rattle.ufs_turns.specs.Lent.{AreTold, IsBare, IsBeside, StopsByFault, TellsStop, TellsWhere};
+ghost use Rattle.ufs_turns.specs.Lent.{AreTold, IsBare, IsBeside, Runs, StopsByFault, TellsStop, TellsWhere};
 ghost use Rattle.ufs_turns.specs.Told.{fault_told, told_list};
 ghost use Rattle.ufs_held.specs.Asking.{IsGuest};
 ghost use Rattle.ufs_held.specs.Committed.{HasSameCells};
@@ -119,6 +119,7 @@ pub(crate) fn commit_all<N: Naming, T: Turns<N>>(
     ensures stops { (fault : ℕ) → fault_told (fault_in result) ≡ Some fault → guest.new.stop ≡ Some fault }
     ensures telling { is_some (T.tells door.new) ≡ is_some (T.tells door.old) }
     ensures halts { StopsByFault (T.tells door.old) (T.tells door.new) (fault_in result) }
+    ensures ran { Runs (T.tells door.old) (T.tells door.new) (fault_in result) (1 + length files.old) (1 + length files.old) }
     ensures halted { TellsStop (T.tells door.old) result }
     ensures stopped { TellsWhere (T.tells door.new) result }
     ensures refused { IfErr result (λ fault. is_no_space fault ≡ false) }
@@ -156,6 +157,7 @@ fn commit_files<N: Naming, T: Turns<N>>(
     ensures stops { (fault : ℕ) → fault_told (fault_in result) ≡ Some fault → guest.new.stop ≡ Some fault }
     ensures telling { is_some (T.tells door.new) ≡ is_some (T.tells door.old) }
     ensures halts { StopsByFault (T.tells door.old) (T.tells door.new) (fault_in result) }
+    ensures ran { Runs (T.tells door.old) (T.tells door.new) (fault_in result) (length files.old) (length files.old) }
     ensures stopped { TellsWhere (T.tells door.new) result }
     ensures refused { IfErr result (λ fault. is_no_space fault ≡ false) }
 {
@@ -194,6 +196,7 @@ fn commit_born<N: Naming, T: Turns<N>>(
     ensures stops { (fault : ℕ) → fault_told (fault_in result) ≡ Some fault → guest.new.stop ≡ Some fault }
     ensures telling { is_some (T.tells door.new) ≡ is_some (T.tells door.old) }
     ensures halts { StopsByFault (T.tells door.old) (T.tells door.new) (fault_in result) }
+    ensures ran { Runs (T.tells door.old) (T.tells door.new) (fault_in result) 1 1 }
     ensures stopped { TellsWhere (T.tells door.new) result }
     ensures refused { IfErr result (λ fault. is_no_space fault ≡ false) }
 {

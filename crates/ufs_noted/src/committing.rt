@@ -9,7 +9,7 @@ impl NotedNames {
     ghost use Rattle.ufs_joint.specs.Cells.{NamesCell};
     ghost use Rattle.ufs_store.specs.Refusals.{fault_in, is_no_space};
     ghost use Rattle.ufs_store.specs.declared.fault.StoreFault.TheVariants as refusal;
-    ghost use Rattle.ufs_turns.specs.Lent.{AreTold, IsBeside, StopsByFault, TellsStop, TellsWhere};
+    ghost use Rattle.ufs_turns.specs.Lent.{AreTold, IsBeside, Runs, StopsByFault, TellsStop, TellsWhere};
     ghost use Rattle.ufs_turns.specs.NamesLent.{HaveCommitted, LendsNames};
     ghost use Rattle.ufs_turns.specs.Told.{fault_told, told_list};
     ghost use Rattle.ufs_noted.specs.Noted.{committed_noted};
@@ -35,6 +35,7 @@ impl NotedNames {
         ensures stop { (fault : ℕ) → result ≡ Err (refusal.Stopped fault) → hand.new.stop ≡ Some fault }
         ensures stops { (fault : ℕ) → fault_told (fault_in result) ≡ Some fault → hand.new.stop ≡ Some fault }
         ensures halts { StopsByFault (T.tells door.old) (T.tells door.new) (fault_in result) }
+        ensures ran { Runs (T.tells door.old) (T.tells door.new) (fault_in result) 1 1 }
         ensures halted { TellsStop (T.tells door.old) result }
         ensures stopped { TellsWhere (T.tells door.new) result }
         ensures refused { IfErr result (λ fault. is_no_space fault ≡ false) }

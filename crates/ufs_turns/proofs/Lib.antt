@@ -4,5 +4,6 @@ pub mod Turning
 pub mod Syncing
 pub mod Emptying
 pub mod Pools
+pub mod Runs
 pub mod Committing
 mod FreeBlocks

@@ -5,7 +5,7 @@ use Rattle.ufs_joint.specs.Cells.{FileCell, View}
 use Rattle.ufs_store.specs.Refusals.{fault_in, fault_of}
 use Rattle.ufs_store.specs.declared.fault.StoreFault.{StoreFault}
 use Rattle.ufs_store.specs.declared.fault.StoreFault.TheVariants as refusal
-use Rattle.ufs_turns.specs.Lent.{StopsByFault, TellsStop}
+use Rattle.ufs_turns.specs.Lent.{Runs, StopsByFault, TellsStop}
 use Rattle.ufs_turns.specs.Told.{fault_told, told_list}
 use Rattle.ufs_held.specs.Held.{first_cell}
 use Rattle.ufs_held.proofs.After.{failed_first, first_held, held_failed, held_synced, kept_value, lends}
@@ -81,6 +81,9 @@ returns-in-Ok-clause-faults g c = c.sync_file.ensures.faults ∙ (λ i. told_lis
 pub returns-in-Ok-clause-halts : goal.returns-in-Ok-clause-halts
 returns-in-Ok-clause-halts g c = subst (λ (r : Result ℕ StoreFault). StopsByFault (g.T.Turns.tells c.args.door.now) (g.T.Turns.tells c.sync_file.new.self) (fault_in r)) c.in-Ok.is c.sync_file.ensures.halts
 
+pub returns-in-Ok-clause-ran : goal.returns-in-Ok-clause-ran
+returns-in-Ok-clause-ran g c = subst (λ (r : Result ℕ StoreFault). Runs (g.T.Turns.tells c.args.door.now) (g.T.Turns.tells c.sync_file.new.self) (fault_in r) 1 1) c.in-Ok.is c.sync_file.ensures.ran
+
 pub returns-in-Ok-clause-halted : goal.returns-in-Ok-clause-halted
 returns-in-Ok-clause-halted g c = stop_when_ok (g.T.Turns.tells c.args.door.now) c.sync_file.result _ c.in-Ok.is c.sync_file.ensures.halted
 
@@ -130,6 +133,9 @@ returns-in-Err-clause-stops g c fault told = c.sync_file.ensures.stops fault (ap
 
 pub returns-in-Err-clause-halts : goal.returns-in-Err-clause-halts
 returns-in-Err-clause-halts g c = subst (λ (r : Result ℕ StoreFault). StopsByFault (g.T.Turns.tells c.args.door.now) (g.T.Turns.tells c.sync_file.new.self) (fault_in r)) c.in-Err.is c.sync_file.ensures.halts
+
+pub returns-in-Err-clause-ran : goal.returns-in-Err-clause-ran
+returns-in-Err-clause-ran g c = subst (λ (r : Result ℕ StoreFault). Runs (g.T.Turns.tells c.args.door.now) (g.T.Turns.tells c.sync_file.new.self) (fault_in r) 1 1) c.in-Err.is c.sync_file.ensures.ran
 
 pub returns-in-Err-clause-halted : goal.returns-in-Err-clause-halted
 returns-in-Err-clause-halted g c = stop_when_err (g.T.Turns.tells c.args.door.now) c.sync_file.result c.in-Err.fault c.in-Err.is c.sync_file.ensures.halted

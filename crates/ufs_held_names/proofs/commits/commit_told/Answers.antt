@@ -49,6 +49,7 @@ returns g c =
       free = t.free;
       telling = t.telling;
       halts = t.halts;
+      ran = t.ran;
       halted = t.halted;
       stopped = t.stopped;
       refused = t.refused;

@@ -1,12 +1,13 @@
-use Rattle.std.proofs.Common.{◌≡◌, ◌++◌, ℕ, List, Result, ap, refl, sym, subst, ◌∙◌, arith, length}
+use Rattle.std.proofs.Common.{◌≡◌, ◌≤◌, ◌+◌, ◌++◌, ℕ, List, Result, ap, refl, sym, subst, ◌∙◌, arith, length}
 use Rattle.std.specs.Prelude.{OnOk, Ok, Err}
 use Rattle.std.proofs.lemmas.Result.{on_err_weaker, on_ok_weaker}
 use Rattle.ufs_joint.specs.Cells.{NamesCell}
 use Rattle.ufs_joint.specs.NamesTurns.{live_files}
-use Rattle.ufs_store.specs.Refusals.{fault_in}
+use Rattle.ufs_store.specs.Refusals.{fault_in, fault_of}
 use Rattle.ufs_store.specs.declared.fault.StoreFault.{StoreFault}
-use Rattle.ufs_turns.specs.Lent.{StopsByFault, TellsStop, TellsWhere}
+use Rattle.ufs_turns.specs.Lent.{Runs, StopsByFault, TellsStop, TellsWhere}
 use Rattle.ufs_turns.specs.Told.{fault_told, told_list}
+use Rattle.ufs_turns.proofs.Runs.{runs_more, runs_twice}
 use Rattle.ufs_held.proofs.Stopping.{passed_so, stops_twice}
 use Rattle.ufs_noted.specs.Noted.{Noted}
 use Rattle.ufs_held_names.specs.HeldNames.{AreCommitted, first_names}
@@ -78,6 +79,15 @@ returns-in-Ok-clause-halts g c =
     let told = g.T.Turns.tells c.commit_files.new.door in
     stops_twice tells mid told (fault_in c.commit_files.result) m.telling (subst (λ (q : Result (Unit {0}) StoreFault). StopsByFault tells mid (fault_in q)) c.in-Ok.is m.halts) c.commit_files.ensures.halts
 
+pub returns-in-Ok-clause-ran : goal.returns-in-Ok-clause-ran
+returns-in-Ok-clause-ran g c =
+    let m = c.commit_lent.ensures in
+    let n = length c.args.files.now in
+    let tells = g.T.Turns.tells c.args.door.now in
+    let mid = g.T.Turns.tells c.commit_lent.new.door in
+    let told = g.T.Turns.tells c.commit_files.new.door in
+    runs_twice tells mid told (fault_in c.commit_files.result) 1 1 n n m.telling (subst (λ (q : Result (Unit {0}) StoreFault). Runs tells mid (fault_in q) 1 1) c.in-Ok.is m.ran) c.commit_files.ensures.ran
+
 pub returns-in-Ok-clause-halted : goal.returns-in-Ok-clause-halted
 returns-in-Ok-clause-halted g c = passed_so (Unit {0}) (Unit {0}) (g.T.Turns.tells c.args.door.now) c.commit_lent.result tt c.commit_files.result c.in-Ok.is c.commit_lent.ensures.halted
 
@@ -97,6 +107,14 @@ returns-in-Err-clause-stops g c fault told = c.commit_lent.ensures.stops fault (
 
 pub returns-in-Err-clause-halts : goal.returns-in-Err-clause-halts
 returns-in-Err-clause-halts g c = subst (λ (q : Result (Unit {0}) StoreFault). StopsByFault (g.T.Turns.tells c.args.door.now) (g.T.Turns.tells c.commit_lent.new.door) (fault_in q)) c.in-Err.is c.commit_lent.ensures.halts
+
+pub returns-in-Err-clause-ran : goal.returns-in-Err-clause-ran
+returns-in-Err-clause-ran g c =
+    let n = length c.args.files.now in
+    let tells = g.T.Turns.tells c.args.door.now in
+    let told = g.T.Turns.tells c.commit_lent.new.door in
+    let less : 1 ≤ 1 + n = omega arith in
+    runs_more tells told (fault_of c.in-Err.fault) 1 1 (1 + n) (1 + n) less less (subst (λ (q : Result (Unit {0}) StoreFault). Runs tells told (fault_in q) 1 1) c.in-Err.is c.commit_lent.ensures.ran)
 
 pub returns-in-Err-clause-halted : goal.returns-in-Err-clause-halted
 returns-in-Err-clause-halted g c = subst (λ (q : Result (Unit {0}) StoreFault). TellsStop (g.T.Turns.tells c.args.door.now) q) c.in-Err.is c.commit_lent.ensures.halted

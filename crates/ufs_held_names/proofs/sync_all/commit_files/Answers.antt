@@ -1,4 +1,4 @@
-use Rattle.std.proofs.Common.{◌≡◌, ◌<◌, ◌+◌, ◌++◌, ℕ, suc, None, Result, Ok, Err, get_or, length, set, refl, ap, sym, subst, ◌∙◌, arith}
+use Rattle.std.proofs.Common.{◌≡◌, ◌<◌, ◌≤◌, ◌+◌, ◌++◌, ℕ, suc, None, Result, Ok, Err, get_or, length, set, refl, ap, sym, subst, ◌∙◌, arith}
 use Rattle.std.specs.Prelude.{OnErr}
 use Rattle.std.specs.FinSet as fset
 use Rattle.std.proofs.lemmas.Result.{err_from_is_err_and}
@@ -6,8 +6,9 @@ use Rattle.ufs_bitmap.specs.Blocks.{BlockSet}
 use Rattle.ufs_bitmap.specs.Taking.{set_of}
 use Rattle.ufs_store.specs.Refusals.{fault_in}
 use Rattle.ufs_store.specs.declared.fault.StoreFault.{StoreFault}
-use Rattle.ufs_turns.specs.Lent.{AreTold, StopsByFault, TellsWhere}
+use Rattle.ufs_turns.specs.Lent.{AreTold, Runs, StopsByFault, TellsWhere}
 use Rattle.ufs_turns.specs.Told.{fault_told, told_list}
+use Rattle.ufs_turns.proofs.Runs.{runs_more, runs_still, runs_twice}
 use Rattle.ufs_held.proofs.Excusing.{same_told}
 use Rattle.ufs_held.proofs.Stopping.{passed_where, stops_still, stops_twice}
 use Rattle.ufs_held_names.specs.SyncAll.{AreSynced, freed_by}
@@ -26,6 +27,7 @@ loop-place-init g c = record {
   faults = refl;
   telling = refl;
   halts = stops_still (g.T.Turns.tells c.args.door.now);
+  ran = runs_still (g.T.Turns.tells c.args.door.now) 0 0;
   within = omega arith;
 }
 
@@ -58,6 +60,7 @@ loop-place-preserved g c =
       faults = e.faults ∙ ap (λ (r : Result (Unit {0}) StoreFault). told_list (fault_told (fault_in r)) ++ c.loop-place.guest.faults) c.in_ok-commit_born.was ∙ i.faults;
       telling = e.telling ∙ i.telling;
       halts = stops_twice had mid has None i.telling i.halts (subst (λ (r : Result (Unit {0}) StoreFault). StopsByFault mid has (fault_in r)) c.in_ok-commit_born.was e.halts);
+      ran = runs_twice had mid has None k k 1 1 i.telling i.ran (subst (λ (r : Result (Unit {0}) StoreFault). Runs mid has (fault_in r) 1 1) c.in_ok-commit_born.was e.ran);
       within = omega (arith, c.loop-place-test.true);
     }
 
@@ -95,6 +98,27 @@ returns-in_err-commit_born-clause-halts g c =
     let p = err_from_is_err_and c.from_residual.result c.from_residual.ensures.1 in
     let same : c.commit_born.result ≡ c.from_residual.result = c.in_err-commit_born.was ∙ sym (p.1 ∙ ap Err p.2) in
     stops_twice had mid has (fault_in c.from_residual.result) i.telling i.halts (subst (λ (r : Result (Unit {0}) StoreFault). StopsByFault mid has (fault_in r)) same c.commit_born.ensures.halts)
+
+pub returns-in_err-commit_born-clause-ran : goal.returns-in_err-commit_born-clause-ran
+returns-in_err-commit_born-clause-ran g c =
+    let i = c.loop-place.invariant in
+    let k : ℕ = c.loop-place.place in
+    let olds = c.args.files.now in
+    let had = g.T.Turns.tells c.args.door.now in
+    let mid = g.T.Turns.tells c.loop-place.door in
+    let has = g.T.Turns.tells c.commit_born.new.door in
+    let p = err_from_is_err_and c.from_residual.result c.from_residual.ensures.1 in
+    let same : c.commit_born.result ≡ c.from_residual.result = c.in_err-commit_born.was ∙ sym (p.1 ∙ ap Err p.2) in
+    let less : k + 1 ≤ length olds = omega (arith, c.loop-place-test.true) in
+    runs_more had has (fault_in c.from_residual.result) (k + 1) (k + 1) (length olds) (length olds) less less
+    (runs_twice had mid has (fault_in c.from_residual.result) k k 1 1 i.telling i.ran (subst (λ (r : Result (Unit {0}) StoreFault). Runs mid has (fault_in r) 1 1) same c.commit_born.ensures.ran))
+
+pub returns-clause-ran : goal.returns-clause-ran
+returns-clause-ran g c =
+    let olds = c.args.files.now in
+    let k : ℕ = c.loop-place.place in
+    let all : k ≡ length olds = omega (arith, c.loop-place-test.false, c.loop-place.auto.place-end) in
+    subst (λ (n : ℕ). Runs (g.T.Turns.tells c.args.door.now) (g.T.Turns.tells c.loop-place.door) None n n) all c.loop-place.invariant.ran
 
 pub returns-clause-files : goal.returns-clause-files
 returns-clause-files g c =

@@ -1,5 +1,5 @@
 use Rattle.std.proofs.Common.{◌≡◌, ◌≤◌, [], None, is_some, length}
-use Rattle.ufs_turns.specs.Lent.{AreTold, StopsByFault}
+use Rattle.ufs_turns.specs.Lent.{AreTold, Runs, StopsByFault}
 use Rattle.ufs_held.specs.Committed.{HasSameCells}
 use Rattle.ufs_held_names.specs.HeldNames.{HoldsNames, first_names}
 use Rattle.ufs_held_names.specs.SyncAll.{AreSynced, freed_by}
@@ -16,5 +16,6 @@ invariant-loop-place g l = record {
   faults : l.guest.faults ≡ l.fn.guest.faults;
   telling : is_some (g.T.Turns.tells l.door) ≡ is_some (g.T.Turns.tells l.fn.door);
   halts : StopsByFault (g.T.Turns.tells l.fn.door) (g.T.Turns.tells l.door) None;
+  ran : Runs (g.T.Turns.tells l.fn.door) (g.T.Turns.tells l.door) None l.place l.place;
   within : l.place ≤ length l.fn.files;
 }
