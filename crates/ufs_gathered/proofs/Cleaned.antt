@@ -6,7 +6,7 @@ use Rattle.ufs_base.specs.Images.{Image}
 use Rattle.ufs_disk.specs.Disk.{Leaves}
 use Rattle.ufs_disk.specs.Moments.{LeavesOnly, Moments}
 use Rattle.ufs_disk.proofs.Runs.{weaker}
-use Rattle.ufs_engine.specs.Closes.{OpensAsLeft, stopped_at}
+use Rattle.ufs_engine.specs.Closes.{OpensAsLeft, closing_fault, stopped_at}
 use Rattle.ufs_engine.specs.declared.closing.CloseFault.{CloseFault}
 use Rattle.ufs_engine.specs.declared.closing.CloseFault.TheVariants as cause
 use Rattle.ufs_held.specs.Together.{under_numbers}
@@ -19,7 +19,7 @@ use Rattle.ufs_promise_laws.specs.Last.{StandsForTree}
 use Rattle.ufs_model.specs.History.{tree_after}
 use Rattle.ufs_model.specs.declared.data.Entry.{Entry}
 use Rattle.ufs_hand_laws.specs.Owned.{Has, count, one}
-use Rattle.ufs_store.specs.Refusals.{fault_in, is_no_space, stop_after}
+use Rattle.ufs_store.specs.Refusals.{IsTold, fault_in, is_no_space, stop_after}
 use Rattle.ufs_store.specs.State.{StoreState}
 use Rattle.ufs_store.specs.declared.fault.StoreFault.{StoreFault}
 use Rattle.ufs_store.specs.declared.fault.StoreFault.TheVariants as refusal
@@ -139,6 +139,14 @@ module _ (before now : ℕ) where
   ends_by (Some n) (Err (refusal.Stopped fault)) ended of ends = subst (EndsBy false (Some n) before now) (sym ends.1) (refl, of.stopped fault refl, ends.0)
   ends_by (Some n) (Err (refusal.NoSpace need had)) ended of ends = (let no : true ≡ false = of.refused in absurd cc)
   ends_by (Some n) (Err (refusal.Lack why)) ended of ends = (let stopped : ◌≡◌ {A = Result (Unit {0}) StoreFault} (Err (refusal.Lack why)) (Err (refusal.Stopped n)) = of.halted n refl in absurd cc)
+
+  -- the count goes on by what the whole end tells
+  pub told_by : (from : ℕ) (done : Result (Unit {0}) StoreFault) (ended : Result (Unit {0}) CloseFault) → IsTold from before (fault_in done) → IfErr done (λ fault. is_no_space fault ≡ false) → EndsBehind done before now ended → IsTold from now (closing_fault ended)
+  told_by from (Ok x) ended first of ends = subst (λ (n : ℕ). IsTold n now (closing_fault ended)) first ends.0
+  told_by from (Err (refusal.Device fault)) ended first of ends = subst (λ (r : Result (Unit {0}) CloseFault). IsTold from now (closing_fault r)) (sym ends.1) (subst (λ (n : ℕ). IsTold from n (Some fault)) (sym ends.0) first)
+  told_by from (Err (refusal.Stopped fault)) ended first of ends = subst (λ (r : Result (Unit {0}) CloseFault). IsTold from now (closing_fault r)) (sym ends.1) (ends.0 ∙ first)
+  told_by from (Err (refusal.NoSpace need had)) ended first of ends = (let no : true ≡ false = of in absurd cc)
+  told_by from (Err (refusal.Lack why)) ended first of ends = subst (λ (r : Result (Unit {0}) CloseFault). IsTold from now (closing_fault r)) (sym ends.1) (ends.0 ∙ first)
 
   none_told : (ended : Result (Unit {0}) CloseFault) (x : CloseFault) (fault : ℕ) → stopped_at x ≡ None → ended ≡ Err x → ended ≡ Err (cause.Stopped fault) → ⊥
   none_told ended x fault none is e =

@@ -4,6 +4,7 @@ use Rattle.std.specs.Prelude.{◌↔◌}
 use Rattle.ufs_base.specs.declared.lack.Lack.TheVariants as lack
 use Rattle.ufs_base.specs.declared.memory.Memory.{Memory}
 use Rattle.ufs_disk.proofs.Runs.{started}
+use Rattle.ufs_engine.specs.Closes.{closing_fault}
 use Rattle.ufs_engine.specs.declared.closing.CloseFault.{CloseFault}
 use Rattle.ufs_engine.specs.declared.closing.CloseFault.TheVariants as cause
 use Rattle.ufs_joint.specs.Cells.{FileCell, NamesCell, Start}
@@ -26,6 +27,11 @@ tells_left (Some n) memory fault = (
   λ e. let same : ◌≡◌ {A = Result (Unit {0}) CloseFault} (Err (cause.Stopped n)) (Err (cause.Stopped fault)) = e in cc,
   λ e. ap (λ (m : Option ℕ). Err (left_by m memory)) e,
 )
+
+-- it tells no fault of the device
+pub none_left : (stop : Option ℕ) (memory : Memory) → closing_fault (Err (left_by stop memory)) ≡ None
+none_left None memory = refl
+none_left (Some n) memory = refl
 
 module _ (k : Start) (keeps : Bool) (tickets : ℕ) (lists : List (List Entry)) (names : NamesCell) (files : List FileCell) (s : StoreState) (session : HasEnded k tickets lists names files s) (memory : Memory) where
   uncommitted : {P : Type 0} → false ≡ true → P

@@ -1,9 +1,9 @@
 // A session on hands is ended over a disk: everything is committed, and the image is made clean.
-ghost use Rattle.std.specs.Prelude.{ℕ, ◌≡◌, ◌<◌, ◌↔◌, eqb, List, IfErr, IsTrue, None, OnOk, Some, Err, false, true};
+ghost use Rattle.std.specs.Prelude.{ℕ, ◌≡◌, ◌<◌, ◌↔◌, ◌+◌, eqb, length, List, IfErr, IsTrue, None, OnOk, Some, Err, false, true};
 ghost use Rattle.ufs_base.specs.declared.lack.Lack.TheVariants as lack;
 ghost use Rattle.ufs_disk.specs.Disk.{Leaves};
 ghost use Rattle.ufs_disk.specs.Moments.{LeavesOnly, reads};
-ghost use Rattle.ufs_engine.specs.Closes.{OpensAsLeft, tells_unsound};
+ghost use Rattle.ufs_engine.specs.Closes.{OpensAsLeft, closing_fault, tells_unsound};
 ghost use Rattle.ufs_engine.specs.declared.closing.CloseFault.TheVariants as cause;
 ghost use Rattle.ufs_gathered.specs.Ended.{AreAllKnown};
 ghost use Rattle.ufs_gathered.specs.Finished.{EndsBehind, HasFinished, ended_by, left_by};
@@ -16,9 +16,9 @@ ghost use Rattle.ufs_layout.specs.Areas.{IsGeometry};
 ghost use Rattle.ufs_model.specs.declared.data.Entry.{Entry};
 ghost use Rattle.ufs_recovery.specs.Recovered.{IsCleanDisk, IsRecovered};
 ghost use Rattle.ufs_hand_laws.specs.Owned.{count};
-ghost use Rattle.ufs_store.specs.Refusals.{fault_in, is_no_space, stop_after};
+ghost use Rattle.ufs_store.specs.Refusals.{IsTold, fault_in, is_no_space, stop_after};
 ghost use Rattle.ufs_store.specs.declared.fault.StoreFault.TheVariants as refusal;
-ghost use Rattle.ufs_turns.specs.Lent.{stop_in};
+ghost use Rattle.ufs_turns.specs.Lent.{RunIn, stop_in, tally_in};
 
 use crate::ending::{Ended, close_gathered, end};
 use crate::gathering::{Actors, Remains, gather_remains};
@@ -47,6 +47,7 @@ pub struct Finished<D: Disk> {
 /// is lent to the commits. Where one fails no other call of the disk is made, and the image is left in use.
 ///
 /// What a crash leaves is explained by the session's history at each moment, and stands for the last tree once everything is committed.
+/// All of the end tells one fault of the device at most, by which alone the count goes on (`counted`).
 pub fn finish<N: Naming, D: Disk, L: Ledger>(
     alloc: Global,
     table: HandTable<N>,
@@ -63,6 +64,7 @@ pub fn finish<N: Naming, D: Disk, L: Ledger>(
     ensures finished { (lists : List (List Entry)) → AreHome lists actors.clients.items
         → HasFinished N.start D.keeps result.tickets lists (D.size result.disk) (D.faults result.disk) (D.moments result.disk) result.ended }
     ensures stopped { (fault : ℕ) → (result.ended ≡ Err (cause.Stopped fault)) ↔ (stop_in actors.store.store ≡ Some fault) }
+    ensures counted { IsTold (tally_in actors.store.store).faults (D.faults result.disk) (closing_fault result.ended) }
 {
     let Actors {
         mut names,
@@ -111,6 +113,7 @@ pub fn leave<N: Naming, D: Disk, L: Ledger>(
     ensures finished { (lists : List (List Entry)) → AreHome lists remains.clients.items
         → HasFinished N.start D.keeps result.tickets lists (D.size result.disk) (D.faults result.disk) (D.moments result.disk) result.ended }
     ensures stopped { (fault : ℕ) → (result.ended ≡ Err (cause.Stopped fault)) ↔ (stop_in remains.store.store ≡ Some fault) }
+    ensures counted { IsTold (tally_in remains.store.store).faults (D.faults result.disk) (closing_fault result.ended) }
     ensures lack { stop_in remains.store.store ≡ None → result.ended ≡ Err (cause.Lack (lack.Memory memory)) }
 {
     let gathered = gather_remains(&table, remains);
@@ -156,6 +159,7 @@ fn commit_straight<N: Naming, S: Door, L: Ledger>(
     ensures halted { (fault : ℕ) → stop_in held.store ≡ Some fault → result.0 ≡ Err (refusal.Stopped fault) }
     ensures stopped { (fault : ℕ) → result.0 ≡ Err (refusal.Stopped fault) → stop_in result.1.store ≡ Some fault }
     ensures refused { IfErr result.0 (λ fault. is_no_space fault ≡ false) }
+    ensures ran { RunIn (fault_in result.0) (1 + length files.old) (1 + length files.old) held.store result.1.store }
 {
     let mut door = Direct { table, held, share };
     let done = names.commit_all(table, files, pools, &mut door, geometry);

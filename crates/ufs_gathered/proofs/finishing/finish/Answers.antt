@@ -9,16 +9,16 @@ use Rattle.ufs_held.specs.Together.{under_numbers}
 use Rattle.ufs_image.specs.Proper.{IsProperImage}
 use Rattle.ufs_image.specs.Volume.{superblock_of}
 use Rattle.ufs_recovery.specs.Recovered.{IsCleanDisk, IsRecovered}
-use Rattle.ufs_joint.specs.Cells.{FileCell}
+use Rattle.ufs_joint.specs.Cells.{FileCell, StoreCell}
 use Rattle.ufs_hand_laws.specs.Owned.{count}
-use Rattle.ufs_store.specs.Refusals.{fault_in, stop_after}
+use Rattle.ufs_store.specs.Refusals.{IsTold, fault_in, stop_after}
 use Rattle.ufs_store.specs.State.{StoreState}
 use Rattle.ufs_store.specs.Tables.{state_of}
-use Rattle.ufs_turns.specs.Lent.{stop_in}
+use Rattle.ufs_turns.specs.Lent.{stop_in, tally_in}
 use Rattle.ufs_gathered.specs.Ended.{HasEnded}
 use Rattle.ufs_gathered.specs.Finished.{EndsBehind, EndsBy}
 use Rattle.ufs_gathered.specs.Gathered.{AreAllBack}
-use Rattle.ufs_gathered.proofs.Cleaned.{back_then, ends_by, explained_on, going_on, of_commits, of_done, proper, stands_last, stop_is, tells_stop}
+use Rattle.ufs_gathered.proofs.Cleaned.{back_then, ends_by, explained_on, going_on, of_commits, of_done, proper, stands_last, stop_is, tells_stop, told_by}
 use Rattle.ufs_gathered.proofs.finishing.finish.Goals as goal
 
 pub end-tickets-requires-clause-back : goal.end-tickets-requires-clause-back
@@ -77,6 +77,19 @@ returns-clause-finished g c lists at_home =
           on_ok_weaker closed.result (λ leads. leads (is_proper seen))
           (subst (λ (x : ℕ × Moments). OnOk closed.result (Leaves (IsProperImage x.0) x.1.state → (superblock_of (reads x.1)).clean ≡ false → IsRecovered (reads x.1) (reads now))) same (closed.ensures.recovered (sight seen)));
     }
+
+pub returns-clause-counted : goal.returns-clause-counted
+returns-clause-counted g c =
+    let d = c.commit_straight-done in
+    let from = (tally_in c.args.actors.store.store).faults in
+    let last = c.end-tickets.result.store in
+    let s : StoreState = state_of (g.D.Disk.size last.disk) (g.D.Disk.moments last.disk) (g.D.Disk.faults last.disk) last.tables in
+    let closed = c.clean_if-ended in
+    let now = g.D.Disk.faults closed.new.disk in
+    let behind : (tally_in d.result.1.store).faults ≡ s.faults = ap (λ (cs : List (Unit {0} × StoreCell)). (tally_in cs).faults) c.end-tickets.ensures.store.store.has in
+    let first : IsTold from s.faults (fault_in d.result.0) = subst (λ (n : ℕ). IsTold from n (fault_in d.result.0)) behind d.ensures.ran.count in
+    let ends : EndsBehind d.result.0 s.faults now closed.result = subst (λ (before : ℕ). EndsBehind d.result.0 before now closed.result) c.into_disk-disk.ensures.faults closed.ensures.ends in
+    told_by s.faults now from d.result.0 closed.result first d.ensures.refused ends
 
 pub returns-clause-stopped : goal.returns-clause-stopped
 returns-clause-stopped g c fault =

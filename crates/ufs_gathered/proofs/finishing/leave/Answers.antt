@@ -1,13 +1,17 @@
-use Rattle.std.proofs.Common.{◌≡◌, ℕ, Option, Err, sym, ap, ◌∙◌, subst}
+use Rattle.std.proofs.Common.{◌≡◌, ℕ, List, Option, Err, sym, ap, ◌∙◌, subst}
 use Rattle.ufs_disk.specs.Moments.{Moments}
+use Rattle.ufs_engine.specs.Closes.{closing_fault}
 use Rattle.ufs_engine.specs.declared.closing.CloseFault.{CloseFault}
+use Rattle.ufs_joint.specs.Cells.{StoreCell}
+use Rattle.ufs_store.specs.Refusals.{IsTold}
 use Rattle.ufs_store.specs.State.{StoreState}
 use Rattle.ufs_store.specs.Tables.{state_of}
 use Rattle.ufs_turns.specs.HeldStore.{IsHeldStore}
+use Rattle.ufs_turns.specs.Lent.{tally_in}
 use Rattle.ufs_gathered.specs.Ended.{HasEnded}
 use Rattle.ufs_gathered.specs.Finished.{HasFinished, left_by}
 use Rattle.ufs_gathered.proofs.Cleaned.{stop_is}
-use Rattle.ufs_gathered.proofs.Left.{left_open, tells_left}
+use Rattle.ufs_gathered.proofs.Left.{left_open, none_left, tells_left}
 use Rattle.ufs_gathered.proofs.finishing.leave.Goals as goal
 
 pub gather_remains-gathered-requires-clause-rest : goal.gather_remains-gathered-requires-clause-rest
@@ -47,6 +51,20 @@ returns-clause-stopped g c fault =
     let is : c.cause_of.result ≡ left_by s.stop c.args.memory = c.cause_of.ensures ∙ ap (λ (stop : Option ℕ). left_by stop c.args.memory) c.stopped-stop.ensures in
     let told = tells_left s.stop c.args.memory fault in
     (λ e. at ∙ told.0 (ap (λ (x : CloseFault). Err x) (sym is) ∙ e), λ e. ap (λ (x : CloseFault). Err x) is ∙ told.1 (sym at ∙ e))
+
+pub returns-clause-counted : goal.returns-clause-counted
+returns-clause-counted g c =
+    let k = g.N.Naming.start in
+    let a = c.args.remains in
+    let last = c.close_gathered-tickets.result.store in
+    let s : StoreState = state_of (g.D.Disk.size last.disk) (g.D.Disk.moments last.disk) (g.D.Disk.faults last.disk) last.tables in
+    let its : IsHeldStore k g.D.Disk.visible g.D.Disk.keeps a.store s =
+    subst (λ (x : StoreState). IsHeldStore k g.D.Disk.visible g.D.Disk.keeps a.store x) (sym c.close_gathered-tickets.ensures.same) c.gather_remains-gathered.ensures.its in
+    let from = (tally_in a.store.store).faults in
+    let now = g.D.Disk.faults c.into_disk.result in
+    let behind : from ≡ s.faults = ap (λ (cs : List (Unit {0} × StoreCell)). (tally_in cs).faults) its.store.has in
+    let is : c.cause_of.result ≡ left_by s.stop c.args.memory = c.cause_of.ensures ∙ ap (λ (stop : Option ℕ). left_by stop c.args.memory) c.stopped-stop.ensures in
+    subst (λ (told : Option ℕ). IsTold from now told) (sym (ap (λ (x : CloseFault). closing_fault (Err x)) is ∙ none_left s.stop c.args.memory)) (c.into_disk.ensures.faults ∙ sym behind)
 
 pub returns-clause-lack : goal.returns-clause-lack
 returns-clause-lack g c none =
