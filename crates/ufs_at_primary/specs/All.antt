@@ -1,5 +1,5 @@
 -- What the primary does with a `sync`.
-use Rattle.std.specs.Prelude.{ℕ, ◌≡◌, Bool, true, is_some, List, [], ◌∷◌, length, Option, None}
+use Rattle.std.specs.Prelude.{ℕ, ◌≡◌, ◌+◌, Bool, true, is_some, List, [], ◌∷◌, length, Option, None}
 use Rattle.ufs_file.specs.Hand.{IsEntryOf}
 use Rattle.ufs_held.specs.Asking.{IsSyncReply}
 use Rattle.ufs_held.specs.Stopping.{ExcusesByStop, StopsByReply}
@@ -29,7 +29,7 @@ pub record IsAllSynced (visible : Bool) (before after : Option View) (old new : 
   -- the files are in their order still
   pub numbers : numbers_in nows ≡ numbers_in olds
   pub telling : is_some after ≡ is_some before
-  pub halts : StopsByReply before after told.entry.reply
+  pub halts : StopsByReply before after (1 + length olds) (1 + length olds) told.entry.reply
   pub halted : ExcusesByStop before told.entry.reply
   pub desc : told.desc ≡ None
   pub owner : told.owner ≡ None

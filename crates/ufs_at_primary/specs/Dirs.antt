@@ -23,7 +23,7 @@ pub record IsDirSynced (visible : Bool) (before after : Option View) (old new : 
   pub kept : is_excused r ≡ true → new ≡ old
   pub free : AreTold before after (λ had has. has ≡ had)
   pub telling : is_some after ≡ is_some before
-  pub halts : StopsByReply before after r
+  pub halts : StopsByReply before after 1 1 r
   pub halted : ExcusesByStop before r
 
 -- The client has no such descriptor: it is refused, and all is as it was.

@@ -33,7 +33,7 @@ pub record IsSyncedHere (visible : Bool) (before after : Option View) (old new :
   pub freed : entry.reply ≡ reply.Done → AreTold before after (λ had has. has ≡ set.union had (set_of c.value.dropped))
   pub unfreed : is_excused entry.reply ≡ true → AreTold before after (λ had has. has ≡ had)
   pub telling : is_some after ≡ is_some before
-  pub halts : StopsByReply before after entry.reply
+  pub halts : StopsByReply before after 2 2 entry.reply
   pub halted : ExcusesByStop before entry.reply
   pub same_pool : behind ≡ pool
   pub same_desc : desc ≡ ask.desc

@@ -1,5 +1,5 @@
 -- A stop of the store, through the turns of a request and its answer.
-use Rattle.std.proofs.Common.{◌≡◌, ℕ, List, [], ◌∷◌, true, false, is_some, Option, Some, None, Result, Ok, Err, subst, ap, sym, refl, ◌∙◌}
+use Rattle.std.proofs.Common.{◌≡◌, ◌+◌, ℕ, List, [], ◌∷◌, true, false, is_some, Option, Some, None, Result, Ok, Err, subst, ap, sym, refl, ◌∙◌}
 use Rattle.ufs_joint.specs.Cells.{View}
 use Rattle.ufs_model.specs.declared.data.Excuse.{Excuse}
 use Rattle.ufs_model.specs.declared.data.Excuse.TheVariants as excuse
@@ -8,8 +8,9 @@ use Rattle.ufs_model.specs.declared.data.Reply.TheVariants as reply
 use Rattle.ufs_store.specs.Refusals.{stop_after}
 use Rattle.ufs_store.specs.declared.fault.StoreFault.{StoreFault}
 use Rattle.ufs_store.specs.declared.fault.StoreFault.TheVariants as refusal
-use Rattle.ufs_turns.specs.Lent.{StopsByFault, TellsStop, TellsWhere, stop_in}
+use Rattle.ufs_turns.specs.Lent.{Runs, StopsByFault, TellsStop, TellsWhere, stop_in}
 use Rattle.ufs_turns.specs.Told.{fault_told, told_list}
+use Rattle.ufs_turns.proofs.Runs.{runs_twice}
 use Rattle.ufs_held.specs.Asking.{faults_of}
 use Rattle.ufs_held.specs.Stopping.{ExcusesByStop, StopsByReply, fault_by}
 
@@ -43,8 +44,8 @@ pub failed_halted : (A : Type 0) (tells : Option View) (q : Result A StoreFault)
 failed_halted A None q e x r failed halted same is = tt
 failed_halted A (Some v) q e x r failed halted same is = λ fault stop. is ∙ ap reply.Excused (same fault (ap (err_or e) (sym failed ∙ halted fault stop)))
 
-pub done_stops : (tells told : Option View) (r : Reply) → r ≡ reply.Done → StopsByFault tells told None → StopsByReply tells told r
-done_stops tells told r is stops = subst (λ (q : Reply). StopsByReply tells told q) (sym is) (None, refl, stops)
+pub done_stops : (tells told : Option View) (epochs commits : ℕ) (r : Reply) → r ≡ reply.Done → StopsByFault tells told None → Runs tells told None epochs commits → StopsByReply tells told epochs commits r
+done_stops tells told epochs commits r is stops ran = subst (λ (q : Reply). StopsByReply tells told epochs commits q) (sym is) (None, refl, stops, ran)
 
 abbrev first_in : List ℕ → Option ℕ
 first_in [] = None
@@ -63,9 +64,9 @@ first_fault excuse.Inodes = refl
 first_fault (excuse.Extents need) = refl
 
 -- an excuse uses the fault that its turn told
-pub failed_stops : (tells told : Option View) (r : Reply) (x : Excuse) (fault : Option ℕ) → r ≡ reply.Excused x → told_list (fault_told fault) ≡ faults_of x → StopsByFault tells told fault → StopsByReply tells told r
-failed_stops tells told r x fault is used stops =
-    subst (λ (q : Reply). StopsByReply tells told q) (sym is) (fault, sym (first_told (fault_told fault)) ∙ ap first_in used ∙ first_fault x, stops)
+pub failed_stops : (tells told : Option View) (epochs commits : ℕ) (r : Reply) (x : Excuse) (fault : Option ℕ) → r ≡ reply.Excused x → told_list (fault_told fault) ≡ faults_of x → StopsByFault tells told fault → Runs tells told fault epochs commits → StopsByReply tells told epochs commits r
+failed_stops tells told epochs commits r x fault is used stops ran =
+    subst (λ (q : Reply). StopsByReply tells told epochs commits q) (sym is) (fault, sym (first_told (fault_told fault)) ∙ ap first_in used ∙ first_fault x, stops, ran)
 
 -- ---- two turns, of which the first passed
 
@@ -88,5 +89,5 @@ stops_twice (Some v) None has told telling first second = (let clash : false ≡
 stops_twice (Some v) (Some u) None told telling first second = tt
 stops_twice (Some v) (Some u) (Some w) told telling first second = second ∙ ap (λ (s : Option ℕ). stop_after s told) first ∙ after_none (stop_in v.store) told
 
-pub reply_twice : (had mid has : Option View) (r : Reply) → is_some mid ≡ is_some had → StopsByFault had mid None → StopsByReply mid has r → StopsByReply had has r
-reply_twice had mid has r telling first second = (second.0, second.1, stops_twice had mid has second.0 telling first second.2)
+pub reply_twice : (had mid has : Option View) (a b c d : ℕ) (r : Reply) → is_some mid ≡ is_some had → StopsByFault had mid None → Runs had mid None a b → StopsByReply mid has c d r → StopsByReply had has (a + c) (b + d) r
+reply_twice had mid has a b c d r telling first ran second = (second.0, second.1, stops_twice had mid has second.0 telling first second.2, runs_twice had mid has second.0 a b c d telling ran second.3)

@@ -4,7 +4,7 @@ use Rattle.ufs_joint.specs.Cells.{View}
 use Rattle.ufs_model.specs.declared.data.Excuse.TheVariants as excuse
 use Rattle.ufs_model.specs.declared.data.Reply.{Reply}
 use Rattle.ufs_model.specs.declared.data.Reply.TheVariants as reply
-use Rattle.ufs_turns.specs.Lent.{StopsByFault, stop_in}
+use Rattle.ufs_turns.specs.Lent.{Runs, StopsByFault, stop_in}
 use Rattle.ufs_turns.specs.Told.{fault_told}
 
 -- A request that came once the store had stopped is excused by just that stop, where the store's cell is told.
@@ -18,6 +18,7 @@ fault_by (reply.Excused (excuse.Device fault)) = Some fault
 fault_by _ = None
 
 -- Behind a request that is answered so, the store has stopped where it had before, or at the fault by which a turn of the request failed.
--- The answer tells that fault, but for the last number of the disk's count, which is no fault's.
-abbrev pub StopsByReply : Option View → Option View → Reply → Type 0
-StopsByReply tells told r = (fault : Option ℕ) × (fault_told fault ≡ fault_by r) × StopsByFault tells told fault
+-- The answer tells that fault, but for the last number of the disk's count, which is no fault's. The count went on by that fault alone, and
+-- the store's epoch and next commit number by no more than these.
+abbrev pub StopsByReply : Option View → Option View → (epochs commits : ℕ) → Reply → Type 0
+StopsByReply tells told epochs commits r = (fault : Option ℕ) × (fault_told fault ≡ fault_by r) × StopsByFault tells told fault × Runs tells told fault epochs commits

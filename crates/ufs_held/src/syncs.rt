@@ -59,7 +59,7 @@ pub(crate) fn sync_lent<N: Naming, T: Turns<N>>(
     ensures freed { result.entry.reply ≡ reply.Done → AreTold (T.tells door.old) (T.tells door.new) (λ had has. has ≡ set.union had (set_of commits.old.dropped)) }
     ensures unfreed { is_excused result.entry.reply ≡ true → AreTold (T.tells door.old) (T.tells door.new) (λ had has. has ≡ had) }
     ensures telling { is_some (T.tells door.new) ≡ is_some (T.tells door.old) }
-    ensures halts { StopsByReply (T.tells door.old) (T.tells door.new) result.entry.reply }
+    ensures halts { StopsByReply (T.tells door.old) (T.tells door.new) 1 1 result.entry.reply }
     ensures halted { ExcusesByStop (T.tells door.old) result.entry.reply }
     ensures later { guest.seen ≤ result.entry.ticket }
     ensures seen { result.guest.seen ≡ suc result.entry.ticket }

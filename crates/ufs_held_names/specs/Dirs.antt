@@ -89,7 +89,7 @@ pub record HasSyncedDir (visible : Bool) (ask : Ask) (by : Actor) (old new : Nam
   pub stop : (fault : ℕ) → e.reply ≡ reply.Excused (excuse.Stopped fault) → back.stop ≡ Some fault
   pub free : AreTold tells told (λ had has. has ≡ had)
   pub telling : is_some told ≡ is_some tells
-  pub halts : StopsByReply tells told e.reply
+  pub halts : StopsByReply tells told 1 1 e.reply
   pub halted : ExcusesByStop tells e.reply
   pub later : before.seen ≤ e.ticket
   pub seen : back.seen ≡ suc e.ticket

@@ -1,5 +1,5 @@
 -- A `sync`: the names are committed, and then each file, and it is acknowledged or excused.
-use Rattle.std.specs.Prelude.{ℕ, zero, suc, ◌≡◌, ◌≤◌, ◌<◌, ◌++◌, ◌⊎◌, eqb, Bool, true, IsSome, List, [], ◌∷◌, length, is_some, Option, Some}
+use Rattle.std.specs.Prelude.{ℕ, zero, suc, ◌≡◌, ◌≤◌, ◌<◌, ◌+◌, ◌++◌, ◌⊎◌, eqb, Bool, true, IsSome, List, [], ◌∷◌, length, is_some, Option, Some}
 use Rattle.std.specs.FinMap as fin
 use Rattle.std.specs.FinSet as set
 use Rattle.ufs_bitmap.specs.Blocks.{BlockSet}
@@ -93,7 +93,7 @@ pub record HasSyncedAll (visible : Bool) (ask : Ask) (by : Actor) (old new : Nam
   pub faults : back.faults ≡ before.faults
   pub stop : (fault : ℕ) → e.reply ≡ reply.Excused (excuse.Stopped fault) → back.stop ≡ Some fault
   pub telling : is_some told ≡ is_some tells
-  pub halts : StopsByReply tells told e.reply
+  pub halts : StopsByReply tells told (1 + length olds) (1 + length olds) e.reply
   pub halted : ExcusesByStop tells e.reply
   pub later : before.seen ≤ e.ticket
   pub seen : back.seen ≡ suc e.ticket

@@ -52,7 +52,7 @@ pub record HasTried (visible : Bool) (ask : Ask) (by : Actor) (tells told : Opti
   pub freed : e.reply ≡ reply.Done → AreTold tells told (λ had has. has ≡ set.union had (set_of was.value.dropped))
   pub unfreed : is_excused e.reply ≡ true → AreTold tells told (λ had has. has ≡ had)
   pub telling : is_some told ≡ is_some tells
-  pub halts : StopsByReply tells told e.reply
+  pub halts : StopsByReply tells told 1 1 e.reply
   pub later : before.seen ≤ e.ticket
   pub seen : back.seen ≡ suc e.ticket
 
@@ -74,7 +74,7 @@ pub record HasSynced (visible : Bool) (ask : Ask) (by : Actor) (old new : NamesC
   pub freed : e.reply ≡ reply.Done → AreTold tells told (λ had has. has ≡ set.union had (set_of was.value.dropped))
   pub unfreed : is_excused e.reply ≡ true → AreTold tells told (λ had has. has ≡ had)
   pub telling : is_some told ≡ is_some tells
-  pub halts : StopsByReply tells told e.reply
+  pub halts : StopsByReply tells told 2 2 e.reply
   pub halted : ExcusesByStop tells e.reply
   pub later : before.seen ≤ e.ticket
   pub seen : back.seen ≡ suc e.ticket

@@ -304,7 +304,7 @@ impl<N: Naming> HeldNames<N> {
         ensures freed { result.entry.reply ≡ reply.Done → AreTold (T.tells door.old) (T.tells door.new) (λ had has. has ≡ set.union had (set_of file.value.dropped)) }
         ensures unfreed { is_excused result.entry.reply ≡ true → AreTold (T.tells door.old) (T.tells door.new) (λ had has. has ≡ had) }
         ensures telling { is_some (T.tells door.new) ≡ is_some (T.tells door.old) }
-        ensures halts { StopsByReply (T.tells door.old) (T.tells door.new) result.entry.reply }
+        ensures halts { StopsByReply (T.tells door.old) (T.tells door.new) 2 2 result.entry.reply }
         ensures halted { ExcusesByStop (T.tells door.old) result.entry.reply }
         ensures later { guest.seen ≤ result.entry.ticket }
         ensures seen { result.guest.seen ≡ suc result.entry.ticket }
@@ -341,7 +341,7 @@ impl<N: Naming> HeldNames<N> {
         ensures stop { (fault : ℕ) → result.entry.reply ≡ reply.Excused (excuse.Stopped fault) → result.guest.stop ≡ Some fault }
         ensures free { AreTold (T.tells door.old) (T.tells door.new) (λ had has. has ≡ had) }
         ensures telling { is_some (T.tells door.new) ≡ is_some (T.tells door.old) }
-        ensures halts { StopsByReply (T.tells door.old) (T.tells door.new) result.entry.reply }
+        ensures halts { StopsByReply (T.tells door.old) (T.tells door.new) 1 1 result.entry.reply }
         ensures halted { ExcusesByStop (T.tells door.old) result.entry.reply }
         ensures later { guest.seen ≤ result.entry.ticket }
         ensures seen { result.guest.seen ≡ suc result.entry.ticket }
@@ -420,7 +420,7 @@ impl<N: Naming> HeldNames<N> {
         ensures faults { result.guest.faults ≡ guest.faults }
         ensures stop { (fault : ℕ) → result.entry.reply ≡ reply.Excused (excuse.Stopped fault) → result.guest.stop ≡ Some fault }
         ensures telling { is_some (T.tells door.new) ≡ is_some (T.tells door.old) }
-        ensures halts { StopsByReply (T.tells door.old) (T.tells door.new) result.entry.reply }
+        ensures halts { StopsByReply (T.tells door.old) (T.tells door.new) (1 + length files.old) (1 + length files.old) result.entry.reply }
         ensures halted { ExcusesByStop (T.tells door.old) result.entry.reply }
         ensures later { guest.seen ≤ result.entry.ticket }
         ensures seen { result.guest.seen ≡ suc result.entry.ticket }

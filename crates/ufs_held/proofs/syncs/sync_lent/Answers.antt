@@ -17,7 +17,7 @@ use Rattle.ufs_hand_laws.specs.Draws.{left_faults}
 use Rattle.ufs_hand_laws.specs.Parts.{ClientPart}
 use Rattle.ufs_store.specs.declared.fault.StoreFault.{StoreFault}
 use Rattle.ufs_store.specs.Refusals.{fault_in, fault_of}
-use Rattle.ufs_turns.specs.Lent.{StopsByFault}
+use Rattle.ufs_turns.specs.Lent.{Runs, StopsByFault}
 use Rattle.ufs_turns.specs.Told.{fault_told, told_list}
 use Rattle.ufs_held.specs.Asking.{Asks, IsGuest, IsSyncReply}
 use Rattle.ufs_held.specs.Drawn.{fresh_of}
@@ -160,7 +160,8 @@ pub returns-in-Ok-clause-halts : goal.returns-in-Ok-clause-halts
 returns-in-Ok-clause-halts g c =
     let tells = g.T.Turns.tells c.args.door.now in
     let told = g.T.Turns.tells c.sync_file.new.self in
-    done_stops tells told c.draw_reply-entry.result.reply c.draw_reply-entry.ensures.replied (subst (λ (q : Result ℕ StoreFault). StopsByFault tells told (fault_in q)) c.in-Ok.is c.sync_file.ensures.halts)
+    done_stops tells told 1 1 c.draw_reply-entry.result.reply c.draw_reply-entry.ensures.replied (subst (λ (q : Result ℕ StoreFault). StopsByFault tells told (fault_in q)) c.in-Ok.is c.sync_file.ensures.halts)
+    (subst (λ (q : Result ℕ StoreFault). Runs tells told (fault_in q) 1 1) c.in-Ok.is c.sync_file.ensures.ran)
 
 pub returns-in-Ok-clause-halted : goal.returns-in-Ok-clause-halted
 returns-in-Ok-clause-halted g c =
@@ -260,8 +261,9 @@ pub returns-in-Err-clause-halts : goal.returns-in-Err-clause-halts
 returns-in-Err-clause-halts g c =
     let tells = g.T.Turns.tells c.args.door.now in
     let told = g.T.Turns.tells c.sync_file.new.self in
-    failed_stops tells told c.serve_excused.result.entry.reply c.excuse_of-cause.result (fault_of c.in-Err.fault) c.serve_excused.ensures.replied c.excuse_of-cause.ensures.used
+    failed_stops tells told 1 1 c.serve_excused.result.entry.reply c.excuse_of-cause.result (fault_of c.in-Err.fault) c.serve_excused.ensures.replied c.excuse_of-cause.ensures.used
     (subst (λ (q : Result ℕ StoreFault). StopsByFault tells told (fault_in q)) c.in-Err.is c.sync_file.ensures.halts)
+    (subst (λ (q : Result ℕ StoreFault). Runs tells told (fault_in q) 1 1) c.in-Err.is c.sync_file.ensures.ran)
 
 pub returns-in-Err-clause-halted : goal.returns-in-Err-clause-halted
 returns-in-Err-clause-halted g c =

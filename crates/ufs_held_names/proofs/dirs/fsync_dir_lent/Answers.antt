@@ -7,7 +7,7 @@ use Rattle.ufs_model.specs.declared.data.Reply.{Reply}
 use Rattle.ufs_model.specs.declared.data.Reply.TheVariants as reply
 use Rattle.ufs_store.specs.Refusals.{fault_in, fault_of}
 use Rattle.ufs_store.specs.declared.fault.StoreFault.{StoreFault}
-use Rattle.ufs_turns.specs.Lent.{StopsByFault}
+use Rattle.ufs_turns.specs.Lent.{Runs, StopsByFault}
 use Rattle.ufs_turns.specs.Told.{fault_told, told_list}
 use Rattle.ufs_held.specs.Asking.{IsSyncReply}
 use Rattle.ufs_held.proofs.Excusing.{not_done, not_excused, one_excuse, told_alone}
@@ -51,7 +51,7 @@ returns-in-Ok-clause-synced g c =
       stop = λ fault is. absurd (not_done r (excuse.Stopped fault) is a.replied);
       free = m.free;
       telling = m.telling;
-      halts = done_stops tells told r a.replied (subst (λ (q : Result (Unit {0}) StoreFault). StopsByFault tells told (fault_in q)) c.in-Ok.is m.halts);
+      halts = done_stops tells told 1 1 r a.replied (subst (λ (q : Result (Unit {0}) StoreFault). StopsByFault tells told (fault_in q)) c.in-Ok.is m.halts) (subst (λ (q : Result (Unit {0}) StoreFault). Runs tells told (fault_in q) 1 1) c.in-Ok.is m.ran);
       halted = passed_going (Unit {0}) tells c.commit_lent.result tt r c.in-Ok.is m.halted;
       later = let p = m.beside.seen in let q = a.later in omega (arith, p, q);
       seen = a.seen;
@@ -93,7 +93,7 @@ returns-in-Err-clause-synced g c =
       stop = λ fault is. a.stop fault (m.stop fault (c.in-Err.is ∙ ap Err (e.stopped fault (one_excuse r cause (excuse.Stopped fault) a.replied is))));
       free = m.free;
       telling = m.telling;
-      halts = failed_stops tells told r cause (fault_of c.in-Err.fault) a.replied e.used (subst (λ (q : Result (Unit {0}) StoreFault). StopsByFault tells told (fault_in q)) c.in-Err.is m.halts);
+      halts = failed_stops tells told 1 1 r cause (fault_of c.in-Err.fault) a.replied e.used (subst (λ (q : Result (Unit {0}) StoreFault). StopsByFault tells told (fault_in q)) c.in-Err.is m.halts) (subst (λ (q : Result (Unit {0}) StoreFault). Runs tells told (fault_in q) 1 1) c.in-Err.is m.ran);
       halted = failed_halted (Unit {0}) tells c.commit_lent.result c.in-Err.fault cause r c.in-Err.is m.halted e.halted a.replied;
       later = let p = m.beside.seen in let q = a.later in omega (arith, p, q);
       seen = a.seen;

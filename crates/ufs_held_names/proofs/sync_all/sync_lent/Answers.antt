@@ -1,4 +1,4 @@
-use Rattle.std.proofs.Common.{◌≡◌, ◌≤◌, ◌++◌, ℕ, List, true, false, Err, Result, ap, refl, sym, subst, ◌∙◌, arith, length}
+use Rattle.std.proofs.Common.{◌≡◌, ◌≤◌, ◌+◌, ◌++◌, ℕ, List, true, false, Err, Result, ap, refl, sym, subst, ◌∙◌, arith, length}
 use Rattle.ufs_joint.specs.Cells.{FileCell, NamesCell}
 use Rattle.ufs_model.specs.History.{is_excused}
 use Rattle.ufs_model.specs.declared.data.Excuse.{Excuse}
@@ -7,7 +7,7 @@ use Rattle.ufs_model.specs.declared.data.Reply.{Reply}
 use Rattle.ufs_model.specs.declared.data.Reply.TheVariants as reply
 use Rattle.ufs_store.specs.Refusals.{fault_in, fault_of}
 use Rattle.ufs_store.specs.declared.fault.StoreFault.{StoreFault}
-use Rattle.ufs_turns.specs.Lent.{StopsByFault}
+use Rattle.ufs_turns.specs.Lent.{Runs, StopsByFault}
 use Rattle.ufs_turns.specs.Told.{fault_told, told_list}
 use Rattle.ufs_held.specs.Asking.{IsSyncReply}
 use Rattle.ufs_held.proofs.Excusing.{not_done, not_excused, one_excuse, told_alone}
@@ -72,7 +72,7 @@ returns-in-Ok-clause-synced g c =
       faults = a.done refl ∙ m.faults ∙ ap (λ (q : Result (Unit {0}) StoreFault). told_list (fault_told (fault_in q)) ++ c.args.guest.faults) c.in-Ok.is;
       stop = λ fault is. absurd (not_done r (excuse.Stopped fault) is a.replied);
       telling = m.telling;
-      halts = done_stops tells told r a.replied (subst (λ (q : Result (Unit {0}) StoreFault). StopsByFault tells told (fault_in q)) c.in-Ok.is m.halts);
+      halts = done_stops tells told (1 + length c.args.files.now) (1 + length c.args.files.now) r a.replied (subst (λ (q : Result (Unit {0}) StoreFault). StopsByFault tells told (fault_in q)) c.in-Ok.is m.halts) (subst (λ (q : Result (Unit {0}) StoreFault). Runs tells told (fault_in q) (1 + length c.args.files.now) (1 + length c.args.files.now)) c.in-Ok.is m.ran);
       halted = passed_going (Unit {0}) tells c.commit_all.result tt r c.in-Ok.is m.halted;
       later = let p = m.beside.seen in let q = a.later in omega (arith, p, q);
       seen = a.seen;
@@ -131,7 +131,7 @@ returns-in-Err-clause-synced g c =
           (m.faults ∙ ap (λ (q : Result (Unit {0}) StoreFault). told_list (fault_told (fault_in q)) ++ c.args.guest.faults) c.in-Err.is ∙ ap (λ (fs : List ℕ). fs ++ c.args.guest.faults) e.used);
       stop = λ fault is. a.stop fault (m.stop fault (c.in-Err.is ∙ ap Err (e.stopped fault (one_excuse r cause (excuse.Stopped fault) a.replied is))));
       telling = m.telling;
-      halts = failed_stops tells told r cause (fault_of c.in-Err.fault) a.replied e.used (subst (λ (q : Result (Unit {0}) StoreFault). StopsByFault tells told (fault_in q)) c.in-Err.is m.halts);
+      halts = failed_stops tells told (1 + length c.args.files.now) (1 + length c.args.files.now) r cause (fault_of c.in-Err.fault) a.replied e.used (subst (λ (q : Result (Unit {0}) StoreFault). StopsByFault tells told (fault_in q)) c.in-Err.is m.halts) (subst (λ (q : Result (Unit {0}) StoreFault). Runs tells told (fault_in q) (1 + length c.args.files.now) (1 + length c.args.files.now)) c.in-Err.is m.ran);
       halted = failed_halted (Unit {0}) tells c.commit_all.result c.in-Err.fault cause r c.in-Err.is m.halted e.halted a.replied;
       later = let p = m.beside.seen in let q = a.later in omega (arith, p, q);
       seen = a.seen;

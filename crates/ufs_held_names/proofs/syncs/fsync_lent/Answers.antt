@@ -11,7 +11,8 @@ use Rattle.ufs_model.specs.declared.data.Reply.{Reply}
 use Rattle.ufs_model.specs.declared.data.Reply.TheVariants as reply
 use Rattle.ufs_store.specs.Refusals.{fault_in, fault_of}
 use Rattle.ufs_store.specs.declared.fault.StoreFault.{StoreFault}
-use Rattle.ufs_turns.specs.Lent.{StopsByFault}
+use Rattle.ufs_turns.specs.Lent.{Runs, StopsByFault}
+use Rattle.ufs_turns.proofs.Runs.{runs_more}
 use Rattle.ufs_turns.specs.Told.{fault_told, told_list}
 use Rattle.ufs_held.specs.Asking.{IsGuest, IsSyncReply}
 use Rattle.ufs_held.proofs.Excusing.{not_done, one_excuse, told_alone}
@@ -66,7 +67,7 @@ returns-in-Ok-clause-synced g c =
       freed = λ is. told_twice (g.T.Turns.tells c.args.door.now) (g.T.Turns.tells c.commit_lent.new.door) (g.T.Turns.tells c.sync_born.new.door) (λ had has. has ≡ set.union had (set_of c.args.file.value.dropped)) m.telling m.free (t.freed is);
       unfreed = λ is. told_twice (g.T.Turns.tells c.args.door.now) (g.T.Turns.tells c.commit_lent.new.door) (g.T.Turns.tells c.sync_born.new.door) (λ had has. has ≡ had) m.telling m.free (t.unfreed is);
       telling = t.telling ∙ m.telling;
-      halts = reply_twice tells mid told c.sync_born.result.entry.reply m.telling (subst (λ (q : Result (Unit {0}) StoreFault). StopsByFault tells mid (fault_in q)) c.in-Ok.is m.halts) t.halts;
+      halts = reply_twice tells mid told 1 1 1 1 c.sync_born.result.entry.reply m.telling (subst (λ (q : Result (Unit {0}) StoreFault). StopsByFault tells mid (fault_in q)) c.in-Ok.is m.halts) (subst (λ (q : Result (Unit {0}) StoreFault). Runs tells mid (fault_in q) 1 1) c.in-Ok.is m.ran) t.halts;
       halted = passed_going (Unit {0}) tells c.commit_lent.result tt c.sync_born.result.entry.reply c.in-Ok.is m.halted;
       later = let a = m.beside.seen in let b = t.later in omega (arith, a, b);
       seen = t.seen;
@@ -118,7 +119,8 @@ returns-in-Err-clause-synced g c =
       freed = λ is. absurd (not_done r cause e.replied is);
       unfreed = λ is. m.free;
       telling = m.telling;
-      halts = failed_stops tells told r cause (fault_of c.in-Err.fault) e.replied x.used (subst (λ (q : Result (Unit {0}) StoreFault). StopsByFault tells told (fault_in q)) c.in-Err.is m.halts);
+      halts = failed_stops tells told 2 2 r cause (fault_of c.in-Err.fault) e.replied x.used (subst (λ (q : Result (Unit {0}) StoreFault). StopsByFault tells told (fault_in q)) c.in-Err.is m.halts)
+          (runs_more tells told (fault_of c.in-Err.fault) 1 1 2 2 (omega arith) (omega arith) (subst (λ (q : Result (Unit {0}) StoreFault). Runs tells told (fault_in q) 1 1) c.in-Err.is m.ran));
       halted = failed_halted (Unit {0}) tells c.commit_lent.result c.in-Err.fault cause r c.in-Err.is m.halted x.halted e.replied;
       later = let a = m.beside.seen in let b = e.later in omega (arith, a, b);
       seen = e.seen;
