@@ -46,7 +46,7 @@ use Rattle.ufs_joint.proofs.Takes.{fewer_before, fewer_names_before}
 use Rattle.ufs_turns.specs.HeldStore.{IsPassed, IsStoreIn, begun_in, begun_view, counted_in, state_in, states_in}
 use Rattle.ufs_gathered.specs.Ended.{AnswerAll, AnswerFirst, AreAllKnown, AreExplainedAlong, HasEnded, IsExplainedAtStamps}
 use Rattle.ufs_gathered.specs.Gathered.{AreHome, HasAllOf}
-use Rattle.ufs_gathered.proofs.Histories.{each_rises, its_own, none_there, same_history}
+use Rattle.ufs_gathered.proofs.Histories.{each_rises, each_within, its_own, none_there, same_history, some_there}
 use Rattle.ufs_gathered.proofs.Homes.{here_at, one_of}
 use Rattle.ufs_gathered.proofs.Joined.{in_numbered, numbered_in}
 use Rattle.ufs_gathered.proofs.Throughout.{more_along, once_along, past_along}
@@ -146,12 +146,14 @@ module _ (k : Start) (visible keeps : Bool) (names : NamesCell) (files : List Fi
           from = n;
           to = m;
           rises = drawn_since;
+          within = let a : length whole.history ≡ m = whole.all_drawn in omega (arith, a);
           each = λ i low high. subst (λ (x : Cells). IsExplainedState s.sectors whole.start (take i whole.history) x) (sym is) (e.now i low high);
         }
         by (inr p) = record {
           from = p.0.from;
           to = p.0.to;
           rises = each_rises was.past e.upto e.joined p.0 (inr p.1);
+          within = let a : length whole.history ≡ m = whole.all_drawn in let b : e.upto ≤ m = e.within in let c = each_within was.past e.upto e.joined p.0 (inr p.1) (some_there state p.0.states p.2) in omega (arith, a, b, c);
           each = λ i low high. e.past p.0 (inr p.1) i low high state p.2;
         }
 

@@ -4,7 +4,7 @@ use Rattle.ufs_model.specs.History.{IsLegalFrom, entries_of, goes_on}
 use Rattle.ufs_model.specs.PosixTree.{PosixTree}
 use Rattle.ufs_model.specs.declared.data.Entry.{Entry}
 use Rattle.ufs_hand_laws.specs.Owned.{Has}
-use Rattle.ufs_hand_laws.specs.Parts.{Stretch}
+use Rattle.ufs_hand_laws.specs.Parts.{Cells, Stretch}
 use Rattle.ufs_joint.specs.Sound.{AreJoined}
 
 -- ---- tickets are places
@@ -57,3 +57,18 @@ each_rises (x ∷ past) upto joined y (inr has) = by joined.1
     by : ((x.states ≡ []) × AreJoined past upto) ⊎ ((1 ≤ length x.states) × (x.to ≡ upto) × ((z : ℕ) × (x.from ≤ z) × (z ≤ upto) × AreJoined past z)) → y.from ≤ y.to
     by (inl h) = each_rises past upto h.1 y has
     by (inr h) = each_rises past h.2.0 h.2.3 y has
+
+-- one in which the disk passed a state ends no later than all of them
+pub each_within : (past : List Stretch) (upto : ℕ) → AreJoined past upto → (y : Stretch) → Has y past → 1 ≤ length y.states → y.to ≤ upto
+each_within [] upto joined y has some = absurd has
+each_within (x ∷ past) upto joined y has some = by joined.1 has
+  where
+    by : ((x.states ≡ []) × AreJoined past upto) ⊎ ((1 ≤ length x.states) × (x.to ≡ upto) × ((z : ℕ) × (x.from ≤ z) × (z ≤ upto) × AreJoined past z)) → (y ≡ x) ⊎ Has y past → y.to ≤ upto
+    by (inl h) (inl is) = (let none = ap (λ (w : Stretch). length w.states) is in let e = ap (length {A = Cells}) h.0 in absurd (omega (arith, none, e, some)))
+    by (inl h) (inr there) = each_within past upto h.1 y there some
+    by (inr h) (inl is) = (let same = ap (λ (w : Stretch). w.to) is in let e = h.1 in omega (arith, same, e))
+    by (inr h) (inr there) = (let l = each_within past h.2.0 h.2.3 y there some in let m = h.2.2 in omega (arith, l, m))
+
+pub some_there : {A : Type 0} (x : A) (xs : List A) → Has x xs → 1 ≤ length xs
+some_there x [] has = absurd has
+some_there x (y ∷ xs) has = omega arith

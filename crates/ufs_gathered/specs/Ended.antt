@@ -53,6 +53,7 @@ pub record IsExplainedAtStamps (sectors : ℕ) (start : PosixTree) (history : Li
   pub from : ℕ
   pub to : ℕ
   pub rises : from ≤ to
+  pub within : to ≤ length history
   pub each : (i : ℕ) → from ≤ i → i ≤ to → IsExplainedState sectors start (take i history) state
 
 -- The states, in the order of time: whatever a crash leaves of each is explained by the first entries, for each number of them from the
