@@ -119,6 +119,14 @@ impl<N: Naming> HeldFile<N> {
         (hand, commits, right)
     }
 
+    /// The right to its cell, without the file. Takes no memory.
+    pub fn into_hand(self) -> Hand<N>
+        ensures alone { HasFileAlone self result }
+        ensures calm { result.faults ≡ [] }
+    {
+        self.right
+    }
+
     /// Its number in the tree.
     pub fn number(&self) -> u32
         ensures { result ≡ self.now.value.file.file }
