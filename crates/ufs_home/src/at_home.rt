@@ -91,18 +91,8 @@ impl<N: Naming> AtHome<N> {
         ensures calm { result.faults ≡ [] }
     {
         match self.stage {
-            Stage::Held(held) => right_of(held),
+            Stage::Held(held) => held.into_hand(),
             Stage::Young(newborn) => newborn.into_hand(),
         }
     }
-}
-
-fn right_of<N: Naming>(held: HeldFile<N>) -> Hand<N>
-    ensures alone { HasFileAlone held result }
-    ensures calm { result.faults ≡ [] }
-{
-    let (value, commits, right) = held.into_parts();
-    drop(value);
-    drop(commits);
-    right
 }
