@@ -12,7 +12,7 @@ ghost use Rattle.ufs_damage.specs.Findings.{AreFindingsOf};
 ghost use Rattle.ufs_metadata.specs.Faults.{HasFaultCause, LacksMemory};
 ghost use Rattle.ufs_metadata.specs.Reading.{IsReadOnly};
 ghost use Rattle.ufs_overlay.specs.Seen.{HasAdded};
-ghost use Rattle.ufs_volume.specs.Volumes.{committed_in, folded_image, volume_in};
+ghost use Rattle.ufs_volume.specs.Volumes.{committed_in, folded_image, highest_number, volume_in};
 ghost use Rattle.ufs_opening.specs.Told.{TellsWhy};
 ghost use Rattle.ufs_load_image.specs.Loaded.{is_free_block};
 
@@ -77,6 +77,7 @@ pub fn load<D: Disk>(alloc: Global, disk: &mut D) -> Result<Loaded, RecoverFault
     ensures taken { IsTrue D.visible → IfOk result (λ l. volume (D.size disk.old) (reads (D.moments disk.old)) ≡ Ok (volume_in l.volume (reads (D.moments disk.old)))) }
     ensures added { IsTrue D.visible → IfOk result (λ l. HasAdded l.volume.overlay (committed_in l.volume (reads (D.moments disk.old)))) }
     ensures count { IsTrue D.visible → IfOk result (λ l. l.volume.committed ≡ length (committed_in l.volume (reads (D.moments disk.old)))) }
+    ensures highest { IsTrue D.visible → IfOk result (λ l. l.volume.highest ≡ highest_number (committed_in l.volume (reads (D.moments disk.old)))) }
     ensures found { IsTrue D.visible → IfOk result (λ l. AreFindingsOf l.volume.superblock.geometry (folded_image l.volume (reads (D.moments disk.old))) l.findings) }
     ensures forms { IsTrue D.visible → IfOk result (λ l. l.findings.forms ≡ map (λ inode. Some (form_at l.volume.superblock.geometry (folded_image l.volume (reads (D.moments disk.old))) inode)) (all_inodes l.volume.superblock.geometry)) }
     ensures catalog { IsTrue D.visible → IfOk result (λ l. IsCatalogOf l.volume.superblock.geometry (folded_image l.volume (reads (D.moments disk.old))) (catalog_at l.volume.superblock.geometry (folded_image l.volume (reads (D.moments disk.old))))) }
@@ -84,6 +85,9 @@ pub fn load<D: Disk>(alloc: Global, disk: &mut D) -> Result<Loaded, RecoverFault
     ensures first { IfOk result (λ l. l.free.first ≡ first_of_data l.volume.superblock.geometry) }
     ensures blocks { IfOk result (λ l. l.free.blocks ≡ l.volume.superblock.geometry.blocks) }
     ensures free { IsTrue D.visible → IfOk result (λ l. (b : ℕ) → set.contains l.free.free b ≡ is_free_block l.volume.superblock.geometry (folded_image l.volume (reads (D.moments disk.old))) b) }
+    ensures free_of { IfOk result (λ l. (image : Image) → AreFindingsOf l.volume.superblock.geometry image l.findings → (b : ℕ) → set.contains l.free.free b ≡ is_free_block l.volume.superblock.geometry image b) }
+    ensures counted { IfOk result (λ l. length l.findings.forms ≡ l.volume.superblock.geometry.inodes) }
+    ensures few { IfOk result (λ l. l.volume.committed ≤ l.volume.superblock.geometry.journal) }
     ensures large { IfOk result (λ l. sector_count l.volume.superblock.geometry ≤ D.size disk.old) }
     ensures refused { IsTrue D.visible → IfErr result (TellsWhy (D.size disk.old) (reads (D.moments disk.old))) }
     ensures read_only { IsTrue D.visible → IsReadOnly D.keeps (D.moments disk.old) (D.moments disk.new) }

@@ -48,7 +48,9 @@ pub fn open<D: Disk>(alloc: Global, disk: &mut D) -> Result<Opened, RecoverFault
     ensures highest { IsTrue D.visible → IfOk result (λ o. o.volume.highest ≡ highest_number (committed_in o.volume (reads (D.moments disk.old)))) }
     ensures found { IsTrue D.visible → IfOk result (λ o. AreFindingsOf o.volume.superblock.geometry (folded_image o.volume (reads (D.moments disk.old))) o.findings) }
     ensures whole { IsTrue D.visible → IfOk result (λ o. bad_tree o.volume.superblock.geometry (folded_image o.volume (reads (D.moments disk.old))) ≡ None) }
+    ensures undamaged { IfOk result (λ o. (image : Image) → AreFindingsOf o.volume.superblock.geometry image o.findings → bad_tree o.volume.superblock.geometry image ≡ None) }
     ensures counted { IfOk result (λ o. length o.findings.forms ≡ o.volume.superblock.geometry.inodes) }
+    ensures few { IfOk result (λ o. o.volume.committed ≤ o.volume.superblock.geometry.journal) }
     ensures large { IfOk result (λ o. sector_count o.volume.superblock.geometry ≤ D.size disk.old) }
     ensures refused { IsTrue D.visible → IfErr result (TellsWhy (D.size disk.old) (reads (D.moments disk.old))) }
     ensures read_only { IsTrue D.visible → IsReadOnly D.keeps (D.moments disk.old) (D.moments disk.new) }

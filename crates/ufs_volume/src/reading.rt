@@ -58,6 +58,7 @@ pub fn read_volume<D: Disk>(alloc: Global, disk: &mut D) -> Result<FoldedVolume,
     ensures added { IsTrue D.visible → IfOk result (λ v. HasAdded v.overlay (committed_in v (reads (D.moments disk.old)))) }
     ensures count { IsTrue D.visible → IfOk result (λ v. v.committed ≡ length (committed_in v (reads (D.moments disk.old)))) }
     ensures highest { IsTrue D.visible → IfOk result (λ v. v.highest ≡ highest_number (committed_in v (reads (D.moments disk.old)))) }
+    ensures few { IfOk result (λ v. v.committed ≤ v.superblock.geometry.journal) }
     ensures large { IfOk result (λ v. sector_count v.superblock.geometry ≤ D.size disk.old) }
     ensures refused { IsTrue D.visible → IfErr result (IsWhyNot (volume (D.size disk.old) (reads (D.moments disk.old)))) }
     ensures blames_none { IfErr result BlamesNone }

@@ -8,7 +8,7 @@ use Rattle.ufs_image.specs.Sound.{IsSoundCatalog}
 use Rattle.ufs_image.proofs.Holders.{inode_in}
 use Rattle.ufs_image.proofs.Journals.{map-same}
 use Rattle.ufs_damage.specs.Findings.{AreFindingsOf, CatalogRead}
-use Rattle.ufs_volume.specs.Volumes.{folded_image}
+use Rattle.ufs_volume.specs.Volumes.{committed_in, folded_image, highest_number}
 use Rattle.ufs_volume.specs.declared.volume.FoldedVolume.{FoldedVolume}
 use Rattle.ufs_load_image.specs.Loaded.{is_free_block}
 use Rattle.ufs_load_image.proofs.loading.load.Goals as goal
@@ -31,6 +31,18 @@ returns-in-Ok-clause-free g c visible b =
     let disk = reads (g.D.Disk.moments c.args.disk.now) in
     c.in-Ok.ensures.free (folded_image c.in_ok-opened.opened.volume disk) (c.in_ok-opened.ensures.found visible) b
     ∙ ap (λ (x : FoldedVolume). is_free_block x.superblock.geometry (folded_image x disk) b) (sym c.in-Ok.ensures.volume)
+
+pub returns-in-Ok-clause-free_of : goal.returns-in-Ok-clause-free_of
+returns-in-Ok-clause-free_of g c image found b =
+    let was : AreFindingsOf c.in_ok-opened.opened.volume.superblock.geometry image c.in_ok-opened.opened.findings =
+    subst (λ (x : FoldedVolume). AreFindingsOf x.superblock.geometry image c.in_ok-opened.opened.findings) c.in-Ok.ensures.volume
+    (subst (AreFindingsOf c.in-Ok.loaded.volume.superblock.geometry image) c.in-Ok.ensures.findings found) in
+    c.in-Ok.ensures.free image was b ∙ ap (λ (x : FoldedVolume). is_free_block x.superblock.geometry image b) (sym c.in-Ok.ensures.volume)
+
+pub returns-in-Ok-clause-highest : goal.returns-in-Ok-clause-highest
+returns-in-Ok-clause-highest g c visible =
+    let disk = reads (g.D.Disk.moments c.args.disk.now) in
+    subst (λ (x : FoldedVolume). x.highest ≡ highest_number (committed_in x disk)) (sym c.in-Ok.ensures.volume) (c.in_ok-opened.ensures.highest visible)
 
 pub returns-in-Ok-clause-forms : goal.returns-in-Ok-clause-forms
 returns-in-Ok-clause-forms g c visible =
