@@ -7,7 +7,7 @@ use Rattle.ufs_layout.specs.InodeForm.{InodeForm}
 use Rattle.ufs_layout.specs.Superblock.{geometry_of}
 use Rattle.ufs_layout.specs.declared.geometry.Geometry.{Geometry}
 use Rattle.ufs_layout.specs.declared.superblock.Super.{Super}
-use Rattle.ufs_metadata.specs.Faults.{LacksMemory}
+use Rattle.ufs_metadata.specs.Faults.{IsOutside, LacksMemory}
 use Rattle.ufs_metadata.specs.Lacks.{IsOfMemory, IsOfNumbers}
 use Rattle.ufs_metadata.specs.declared.fault.RecoverFault.{RecoverFault}
 use Rattle.ufs_metadata.specs.declared.fault.RecoverFault.TheVariants.{NoSuperblock, BadVersion, BadGeometry, BadRecord, BadTree, Device, Lack as lacks}
@@ -16,7 +16,7 @@ use Rattle.ufs_volume.specs.Volumes.{folded_image}
 use Rattle.ufs_volume.specs.declared.volume.FoldedVolume.{FoldedVolume}
 use Rattle.ufs_damage.specs.Findings.{CatalogRead}
 use Rattle.ufs_recovery.specs.Orphans.{AreNumbersBelow, IsLackOfPlan, LacksForPlan}
-use Rattle.ufs_recovery.specs.Recovered.{AreCommitsBelow, AreInodesBelow, IsLackOfRecovery, LacksForRecovery, log_of}
+use Rattle.ufs_recovery.specs.Recovered.{AreCommitsBelow, AreInodesBelow, IsAtEnd, IsLackOfRecovery, LacksForRecovery, LacksNumbers, log_of}
 use Rattle.ufs_recovery.proofs.Ends.{below_highest, folded_same, superblock_same}
 use Rattle.ufs_recovery.proofs.Planned.{numbers_below}
 use Rattle.ufs_recovery.proofs.Reread.{IsReadWhole}
@@ -87,3 +87,41 @@ module _ (sectors : ℕ) (image : Image) (v : FoldedVolume) (findings : CatalogR
   lacks_recovery (BadTree inode) lacked = tt
   lacks_recovery (Device fault) lacked = tt
   lacks_recovery (lacks why) lacked = of_plan why lacked
+
+-- ---- want of memory is no end of numbers
+
+pub not_at_end : {X : Type 0} (f : RecoverFault) → LacksMemory f → IsAtEnd f → X
+not_at_end NoSuperblock is at = absurd at
+not_at_end (BadVersion found) is at = absurd at
+not_at_end (BadGeometry number) is at = absurd at
+not_at_end (BadRecord sector) is at = absurd at
+not_at_end (BadTree inode) is at = absurd at
+not_at_end (Device fault) is at = absurd at
+not_at_end (lacks (Memory refused)) is at = absurd at
+not_at_end (lacks AtEnd) is at = absurd is
+not_at_end (lacks Unsound) is at = absurd is
+not_at_end (lacks Told) is at = absurd is
+
+numbers_of_memory : (w : Lack) → IsOfMemory w → IsOfNumbers w
+numbers_of_memory (Memory refused) is = tt
+numbers_of_memory AtEnd is = absurd is
+numbers_of_memory Unsound is = absurd is
+numbers_of_memory Told is = absurd is
+
+pub numbers_by_memory : (f : RecoverFault) → LacksMemory f → LacksNumbers f
+numbers_by_memory NoSuperblock is = tt
+numbers_by_memory (BadVersion found) is = tt
+numbers_by_memory (BadGeometry number) is = tt
+numbers_by_memory (BadRecord sector) is = tt
+numbers_by_memory (BadTree inode) is = tt
+numbers_by_memory (Device fault) is = tt
+numbers_by_memory (lacks why) is = numbers_of_memory why is
+
+pub numbers_by_outside : (f : RecoverFault) → IsOutside f → LacksNumbers f
+numbers_by_outside NoSuperblock is = tt
+numbers_by_outside (BadVersion found) is = tt
+numbers_by_outside (BadGeometry number) is = tt
+numbers_by_outside (BadRecord sector) is = tt
+numbers_by_outside (BadTree inode) is = tt
+numbers_by_outside (Device fault) is = tt
+numbers_by_outside (lacks why) is = is

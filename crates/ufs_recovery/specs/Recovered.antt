@@ -17,6 +17,7 @@ use Rattle.ufs_image.specs.Nodes.{blocks_of}
 use Rattle.ufs_image.specs.Proper.{IsProperImage}
 use Rattle.ufs_image.specs.Volume.{superblock_of, volume_of}
 use Rattle.ufs_model.specs.Excuses as excuses
+use Rattle.ufs_metadata.specs.Lacks.{IsOfNumbers}
 use Rattle.ufs_metadata.specs.declared.fault.RecoverFault.{RecoverFault}
 use Rattle.ufs_metadata.specs.declared.fault.RecoverFault.TheVariants as fault
 
@@ -83,3 +84,13 @@ pub record IsCleanDisk (sectors : ℕ) (state : State) : Type 0 where
   pub proper : IsProperDisk sectors state
   pub clean : (superblock_of (seen state)).clean ≡ true
   pub empty : log_of (seen state) ≡ []
+
+-- It is for want of a number.
+abbrev pub IsAtEnd : RecoverFault → Type 0
+IsAtEnd (fault.Lack AtEnd) = ⊤
+IsAtEnd _ = ⊥
+
+-- What it wants, if anything, is memory or a number.
+abbrev pub LacksNumbers : RecoverFault → Type 0
+LacksNumbers (fault.Lack why) = IsOfNumbers why
+LacksNumbers _ = ⊤

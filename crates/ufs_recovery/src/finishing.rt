@@ -1,6 +1,7 @@
 // A recovery from its plan to the end.
 ghost use Rattle.std.specs.Prelude.{ℕ, ◌≡◌, ◌≤◌, length, IsTrue, IfErr, OnOk};
 ghost use Rattle.ufs_metadata.specs.Faults.{HasFaultCause, IsOutside, LacksMemory};
+ghost use Rattle.ufs_metadata.specs.Reading.{IsReadOnly};
 ghost use Rattle.ufs_disk.specs.Disk.{IsSettled};
 ghost use Rattle.ufs_disk.specs.Moments.{reads};
 ghost use Rattle.ufs_layout.specs.Areas.{IsGeometry, sector_count};
@@ -8,6 +9,7 @@ ghost use Rattle.ufs_layout.specs.Superblock.{is_super};
 ghost use Rattle.ufs_recovery.specs.Finished.{HasFinished, IsWrittenBack, MayFinish, MayWriteBack};
 ghost use Rattle.ufs_recovery.specs.Home.{KeepsTree};
 ghost use Rattle.ufs_recovery.specs.Orphans.{LacksForPlan};
+ghost use Rattle.ufs_recovery.specs.Recovered.{IsAtEnd};
 ghost use Rattle.ufs_volume.specs.Volumes.{folded_image};
 
 use crate::faults::of_device;
@@ -71,6 +73,7 @@ pub(crate) fn write_back<D: Disk>(
     ensures passed { OnOk result (D.faults disk.new ≡ D.faults disk.old) }
     ensures cause { IfErr result (HasFaultCause (D.faults disk.old) (D.faults disk.new)) }
     ensures outside { IfErr result IsOutside }
+    ensures early { IsTrue D.visible → IfErr result (λ f. IsAtEnd f → IsReadOnly D.keeps (D.moments disk.old) (D.moments disk.new)) }
     ensures lack { IfErr result (LacksForPlan volume.now.superblock.superblock findings.now.forms volume.now.highest) }
 {
     let plan = make_plan(alloc, &volume.superblock, findings, volume.highest)?;

@@ -1,13 +1,14 @@
-ghost use Rattle.std.specs.Prelude.{ℕ, ◌≡◌, false, length, Ok, Err, IsTrue, IfOk, IfErr, OnOk};
-ghost use Rattle.ufs_metadata.specs.Faults.{HasFaultCause, IsOutside};
+ghost use Rattle.std.specs.Prelude.{ℕ, ◌≡◌, ◌≤◌, false, length, Ok, Err, IsTrue, IfOk, IfErr, OnOk};
+ghost use Rattle.ufs_metadata.specs.Faults.{HasFaultCause, IsOutside, LacksMemory};
 ghost use Rattle.ufs_metadata.specs.Reading.{IsReadOnly};
 ghost use Rattle.ufs_disk.specs.Moments.{reads};
+ghost use Rattle.ufs_layout.specs.declared.geometry.TheConstants.{MAX_JOURNAL};
 ghost use Rattle.ufs_image.specs.Opens.{ImageTree, opens};
 ghost use Rattle.ufs_image.specs.Proper.{IsProperImage};
 ghost use Rattle.ufs_image.specs.Volume.{Refusal, superblock_of};
 ghost use Rattle.ufs_opening.specs.Told.{TellsWhy};
 ghost use Rattle.ufs_recovery.specs.Home.{KeepsTree};
-ghost use Rattle.ufs_recovery.specs.Recovered.{IsCleanDisk, IsProperDisk, IsRecovered, LacksForRecovery, log_of};
+ghost use Rattle.ufs_recovery.specs.Recovered.{IsAtEnd, IsCleanDisk, IsProperDisk, IsRecovered, LacksForRecovery, LacksNumbers, log_of};
 
 use crate::finishing::write_back;
 use std::alloc::Global;
@@ -21,9 +22,10 @@ use ufs_opening::open;
 /// differ are written, and the image is marked clean. Whatever stops it, the image stands for the same tree and may be
 /// recovered again. Reads what `open` reads, and the bitmap; where inodes are freed, the inode table and the directories
 /// are read once more, and so where files are cut. A fault of the disk ends it. Where the epochs or the commit numbers
-/// end, it is refused (`Lack(AtEnd)`), and nowhere else for want of a number.
+/// end, an image in use is refused (`Lack(AtEnd)`) before anything is written, and nowhere else for want of a number.
 pub fn recover<D: Disk>(alloc: Global, disk: &mut D) -> Result<u32, RecoverFault>
     ensures found { IsTrue D.visible → IfOk result (λ count. count ≡ length (log_of (reads (D.moments disk.old)))) }
+    ensures few { IfOk result (λ count. count ≤ MAX_JOURNAL) }
     ensures clean { IsTrue D.visible → OnOk result (IsProperDisk (D.size disk.old) (D.moments disk.old).state → IsCleanDisk (D.size disk.old) (D.moments disk.new).state) }
 
     // At each moment, also of a call that is refused, whatever a crash leaves opens to the same tree and is proper.
@@ -34,6 +36,9 @@ pub fn recover<D: Disk>(alloc: Global, disk: &mut D) -> Result<u32, RecoverFault
     ensures unopened { IsTrue D.visible → (refusal : Refusal) → opens (D.size disk.old) (reads (D.moments disk.old)) ≡ Err refusal → IsReadOnly D.keeps (D.moments disk.old) (D.moments disk.new) }
     ensures refused { IsTrue D.visible → IfErr result (TellsWhy (D.size disk.old) (reads (D.moments disk.old))) }
     ensures outside { IsTrue D.visible → IsProperImage (D.size disk.old) (reads (D.moments disk.old)) → IfErr result IsOutside }
+    ensures unasked { IsTrue D.visible → IsTrue (superblock_of (reads (D.moments disk.old))).clean → IfErr result LacksMemory }
+    ensures early { IsTrue D.visible → IfErr result (λ f. IsAtEnd f → IsReadOnly D.keeps (D.moments disk.old) (D.moments disk.new)) }
+    ensures numbers { IfErr result LacksNumbers }
     ensures lack { IsTrue D.visible → IfErr result (LacksForRecovery (reads (D.moments disk.old))) }
     ensures size { D.size disk.new ≡ D.size disk.old }
     ensures passed { OnOk result (D.faults disk.new ≡ D.faults disk.old) }

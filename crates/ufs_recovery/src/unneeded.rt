@@ -7,7 +7,7 @@ ghost use Rattle.ufs_image.specs.Proper.{IsProperImage};
 ghost use Rattle.ufs_image.specs.Volume.{Refusal};
 ghost use Rattle.ufs_opening.specs.Told.{TellsWhy};
 ghost use Rattle.ufs_recovery.specs.Home.{KeepsTree};
-ghost use Rattle.ufs_recovery.specs.Recovered.{IsCleanDisk, IsProperDisk, IsRecovered, LacksForRecovery};
+ghost use Rattle.ufs_recovery.specs.Recovered.{IsAtEnd, IsCleanDisk, IsProperDisk, IsRecovered, LacksForRecovery, LacksNumbers};
 
 use crate::finishing::write_back;
 use std::alloc::Global;
@@ -19,7 +19,7 @@ use ufs_opening::open;
 /// and leaves it clean: by the steps of `recover` on an image in use. Neither a session nor a recovery leaves these on a clean
 /// image, but others may. Whatever stops it, the image stands for the same tree. Reads what `open` reads, and the bitmap; where
 /// anything is freed, the inode table and the directories are read once more. A fault of the disk ends it. Where the epochs or
-/// the commit numbers end, it is refused (`Lack(AtEnd)`), and nowhere else for want of a number.
+/// the commit numbers end, it is refused (`Lack(AtEnd)`) before anything is written, and nowhere else for want of a number.
 pub fn free_unneeded<D: Disk>(alloc: Global, disk: &mut D) -> Result<(), RecoverFault>
     ensures clean { IsTrue D.visible → OnOk result (IsProperDisk (D.size disk.old) (D.moments disk.old).state → IsCleanDisk (D.size disk.old) (D.moments disk.new).state) }
 
@@ -30,6 +30,8 @@ pub fn free_unneeded<D: Disk>(alloc: Global, disk: &mut D) -> Result<(), Recover
     ensures unopened { IsTrue D.visible → (refusal : Refusal) → opens (D.size disk.old) (reads (D.moments disk.old)) ≡ Err refusal → IsReadOnly D.keeps (D.moments disk.old) (D.moments disk.new) }
     ensures refused { IsTrue D.visible → IfErr result (TellsWhy (D.size disk.old) (reads (D.moments disk.old))) }
     ensures outside { IsTrue D.visible → IsProperImage (D.size disk.old) (reads (D.moments disk.old)) → IfErr result IsOutside }
+    ensures early { IsTrue D.visible → IfErr result (λ f. IsAtEnd f → IsReadOnly D.keeps (D.moments disk.old) (D.moments disk.new)) }
+    ensures numbers { IfErr result LacksNumbers }
     ensures lack { IsTrue D.visible → IfErr result (LacksForRecovery (reads (D.moments disk.old))) }
     ensures size { D.size disk.new ≡ D.size disk.old }
     ensures passed { OnOk result (D.faults disk.new ≡ D.faults disk.old) }

@@ -9,8 +9,11 @@ use Rattle.ufs_recovery.specs.Home.{HasBegun, KeepsTree}
 use Rattle.ufs_recovery.specs.Orphans.{LacksForPlan}
 use Rattle.ufs_recovery.proofs.Done.{was_done}
 use Rattle.ufs_recovery.proofs.Finished.{is_written, may_finish, may_follow, over}
-use Rattle.ufs_recovery.proofs.PlanLacks.{memory_for_plan, of_numbers}
+use Rattle.ufs_recovery.proofs.PlanLacks.{memory_for_plan, not_at_end, of_numbers}
 use Rattle.ufs_recovery.proofs.SuperblockPut.{kept_on, still_opens}
+use Rattle.ufs_metadata.specs.Reading.{IsReadOnly}
+use Rattle.ufs_metadata.proofs.Quiet.{read_none}
+use Rattle.ufs_recovery.specs.Recovered.{IsAtEnd}
 use Rattle.ufs_recovery.proofs.finishing.write_back.Goals as goal
 
 pub returns-in_err-plan-clause-outside : goal.returns-in_err-plan-clause-outside
@@ -81,3 +84,17 @@ pub returns-clause-lack : goal.returns-clause-lack
 returns-clause-lack g c =
     let lacks = LacksForPlan c.args.volume.now.superblock.superblock c.args.findings.now.forms c.args.volume.now.highest in
     IfErr-weaker c.finish.result LacksMemory lacks (memory_for_plan c.args.volume.now.superblock.superblock c.args.findings.now.forms c.args.volume.now.highest) c.finish.ensures.memory
+
+pub returns-in_err-plan-clause-early : goal.returns-in_err-plan-clause-early
+returns-in_err-plan-clause-early g c visible =
+    let p = err_from_is_err_and c.from_residual.result c.from_residual.ensures.1 in
+    rw (p.1) (λ at. read_none g.D.Disk.keeps (g.D.Disk.moments c.args.disk.now))
+
+pub returns-in_err-of_device-clause-early : goal.returns-in_err-of_device-clause-early
+returns-in_err-of_device-clause-early g c visible =
+    let p = err_from_is_err_and c.from_residual-in_err-of_device.result c.from_residual-in_err-of_device.ensures.1 in
+    rw (p.1, p.2) (not_at_end _ c.in_err-of_device.ensures.memory)
+
+pub returns-clause-early : goal.returns-clause-early
+returns-clause-early g c visible =
+    IfErr-weaker c.finish.result LacksMemory (λ f. IsAtEnd f → IsReadOnly g.D.Disk.keeps (g.D.Disk.moments c.args.disk.now) (g.D.Disk.moments c.finish.new.disk)) (λ f is. not_at_end f is) c.finish.ensures.memory

@@ -7,9 +7,10 @@ use Rattle.ufs_image.specs.Volume.{superblock_of}
 use Rattle.ufs_layout.specs.declared.records.Committed.{Committed}
 use Rattle.ufs_layout.specs.declared.superblock.Super.{Super}
 use Rattle.ufs_recovery.proofs.Ends.{superblock_same, log_same, none_in_clean, only_outside, opens_not, opens_there}
-use Rattle.ufs_recovery.proofs.PlanLacks.{lacks_recovery, memory_for_recovery}
+use Rattle.ufs_recovery.proofs.PlanLacks.{lacks_recovery, memory_for_recovery, not_at_end, numbers_by_memory, numbers_by_outside}
 use Rattle.ufs_recovery.proofs.Reread.{IsReadWhole, clean_behind, kept_behind, recovered_behind}
 use Rattle.ufs_recovery.proofs.SuperblockPut.{keeps_settled, still_settled}
+use Rattle.ufs_metadata.proofs.Quiet.{read_more}
 use Rattle.ufs_recovery.proofs.recovery.recover.Goals as goal
 
 pub returns-in_err-opened-clause-tree : goal.returns-in_err-opened-clause-tree
@@ -119,3 +120,25 @@ returns-clause-lack g c visible =
     let is : IsReadWhole (g.D.Disk.size c.args.disk.now) (reads (g.D.Disk.moments c.args.disk.now)) c.in_ok-opened.opened.volume c.in_ok-opened.opened.findings =
     record { taken = here.taken visible; added = here.added visible; highest = here.highest visible; found = here.found visible; whole = here.whole visible } in
     lacks_recovery (g.D.Disk.size c.args.disk.now) (reads (g.D.Disk.moments c.args.disk.now)) c.in_ok-opened.opened.volume c.in_ok-opened.opened.findings is c.in-Err.fault c.in-Err.ensures.lack
+
+pub returns-clause-unasked : goal.returns-clause-unasked
+returns-clause-unasked g c visible clean =
+    let isnt : false ≡ true = sym c.if-opened.false ∙ ap (λ (h : Super). h.clean) (superblock_same (g.D.Disk.size c.args.disk.now) (reads (g.D.Disk.moments c.args.disk.now)) c.in_ok-opened.opened.volume (c.in_ok-opened.ensures.taken visible)) ∙ clean in
+    absurd (grind (arith, isnt))
+
+pub returns-in_err-opened-clause-early : goal.returns-in_err-opened-clause-early
+returns-in_err-opened-clause-early g c visible =
+    let p = err_from_is_err_and c.from_residual.result c.from_residual.ensures.1 in
+    rw (p.1, p.2) (not_at_end c.in_err-opened.field-0.0 c.in_err-opened.ensures.memory)
+
+pub returns-clause-early : goal.returns-clause-early
+returns-clause-early g c visible at =
+    read_more g.D.Disk.keeps (g.D.Disk.moments c.args.disk.now) (g.D.Disk.moments c.open.new.disk) (g.D.Disk.moments c.write_back.new.disk) (c.open.ensures.read_only visible) (c.in-Err.ensures.early visible at)
+
+pub returns-in_err-opened-clause-numbers : goal.returns-in_err-opened-clause-numbers
+returns-in_err-opened-clause-numbers g c =
+    let p = err_from_is_err_and c.from_residual.result c.from_residual.ensures.1 in
+    rw (p.1, p.2) (numbers_by_memory c.in_err-opened.field-0.0 c.in_err-opened.ensures.memory)
+
+pub returns-clause-numbers : goal.returns-clause-numbers
+returns-clause-numbers g c = numbers_by_outside c.in-Err.fault c.in-Err.ensures.outside

@@ -3,10 +3,14 @@ use Rattle.ufs_disk.specs.Moments.{reads}
 use Rattle.ufs_recovery.specs.Orphans.{LacksForPlan}
 use Rattle.ufs_recovery.specs.Recovered.{LacksForRecovery}
 use Rattle.ufs_recovery.proofs.Ends.{only_outside, opens_there}
-use Rattle.ufs_recovery.proofs.PlanLacks.{lacks_recovery, memory_for_recovery}
+use Rattle.ufs_recovery.proofs.PlanLacks.{lacks_recovery, memory_for_recovery, not_at_end, numbers_by_memory, numbers_by_outside}
 use Rattle.ufs_recovery.proofs.Phases.{always_ok, on_ok_both}
 use Rattle.ufs_recovery.proofs.Reread.{IsReadWhole, clean_behind, kept_behind, recovered_behind}
 use Rattle.ufs_recovery.proofs.SuperblockPut.{keeps_settled}
+use Rattle.ufs_metadata.specs.Faults.{IsOutside}
+use Rattle.ufs_metadata.specs.Reading.{IsReadOnly}
+use Rattle.ufs_metadata.proofs.Quiet.{read_more}
+use Rattle.ufs_recovery.specs.Recovered.{IsAtEnd, LacksNumbers}
 use Rattle.ufs_recovery.proofs.unneeded.free_unneeded.Goals as goal
 
 pub returns-in_err-opened-clause-tree : goal.returns-in_err-opened-clause-tree
@@ -57,3 +61,25 @@ returns-clause-lack g c visible =
     let f = c.in_ok-opened.opened.findings in
     let is : IsReadWhole (g.D.Disk.size c.args.disk.now) image v f = record { taken = here.taken visible; added = here.added visible; highest = here.highest visible; found = here.found visible; whole = here.whole visible } in
     IfErr-weaker c.write_back.result (LacksForPlan v.superblock.superblock f.forms v.highest) (LacksForRecovery image) (lacks_recovery (g.D.Disk.size c.args.disk.now) image v f is) c.write_back.ensures.lack
+
+pub returns-in_err-opened-clause-early : goal.returns-in_err-opened-clause-early
+returns-in_err-opened-clause-early g c visible =
+    let p = err_from_is_err_and c.from_residual.result c.from_residual.ensures.1 in
+    rw (p.1, p.2) (not_at_end c.in_err-opened.field-0.0 c.in_err-opened.ensures.memory)
+
+pub returns-clause-early : goal.returns-clause-early
+returns-clause-early g c visible =
+    let keeps = g.D.Disk.keeps in
+    let old = g.D.Disk.moments c.args.disk.now in
+    let mid = g.D.Disk.moments c.open.new.disk in
+    let new = g.D.Disk.moments c.write_back.new.disk in
+    IfErr-weaker c.write_back.result (λ f. IsAtEnd f → IsReadOnly keeps mid new) (λ f. IsAtEnd f → IsReadOnly keeps old new)
+    (λ f stays at. read_more keeps old mid new (c.open.ensures.read_only visible) (stays at)) (c.write_back.ensures.early visible)
+
+pub returns-in_err-opened-clause-numbers : goal.returns-in_err-opened-clause-numbers
+returns-in_err-opened-clause-numbers g c =
+    let p = err_from_is_err_and c.from_residual.result c.from_residual.ensures.1 in
+    rw (p.1, p.2) (numbers_by_memory c.in_err-opened.field-0.0 c.in_err-opened.ensures.memory)
+
+pub returns-clause-numbers : goal.returns-clause-numbers
+returns-clause-numbers g c = IfErr-weaker c.write_back.result IsOutside LacksNumbers numbers_by_outside c.write_back.ensures.outside
