@@ -48,7 +48,8 @@ MAY = {
     "ufs_server/src/syncing.rt": {".take_notes": 1},
     "ufs_turns/src/commits.rt": {".take_notes": 1},
     # what a disk has that doesn't give back what it was given, and what no caller asks for
-    "ufs_engine/src/closing.rt": {"Lack::Told": 1, "Lack::Unsound": 1},
+    "ufs_brink/src/closing.rt": {"Lack::Unsound": 1},
+    "ufs_engine/src/closing.rt": {"Lack::Told": 1},
     "ufs_server/src/file_requests.rt": {"Lack::Unsound": 1},
     # the reader of words tells a refused allocation by the kind of its error alone
     "ufs_words/src/command.rt": {"AllocError": 1},

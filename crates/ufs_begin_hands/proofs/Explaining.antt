@@ -15,7 +15,7 @@ use Rattle.ufs_image.proofs.Opening.{not_refused, second_none}
 use Rattle.ufs_layout.specs.Superblock.{is_super, super_bytes, super_fields, super_of}
 use Rattle.ufs_layout.specs.declared.superblock.Super.{Super}
 use Rattle.ufs_layout.proofs.Spelled.{some_if-some}
-use Rattle.ufs_ledger.specs.Kept.{paths_of}
+use Rattle.ufs_ledger.specs.Kept.{paths_of, OpensExplained}
 use Rattle.ufs_model.specs.Laws.{KeepsTrees}
 use Rattle.ufs_model.specs.PosixTree.{PosixTree}
 use Rattle.ufs_model.proofs.ContentLemmas.{start_has_contents}
@@ -26,9 +26,8 @@ use Rattle.ufs_crash_laws.proofs.Facts.Ends.{start_explained}
 use Rattle.ufs_recovery.specs.Recovered.{IsCleanDisk}
 use Rattle.ufs_store.specs.declared.fault.StoreFault.{StoreFault}
 use Rattle.ufs_store.specs.declared.fault.StoreFault.TheVariants.{Device, Stopped, NoSpace, Lack}
-use Rattle.ufs_ledger.specs.Kept.{OpensExplained}
 use Rattle.ufs_promise_laws.specs.OnDisk.{IsExplainedImage}
-use Rattle.ufs_engine.specs.Begins.{BeginsWith}
+use Rattle.ufs_brink.specs.Begins.{BeginsWith}
 
 -- An image that opens to a tree is explained before the first request.
 explained_first : KeepsTrees → (sectors : ℕ) (image : Image) (start : PosixTree) → BeginsWith sectors image start → OpensExplained sectors start [] image

@@ -12,7 +12,8 @@ use Rattle.ufs_model.specs.PosixTree.{PosixTree}
 use Rattle.ufs_name_tree.specs.NameTable.{IsNameTable}
 use Rattle.ufs_promise_laws.specs.Starts.{image_start}
 use Rattle.ufs_recovery.specs.Recovered.{IsCleanDisk}
-use Rattle.ufs_session.specs.Played.{MayBegin}
+use Rattle.ufs_brink.specs.Begins.{BeginsWith}
+use Rattle.ufs_told.specs.MayBegin.{MayBegin}
 use Rattle.ufs_hand_laws.specs.Parts as sound
 use Rattle.ufs_start.specs.Begun.{IsBegun, tree_under}
 use Rattle.ufs_start.specs.declared.parts.Start.{Start}
@@ -20,8 +21,7 @@ use Rattle.ufs_store.specs.Ledgers.{HasLedger}
 use Rattle.ufs_store.specs.Mounting.{IsMountable, in_use}
 use Rattle.ufs_store.specs.State.{StoreState, geometry_of_store}
 use Rattle.ufs_promise_laws.specs.Sound.{IsSoundServer}
-use Rattle.ufs_engine.specs.Begins.{BeginsWith}
-use Rattle.ufs_engine.specs.Laws.{CleanStartsMount, IsReadClean, StartsAreSound, StartsGoOn, StartsMayBegin, parts_of}
+use Rattle.ufs_brink.specs.Laws.{CleanStartsMount, IsReadClean, StartsAreSound, StartsGoOn, StartsMayBegin, parts_of}
 use Rattle.ufs_joint.specs.FirstHand.{Beginning}
 use Rattle.ufs_joint.specs.Ready.{AreAway, IsReady}
 use Rattle.ufs_begin_hands.specs.Mounted.{beginning_of}

@@ -3,8 +3,8 @@ use crate::images::{empty_image, image_of_two, played_on};
 use crate::session::{deal_and_close, deal_and_finish};
 use std::alloc::Global;
 use std::test::Fail;
+use ufs_brink::CloseFault;
 use ufs_disk::{Fuse, FuseDisk, PlainDisk};
-use ufs_engine::CloseFault;
 use ufs_model::Reply;
 use ufs_start::start_of;
 

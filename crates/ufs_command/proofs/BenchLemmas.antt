@@ -7,7 +7,7 @@ use Rattle.std.specs.Io.KnownBytes.{Appends}
 use Rattle.ufs_base.specs.Faults.{raised}
 use Rattle.ufs_bench.specs.Workload.{bench_geometry}
 use Rattle.ufs_disk.specs.Disk.{seen}
-use Rattle.ufs_engine.specs.Begins.{BeginsWith, HasNothingOpen}
+use Rattle.ufs_brink.specs.Begins.{BeginsWith, HasNothingOpen}
 use Rattle.ufs_engine.specs.Plays.{AreFaultsOf, ArePlayedFrom, HasBytes, MayPlay, served_end}
 use Rattle.ufs_engine.specs.declared.playing.PlayFault.{PlayFault}
 use Rattle.ufs_image.specs.Opens.{ImageTree, NodeBytes, opens, root_entry, root_tree}
@@ -23,7 +23,7 @@ use Rattle.ufs_model.specs.declared.data.Entry.{Entry}
 use Rattle.ufs_model.specs.declared.data.Op.{Op}
 use Rattle.ufs_model.proofs.Facts.Orders.{path_same, path_total}
 use Rattle.ufs_promise_laws.specs.Starts.{image_start}
-use Rattle.ufs_session.specs.Told.{HasRisen}
+use Rattle.ufs_told.specs.Told.{HasRisen}
 use Rattle.ufs_command.specs.declared.ending.Ending.{Ending}
 use Rattle.ufs_command.specs.declared.ending.Ending.TheVariants.{Done, Usage, BadGeometry, NotBuilt, BadScript, TooSmall, NoTree, DeviceFault, OutOfMemory, SourceFault, Damaged, Illegal}
 use Rattle.ufs_command.specs.Bench.{EndsBench, EndsFormatted, EndsSmall, EndsUnformatted, HasServed, IsOnceFormatted, IsServedFrom, bench_script, bench_text}

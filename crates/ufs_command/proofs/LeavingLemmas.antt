@@ -6,7 +6,7 @@ use Rattle.ufs_engine.specs.Plays.{IsEndFault}
 use Rattle.ufs_engine.specs.declared.playing.PlayFault.{PlayFault}
 use Rattle.ufs_engine.specs.declared.playing.PlayFault.TheVariants as ended
 use Rattle.ufs_model.specs.declared.data.Entry.{Entry}
-use Rattle.ufs_session.specs.Told.{IsCountStill, devices_in}
+use Rattle.ufs_told.specs.Told.{IsCountStill, devices_in}
 use Rattle.ufs_start.specs.Refused.{HasStartCause}
 use Rattle.ufs_start.specs.declared.fault.StartFault.{StartFault}
 use Rattle.ufs_start.specs.declared.fault.StartFault.TheVariants as start

@@ -14,8 +14,8 @@ use Rattle.ufs_engine.proofs.EndLemmas.{no_faults}
 use Rattle.ufs_engine.proofs.StampedLemmas.{none_stamped}
 use Rattle.ufs_recovery.specs.Recovered.{IsProperDisk}
 use Rattle.ufs_script.specs.declared.fault.ScriptFault.{ScriptFault}
-use Rattle.ufs_session.specs.Throughout.{IsExplainedThroughout}
-use Rattle.ufs_session.specs.Told.{IsCountStill, devices_in}
+use Rattle.ufs_told.specs.Throughout.{IsExplainedThroughout}
+use Rattle.ufs_told.specs.Told.{IsCountStill, devices_in}
 use Rattle.ufs_promise_laws.specs.OnDisk.{IsExplainedBetween, IsExplainedImage}
 use Rattle.ufs_command.specs.declared.ending.Ending.{Ending}
 use Rattle.ufs_command.specs.declared.words.Command.{Command}

@@ -7,9 +7,9 @@ use Rattle.ufs_base.specs.Faults.{raised}
 use Rattle.ufs_model.specs.History.{joined}
 use Rattle.ufs_model.specs.declared.data.Entry.{Entry}
 use Rattle.ufs_metadata.specs.declared.fault.RecoverFault.TheVariants as recover
-use Rattle.ufs_engine.specs.Begins.{TellsNoSession}
+use Rattle.ufs_brink.specs.Begins.{TellsNoSession}
 use Rattle.ufs_engine.specs.Plays.{AreFaultsOf}
-use Rattle.ufs_session.specs.Told.{HasRisen}
+use Rattle.ufs_told.specs.Told.{HasRisen}
 use Rattle.ufs_engine.proofs.EndLemmas.{rose_past}
 use Rattle.ufs_image.specs.Proper.{IsProperImage}
 use Rattle.ufs_image.specs.Volume as image

@@ -2,7 +2,7 @@
 use Rattle.std.proofs.Common.{◌≡◌, ◌⊎◌, inl, inr, ℕ, List, [], length, Result, Ok, Err, ap, sym, subst, refl, ◌∙◌}
 use Rattle.std.specs.Prelude.{IsTrue}
 use Rattle.ufs_base.specs.declared.lack.Lack.{Lack}
-use Rattle.ufs_engine.specs.Begins.{BeginsWith, HasNothingOpen, TellsNoSession}
+use Rattle.ufs_brink.specs.Begins.{BeginsWith, HasNothingOpen, TellsNoSession}
 use Rattle.ufs_metadata.specs.Faults.{IsWhyNot}
 use Rattle.ufs_metadata.specs.declared.fault.RecoverFault.{RecoverFault}
 use Rattle.ufs_metadata.specs.declared.fault.RecoverFault.TheVariants as recover

@@ -7,7 +7,7 @@ use Rattle.ufs_audit.specs.declared.verdict.Verdict.{Verdict}
 use Rattle.ufs_audit.specs.declared.verdict.Verdict.TheVariants as verdict
 use Rattle.ufs_audit.specs.declared.verdict.Wrong.{Wrong}
 use Rattle.ufs_base.specs.Faults.{raised}
-use Rattle.ufs_engine.specs.Begins.{BeginsWith, HasNothingOpen}
+use Rattle.ufs_brink.specs.Begins.{BeginsWith, HasNothingOpen}
 use Rattle.ufs_model.specs.PosixTree.{PosixTree}
 use Rattle.ufs_script.specs.Script.{IsOutside}
 use Rattle.ufs_script.specs.declared.fault.ScriptFault.{ScriptFault}

@@ -4,7 +4,7 @@ use Rattle.std.specs.Prelude.{ℕ, ◌≡◌, ◌<◌, ◌≤◌, ◌⊎◌, Lis
 use Rattle.ufs_base.specs.Faults.{raised}
 use Rattle.ufs_bench.specs.Summary.{summary_text}
 use Rattle.ufs_bench.specs.Workload.{bench_geometry}
-use Rattle.ufs_engine.specs.Begins.{HasNothingOpen}
+use Rattle.ufs_brink.specs.Begins.{HasNothingOpen}
 use Rattle.ufs_layout.specs.Areas.{sector_count}
 use Rattle.ufs_model.specs.History.{joined, tree_after}
 use Rattle.ufs_model.specs.PosixTree.{PosixTree, root_alone}
@@ -12,7 +12,7 @@ use Rattle.ufs_model.specs.declared.data.Entry.{Entry}
 use Rattle.ufs_model.specs.declared.data.Op.{Op}
 use Rattle.ufs_recover.specs.Stopped.{IsNewDisk}
 use Rattle.ufs_script.specs.declared.script.Script.{Script}
-use Rattle.ufs_server.specs.Sizes.{total_size}
+use Rattle.ufs_told.specs.Sizes.{total_size}
 use Rattle.ufs_command.specs.declared.ending.Ending.{Ending}
 use Rattle.ufs_command.specs.declared.ending.Ending.TheVariants.{TooSmall, DeviceFault, OutOfMemory}
 use Rattle.ufs_command.specs.Seen.{Formatting}

@@ -3,7 +3,7 @@ use Rattle.std.specs.Prelude.{ℕ, ◌≡◌, ◌≢◌, ◌<◌, ◌≤◌, ◌
 use Rattle.std.specs.Io.KnownBytes.{Appends}
 use Rattle.ufs_base.specs.Wanting.{wanting}
 use Rattle.ufs_base.specs.Faults.{raised}
-use Rattle.ufs_engine.specs.Begins.{TellsNoSession}
+use Rattle.ufs_brink.specs.Begins.{TellsNoSession}
 use Rattle.ufs_layout.specs.Areas.{geometry_refusal, sector_count}
 use Rattle.ufs_layout.specs.declared.geometry.Geometry.{Geometry}
 use Rattle.ufs_model.specs.History.{joined}

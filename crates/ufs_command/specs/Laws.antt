@@ -1,6 +1,6 @@
 -- What a disk stands for where nothing is done on it.
 use Rattle.std.specs.Prelude.{ℕ, []}
-use Rattle.ufs_engine.specs.Begins.{BeginsWith}
+use Rattle.ufs_brink.specs.Begins.{BeginsWith}
 use Rattle.ufs_disk.specs.Disk.{Leaves, State, seen}
 use Rattle.ufs_ledger.specs.Kept.{OpensExplained}
 use Rattle.ufs_model.specs.PosixTree.{PosixTree}

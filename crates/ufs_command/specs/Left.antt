@@ -1,6 +1,6 @@
 -- What a command does to a disk and to a source.
 use Rattle.std.specs.Prelude.{ℕ, ◌≡◌, ◌≢◌, ◌<◌, ◌⊎◌, [], List, length, Bool, true, false, Option, Some, None, Err, IsTrue}
-use Rattle.ufs_engine.specs.Begins.{BeginsWith}
+use Rattle.ufs_brink.specs.Begins.{BeginsWith}
 use Rattle.ufs_bench.specs.Workload.{bench_geometry}
 use Rattle.ufs_metadata.specs.Reading.{IsReadOnly}
 use Rattle.ufs_disk.specs.Disk.{Leaves}
@@ -15,14 +15,14 @@ use Rattle.ufs_ledger.specs.Kept.{OpensExplained}
 use Rattle.ufs_model.specs.History.{joined, tree_after}
 use Rattle.ufs_model.specs.PosixTree.{PosixTree, root_alone}
 use Rattle.ufs_model.specs.declared.data.Entry.{Entry}
-use Rattle.ufs_engine.specs.Numbers.{RaisesNumbers}
+use Rattle.ufs_brink.specs.Numbers.{RaisesNumbers}
 use Rattle.ufs_engine.specs.Plays.{IsStampedThroughout, MayPlay}
 use Rattle.ufs_recover.specs.Stopped.{IsNewDisk, IsStopped}
 use Rattle.ufs_recover.specs.Tables.{IsOutside}
 use Rattle.ufs_recovery.specs.Home.{KeepsTree}
 use Rattle.ufs_recovery.specs.Recovered.{IsCleanDisk, IsProperDisk, IsRecovered}
-use Rattle.ufs_session.specs.Throughout.{IsExplainedThroughout}
-use Rattle.ufs_session.specs.Told.{IsCountStill, devices_in}
+use Rattle.ufs_told.specs.Throughout.{IsExplainedThroughout}
+use Rattle.ufs_told.specs.Told.{IsCountStill, devices_in}
 use Rattle.ufs_command.specs.declared.words.Command.{Command}
 use Rattle.ufs_command.specs.declared.words.Command.TheVariants as command
 use Rattle.ufs_command.specs.Commands.{reads_source, serves}

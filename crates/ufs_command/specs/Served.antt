@@ -1,7 +1,7 @@
 -- What it means that a script was served over a disk, and what is written then.
 use Rattle.std.specs.Prelude.{ℕ, ◌≡◌, ◌⊎◌, ◌++◌, Bool, List, length, Result, Err}
 use Rattle.ufs_client.specs.Own.{AreServedFrom}
-use Rattle.ufs_engine.specs.Begins.{BeginsWith, HasNothingOpen}
+use Rattle.ufs_brink.specs.Begins.{BeginsWith, HasNothingOpen}
 use Rattle.ufs_model.specs.PosixTree.{PosixTree}
 use Rattle.ufs_model.specs.History.{IsLegal, IsInOrder, IsComplete, joined}
 use Rattle.ufs_model.specs.declared.data.Entry.{Entry}

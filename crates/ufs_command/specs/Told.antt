@@ -19,7 +19,7 @@ use Rattle.ufs_model.specs.PosixTree.{PosixTree}
 use Rattle.ufs_model.specs.declared.data.Entry.{Entry}
 use Rattle.ufs_model.specs.declared.data.Op.{Op}
 use Rattle.ufs_engine.specs.Plays.{AreFaultsOf, MayPlay}
-use Rattle.ufs_session.specs.Told.{HasRisen}
+use Rattle.ufs_told.specs.Told.{HasRisen}
 use Rattle.ufs_recovery.specs.Recovered.{log_of}
 use Rattle.ufs_script.specs.declared.fault.ScriptFault.{ScriptFault}
 use Rattle.ufs_script.specs.declared.script.Script.{Script}

@@ -4,7 +4,7 @@ ghost use Rattle.ufs_bench.specs.Workload.{bench_geometry, workload_of};
 ghost use Rattle.ufs_engine.specs.Plays.{AreFaultsOf};
 ghost use Rattle.ufs_layout.specs.Areas.{sector_count};
 ghost use Rattle.ufs_model.specs.History.{joined};
-ghost use Rattle.ufs_session.specs.Told.{IsCountStill, devices_in};
+ghost use Rattle.ufs_told.specs.Told.{IsCountStill, devices_in};
 ghost use Rattle.ufs_command.specs.Bench.{EndsBench, EndsMeasured, bench_text};
 ghost use Rattle.ufs_command.specs.Endings.{EndsBehind, EndsPlayed, EndsPrinting, IsAnswer};
 ghost use Rattle.ufs_command.specs.Left.{Benches, Plays};

@@ -3,7 +3,7 @@ ghost use Rattle.std.specs.Prelude.{◌≡◌, ◌≢◌, [], Err, IfOk};
 ghost use Rattle.ufs_base.specs.Faults.{raised};
 ghost use Rattle.ufs_model.specs.History.{joined};
 ghost use Rattle.ufs_engine.specs.Plays.{AreFaultsOf};
-ghost use Rattle.ufs_session.specs.Told.{IsCountStill, devices_in};
+ghost use Rattle.ufs_told.specs.Told.{IsCountStill, devices_in};
 ghost use Rattle.ufs_command.specs.Seen.{course, formatting, reading, writing};
 ghost use Rattle.ufs_command.specs.Endings.{EndsBehind, EndsPlay, EndsPlayed, EndsPrinting, EndsServing, IsAnswer, TellsFault};
 ghost use Rattle.ufs_command.specs.Left.{Plays};

@@ -1,7 +1,6 @@
 -- What is told at a session's end.
 use Rattle.std.proofs.Common.{◌≡◌, ℕ, ◌+◌, ◌-◌, ◌^◌, ◌<◌, ◌≤◌, min, ◌⊎◌, List, [], Option, Some, None, Result, Ok, Err, IsOk, ap, sym, refl, subst, ◌∙◌, Bool, true, false, nat_eq, inl, inr, arith}
-use Rattle.std.specs.Prelude.{IfOk, OnOk, ◌↔◌}
-use Rattle.std.specs.Prelude.{nat_le}
+use Rattle.std.specs.Prelude.{IfOk, OnOk, ◌↔◌, nat_le}
 use Rattle.std.specs.List.{IsDistinct}
 use Rattle.std.proofs.lemmas.Bool.Decides.{nat_tests}
 use Rattle.ufs_base.specs.Wanting.{wanting}
@@ -10,9 +9,9 @@ use Rattle.ufs_base.specs.declared.memory.Memory.{Memory}
 use Rattle.ufs_base.specs.Faults.{RoseTo}
 use Rattle.ufs_client.specs.declared.played.EndFault.{EndFault}
 use Rattle.ufs_client.specs.declared.played.EndFault.TheVariants as session
-use Rattle.ufs_engine.specs.Closes.{closing_fault}
-use Rattle.ufs_engine.specs.declared.closing.CloseFault.{CloseFault}
-use Rattle.ufs_engine.specs.declared.closing.CloseFault.TheVariants as cause
+use Rattle.ufs_brink.specs.Closes.{closing_fault}
+use Rattle.ufs_brink.specs.declared.closing.CloseFault.{CloseFault}
+use Rattle.ufs_brink.specs.declared.closing.CloseFault.TheVariants as cause
 use Rattle.ufs_model.specs.PosixTree.{PosixTree}
 use Rattle.ufs_model.specs.declared.data.Entry.{Entry}
 use Rattle.ufs_model.specs.declared.data.Op.{Op}
@@ -20,10 +19,10 @@ use Rattle.ufs_model.proofs.Facts.Histories.{order_none}
 use Rattle.ufs_engine.specs.Plays.{AreFaultsOf, IsClosingFault, IsEndFault, IsStopOf, IsUnstopped, served_end}
 use Rattle.ufs_engine.specs.declared.playing.PlayFault.{PlayFault}
 use Rattle.ufs_engine.specs.declared.playing.PlayFault.TheVariants as ending
-use Rattle.ufs_server.specs.Sizes.{total_size}
+use Rattle.ufs_told.specs.Sizes.{total_size}
 use Rattle.ufs_session.specs.Played.{IsPlayedFrom}
-use Rattle.ufs_session.proofs.ToldLemmas.{none_caused}
-use Rattle.ufs_session.specs.Told.{AreFaultsTold, AreToldStop, HasRisen, IsCountStill, IsReadFault, IsStopFault}
+use Rattle.ufs_told.proofs.ToldLemmas.{none_caused}
+use Rattle.ufs_told.specs.Told.{AreFaultsTold, AreToldStop, HasRisen, IsCountStill, IsReadFault, IsStopFault}
 use Rattle.ufs_start.specs.declared.fault.StartFault.{StartFault}
 use Rattle.ufs_store.specs.Refusals.{IsTold}
 use Rattle.ufs_store.specs.State.{StoreState}

@@ -1,5 +1,1 @@
-pub mod Begins
-pub mod Laws
-pub mod Closes
 pub mod Plays
-pub mod Numbers

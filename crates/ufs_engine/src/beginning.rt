@@ -1,8 +1,9 @@
-ghost use Rattle.std.specs.Prelude.{ℕ, ◌≡◌, [], None, Ok, Err, IsTrue, IfOk, IfErr, OnOk};
-ghost use Rattle.ufs_engine.specs.Begins.{BeginsWith, TellsNoSession};
-ghost use Rattle.ufs_engine.specs.Numbers.{BeginsFrom, GoesOnFrom};
+ghost use Rattle.std.specs.Prelude.{◌≡◌, [], None, Ok, Err, IsTrue, IfOk, IfErr, OnOk};
+ghost use Rattle.ufs_brink.specs.Begins.{BeginsWith, TellsNoSession};
+ghost use Rattle.ufs_told.specs.MayBegin.{MayBegin};
+ghost use Rattle.ufs_brink.specs.Numbers.{BeginsFrom, GoesOnFrom};
 ghost use Rattle.ufs_disk.specs.Moments.{reads};
-ghost use Rattle.ufs_metadata.specs.Faults.{HasFaultCause, IsOutside};
+ghost use Rattle.ufs_metadata.specs.Faults.{IsOutside};
 ghost use Rattle.ufs_metadata.specs.declared.fault.RecoverFault.{RecoverFault};
 ghost use Rattle.ufs_image.specs.Opens.{ImageTree, opens};
 ghost use Rattle.ufs_image.specs.Volume.{Refusal};
@@ -10,27 +11,21 @@ ghost use Rattle.ufs_model.specs.PosixTree.{PosixTree};
 ghost use Rattle.ufs_one_hand.specs.OneHand.{IsStart, seeing};
 ghost use Rattle.ufs_opening.specs.Told.{TellsWhy};
 ghost use Rattle.ufs_recovery.specs.Recovered.{IsCleanDisk, IsProperDisk};
-ghost use Rattle.ufs_session.specs.Played.{MayBegin};
 ghost use Rattle.ufs_hand_laws.specs.Visible.{IsDiskVisible};
 ghost use Rattle.ufs_base.specs.Images.{Image};
 ghost use Rattle.ufs_start.specs.Begun.{IsBegun};
 ghost use Rattle.ufs_start.specs.Refused.{HasStartCause};
 ghost use Rattle.ufs_start.specs.declared.fault.StartFault.TheVariants as start;
 ghost use Rattle.ufs_base.specs.declared.lack.Lack.{Lack};
-ghost use Rattle.ufs_store.specs.Ends.{IsMemory};
-ghost use Rattle.ufs_store.specs.Refusals.{IsTold};
-ghost use Rattle.ufs_store.specs.Refusals as refusals;
-ghost use Rattle.ufs_store.specs.declared.fault.StoreFault.TheVariants as store_fault;
 ghost use Rattle.ufs_store.specs.State.{geometry_of_store};
 ghost use Rattle.ufs_store_steps.specs.Cells.{cells_of};
 ghost use Rattle.ufs_promise_laws.specs.OnDisk.{IsExplainedBetween, IsOnDisk};
 ghost use Rattle.ufs_promise_laws.specs.Sound.{IsSoundServer};
 
-use crate::laws::{beginning_law, mounted_law};
-use crate::starting::recovered_start;
 use std::alloc::Global;
 use std::marker::Brand;
 use ufs_base::Lack;
+use ufs_brink::{Unbegun, beginning_law, mounted_law, recovered_start, why_unmounted};
 use ufs_disk::Disk;
 use ufs_hand::{Opened, Opening, Parts};
 use ufs_metadata::RecoverFault;
@@ -38,7 +33,7 @@ use ufs_model::a_request_keeps_the_tree;
 use ufs_one_hand::{abandon, starts_can_begin};
 use ufs_server::DiskServer;
 use ufs_start::{Start, StartFault};
-use ufs_store::{Door, Store, StoreFault};
+use ufs_store::{Door, Store};
 
 /// A server whose tree is on a disk, the store that has the disk, and the session that starts from that tree.
 pub struct Begun<D: Disk> {
@@ -46,13 +41,6 @@ pub struct Begun<D: Disk> {
     pub store: Store<D>,
     /// The session, which has no name yet.
     pub opened: Opened,
-}
-
-/// No session begins: the disk, and why.
-#[derive(Drop)]
-pub struct Unbegun<D: Disk> {
-    pub disk: D,
-    pub fault: StartFault,
 }
 
 /// Begins a session on a disk: recovers its image where that is in use, frees what no path names and blocks that no file needs
@@ -167,18 +155,4 @@ fn seen_parts<D: Disk, P: Opening>(disk: &D, parts: Parts) -> Parts
 {
     let (_disk, _parts) = (disk, parts);
     Parts::picked::<P>()
-}
-
-/// Why a store wasn't mounted, as a refusal of its image: the device's fault, or the lack of memory.
-pub fn why_unmounted(fault: StoreFault) -> RecoverFault
-    requires own { IsTrue (refusals.is_own fault) }
-    requires lack { (w : Lack) → fault ≡ store_fault.Lack w → IsMemory w }
-    ensures cause { (before now : ℕ) → IsTold before now (refusals.fault_of fault) → HasFaultCause before now result }
-    ensures outside { IsOutside result }
-{
-    match fault {
-        StoreFault::Device { fault } => RecoverFault::Device { fault },
-        StoreFault::Lack(lack) => RecoverFault::Lack(lack),
-        StoreFault::Stopped { .. } | StoreFault::NoSpace { .. } => unreachable!(),
-    }
 }

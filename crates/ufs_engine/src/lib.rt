@@ -1,13 +1,10 @@
-//! Sessions over a disk's image: how one begins and ends, and a script that is played in one.
+//! Sessions over a disk's image, and a script that is played in one.
 #![tactic(auto)]
 
 mod beginning;
 mod closing;
-mod laws;
 mod playing;
-mod starting;
 
-pub use beginning::{Begun, Unbegun, begin, why_unmounted};
-pub use closing::{CloseFault, Closed, clean, close};
-pub use laws::{beginning_law, mounted_law};
+pub use beginning::{Begun, begin};
+pub use closing::{Closed, close};
 pub use playing::{PlayFault, Played, play};

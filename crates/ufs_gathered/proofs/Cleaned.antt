@@ -6,9 +6,9 @@ use Rattle.ufs_base.specs.Images.{Image}
 use Rattle.ufs_disk.specs.Disk.{Leaves}
 use Rattle.ufs_disk.specs.Moments.{LeavesOnly, Moments}
 use Rattle.ufs_disk.proofs.Runs.{weaker}
-use Rattle.ufs_engine.specs.Closes.{OpensAsLeft, closing_fault, stopped_at}
-use Rattle.ufs_engine.specs.declared.closing.CloseFault.{CloseFault}
-use Rattle.ufs_engine.specs.declared.closing.CloseFault.TheVariants as cause
+use Rattle.ufs_brink.specs.Closes.{OpensAsLeft, closing_fault, stopped_at}
+use Rattle.ufs_brink.specs.declared.closing.CloseFault.{CloseFault}
+use Rattle.ufs_brink.specs.declared.closing.CloseFault.TheVariants as cause
 use Rattle.ufs_held.specs.Together.{under_numbers}
 use Rattle.ufs_held_names.specs.HeldNames.{AreCommitted}
 use Rattle.ufs_held_names.specs.SyncAll.{AreSynced, AtFile, AtNames, IsFileKept, StopsShort}

@@ -4,9 +4,9 @@ use Rattle.std.specs.Prelude.{◌↔◌}
 use Rattle.ufs_base.specs.declared.lack.Lack.TheVariants as lack
 use Rattle.ufs_base.specs.declared.memory.Memory.{Memory}
 use Rattle.ufs_disk.proofs.Runs.{started}
-use Rattle.ufs_engine.specs.Closes.{closing_fault}
-use Rattle.ufs_engine.specs.declared.closing.CloseFault.{CloseFault}
-use Rattle.ufs_engine.specs.declared.closing.CloseFault.TheVariants as cause
+use Rattle.ufs_brink.specs.Closes.{closing_fault}
+use Rattle.ufs_brink.specs.declared.closing.CloseFault.{CloseFault}
+use Rattle.ufs_brink.specs.declared.closing.CloseFault.TheVariants as cause
 use Rattle.ufs_joint.specs.Cells.{FileCell, NamesCell, Start}
 use Rattle.ufs_model.specs.declared.data.Entry.{Entry}
 use Rattle.ufs_promise_laws.specs.OnDisk.{IsExplainedImage}

@@ -6,9 +6,9 @@ use Rattle.ufs_base.specs.declared.lack.Lack.TheVariants as lack
 use Rattle.ufs_base.specs.declared.memory.Memory.{Memory}
 use Rattle.ufs_disk.specs.Disk.{Leaves}
 use Rattle.ufs_disk.specs.Moments.{Moments, reads}
-use Rattle.ufs_engine.specs.Closes.{closing_fault, stopped_at, tells_unsound}
-use Rattle.ufs_engine.specs.declared.closing.CloseFault.{CloseFault}
-use Rattle.ufs_engine.specs.declared.closing.CloseFault.TheVariants as cause
+use Rattle.ufs_brink.specs.Closes.{closing_fault, stopped_at, tells_unsound}
+use Rattle.ufs_brink.specs.declared.closing.CloseFault.{CloseFault}
+use Rattle.ufs_brink.specs.declared.closing.CloseFault.TheVariants as cause
 use Rattle.ufs_image.specs.Volume.{superblock_of}
 use Rattle.ufs_joint.specs.Cells.{FileCell, NamesCell, Start}
 use Rattle.ufs_promise_laws.specs.Last.{StandsForTree}

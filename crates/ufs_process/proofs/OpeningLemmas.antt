@@ -3,7 +3,7 @@ use Rattle.std.proofs.Common.{◌⊎◌, inl, inr, ℕ, Bool, true, false, IsTru
 use Rattle.std.specs.Prelude.{◌&&◌}
 use Rattle.std.proofs.lemmas.List.{length-map}
 use Rattle.ufs_bench.specs.Workload.{bench_geometry}
-use Rattle.ufs_engine.specs.Begins.{BeginsWith}
+use Rattle.ufs_brink.specs.Begins.{BeginsWith}
 use Rattle.ufs_engine.specs.Plays.{MayPlay}
 use Rattle.ufs_mirror.specs.Opens.{OpenRight}
 use Rattle.ufs_mirror.specs.Pairs.{all_pairs, state_of}
@@ -17,7 +17,7 @@ use Rattle.ufs_disk.specs.Moments.{LeavesOnly, Moments, reads}
 use Rattle.ufs_disk.proofs.Runs.{started}
 use Rattle.ufs_recover.specs.Stopped.{IsNew, IsNewDisk, IsStopped}
 use Rattle.ufs_recovery.specs.Home.{OpensAlike}
-use Rattle.ufs_session.specs.Throughout.{IsExplainedThroughout}
+use Rattle.ufs_told.specs.Throughout.{IsExplainedThroughout}
 use Rattle.ufs_promise_laws.specs.OnDisk.{IsExplainedImage}
 use Rattle.ufs_command.specs.Bench.{IsOnceFormatted}
 use Rattle.ufs_command.specs.Left.{ActsOn, FormatsAndPlays, LeavesUnserved, Plays}

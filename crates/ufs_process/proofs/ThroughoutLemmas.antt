@@ -11,7 +11,7 @@ use Rattle.ufs_mirror.specs.Opens.{OpenRight, OpensOnly, OpensRight}
 use Rattle.ufs_mirror.specs.Pairs.{Pair, Pairs, all_pairs, moments_of, state_of}
 use Rattle.ufs_model.specs.PosixTree.{PosixTree}
 use Rattle.ufs_model.specs.declared.data.Entry.{Entry}
-use Rattle.ufs_session.specs.Throughout.{IsExplainedThroughout}
+use Rattle.ufs_told.specs.Throughout.{IsExplainedThroughout}
 use Rattle.ufs_promise_laws.specs.OnDisk.{IsExplainedImage}
 use Rattle.ufs_process.specs.Throughout.{OpensAsAnswered, OpensFromTo, OpensThroughout}
 

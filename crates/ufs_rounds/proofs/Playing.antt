@@ -1,7 +1,7 @@
 -- A session that was played is finished.
 use Rattle.std.proofs.Common.{◌≡◌, ℕ, Bool, List, Result, sym, subst}
 use Rattle.ufs_disk.specs.Moments.{Moments}
-use Rattle.ufs_engine.specs.declared.closing.CloseFault.{CloseFault}
+use Rattle.ufs_brink.specs.declared.closing.CloseFault.{CloseFault}
 use Rattle.ufs_gathered.specs.Ended.{AnswerAll, AnswerFirst}
 use Rattle.ufs_gathered.specs.Finished.{HasFinished}
 use Rattle.ufs_joint.specs.Cells.{Start}

@@ -1,7 +1,7 @@
 -- What is known of a session that was played by turns and has ended, by what its clients were given to ask.
 use Rattle.std.specs.Prelude.{ℕ, ◌≡◌, Bool, List, Ok, Result}
 use Rattle.ufs_disk.specs.Moments.{Moments}
-use Rattle.ufs_engine.specs.declared.closing.CloseFault.{CloseFault}
+use Rattle.ufs_brink.specs.declared.closing.CloseFault.{CloseFault}
 use Rattle.ufs_gathered.specs.Ended.{AnswerAll, AnswerFirst}
 use Rattle.ufs_gathered.specs.Finished.{HasFinished}
 use Rattle.ufs_joint.specs.Cells.{Start}

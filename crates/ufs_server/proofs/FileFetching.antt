@@ -34,7 +34,8 @@ use Rattle.ufs_promise_laws.specs.Parts.{Parts, committed_as, durable_in, with_f
 use Rattle.ufs_promise_laws.specs.Sound.{IsSoundServer}
 use Rattle.ufs_promise_laws.specs.Stored.{ArePartsOf}
 use Rattle.ufs_promise_laws.proofs.Puts.{durable_else, either, here, other_file}
-use Rattle.ufs_server.specs.Fetched.{HasReadFurther, IsReadFurther, IsReady, LacksBlocks, is_of_read, needs_bytes}
+use Rattle.ufs_server.specs.Fetched.{HasReadFurther, IsReadFurther, IsReady, LacksBlocks}
+use Rattle.ufs_told.specs.Replies.{is_of_read, needs_bytes}
 use Rattle.ufs_server.specs.Served.{StaysOnDisk}
 use Rattle.ufs_server.proofs.FileServing.{IsOut, at, same_pool}
 

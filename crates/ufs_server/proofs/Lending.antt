@@ -20,7 +20,8 @@ use Rattle.ufs_store.specs.Blocks.{AreApart}
 use Rattle.ufs_store.specs.Refusals.{stop_after}
 use Rattle.ufs_store.specs.State.{StoreState, geometry_of_store}
 use Rattle.ufs_promise_laws.specs.Parts.{Parts}
-use Rattle.ufs_server.specs.Answered.{device_told, is_of_store, lacks_blocks}
+use Rattle.ufs_told.specs.Replies.{device_told}
+use Rattle.ufs_server.specs.Answered.{is_of_store, lacks_blocks}
 use Rattle.ufs_server.specs.Room.{HasRoom, IsPoolLent, IsShort, LacksBlock, SpendsFree, tells_lack}
 
 -- ---- no block

@@ -16,7 +16,6 @@ mod Staying
 mod Syncs
 mod Touch
 mod Touching
-pub mod Beside
 pub mod FileFetching
 mod Checkpoints
 mod Raising

@@ -7,7 +7,8 @@ use Rattle.ufs_model.specs.declared.data.Excuse.{Excuse}
 use Rattle.ufs_model.specs.declared.data.Excuse.TheVariants as excuse
 use Rattle.ufs_model.specs.declared.data.Reply.{Reply}
 use Rattle.ufs_model.specs.declared.data.Reply.TheVariants as reply
-use Rattle.ufs_server.specs.Answered.{IsSyncReply, device_in, device_told, is_of_store, reply_to, stopped_in}
+use Rattle.ufs_server.specs.Answered.{IsSyncReply, is_of_store, reply_to}
+use Rattle.ufs_told.specs.Replies.{device_in, device_told, stopped_in}
 
 pub reply_device : {T : Type 0} (r : Result T Excuse) → device_in (reply_to r) ≡ device_told r
 reply_device (Ok x) = refl

@@ -10,7 +10,7 @@ use Rattle.ufs_file.specs.Hand.{FileState}
 use Rattle.ufs_model.specs.PosixTree.{PosixTree}
 use Rattle.ufs_promise_laws.specs.Parts.{Parts}
 use Rattle.ufs_promise_laws.specs.Stored.{ArePartsOf}
-use Rattle.ufs_server.specs.Sizes.{size_in}
+use Rattle.ufs_told.specs.Sizes.{size_in}
 use Rattle.ufs_server.proofs.Touch.{live_here}
 
 -- ---- maps with the same keys

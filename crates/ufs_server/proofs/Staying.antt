@@ -26,10 +26,10 @@ use Rattle.ufs_promise_laws.specs.Parts.{Parts}
 use Rattle.ufs_promise_laws.specs.Sound.{IsSoundServer}
 use Rattle.ufs_promise_laws.specs.Stored.{ArePartsOf}
 use Rattle.ufs_promise_laws.proofs.Stretches.{explained_joined}
-use Rattle.ufs_server.specs.Answered.{IsUntold, device_told}
+use Rattle.ufs_told.specs.Replies.{IsUntold, device_told}
 use Rattle.ufs_server.specs.Served.{CommitEnds, IsServedOn, KeepsPromise, Stays, StaysOnDisk}
 use Rattle.ufs_server.proofs.Away.{forgets_none}
-use Rattle.ufs_server.proofs.Beside.{stop_stays, untold_joined}
+use Rattle.ufs_told.proofs.Beside.{stop_stays, untold_joined}
 
 -- ---- no call
 

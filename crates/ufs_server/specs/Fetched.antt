@@ -1,5 +1,5 @@
 -- Blocks of files that requests need.
-use Rattle.std.specs.Prelude.{ℕ, ◌≡◌, Bool, List, length, slice_get, true, false, Some, None, IsSome, is_some}
+use Rattle.std.specs.Prelude.{ℕ, ◌≡◌, List, length, slice_get, true, Some, None, IsSome, is_some}
 use Rattle.std.specs.FinMap as map
 use Rattle.ufs_file_commits.specs.Fetching.{IsReadOn}
 use Rattle.ufs_file.specs.Content.{IsContentOf}
@@ -7,21 +7,9 @@ use Rattle.ufs_file.specs.Hand.{FileState, HasNeeded, IsOf}
 use Rattle.ufs_model.specs.FileCalls.{file_refusal, is_on_file}
 use Rattle.ufs_model.specs.declared.data.Ask.{Ask}
 use Rattle.ufs_model.specs.declared.data.Desc.{Desc}
-use Rattle.ufs_model.specs.declared.data.Excuse.{Excuse}
-use Rattle.ufs_model.specs.declared.data.Excuse.TheVariants as excuse
-use Rattle.ufs_model.specs.declared.data.Op.{Op}
 use Rattle.ufs_model.specs.declared.data.Op.TheVariants as op
 use Rattle.ufs_promise_laws.specs.Syncs.{TellsTheSame}
 use Rattle.ufs_promise_laws.specs.Parts.{Parts}
-
--- The request gives or changes bytes of a file: no other needs a block of one.
-abbrev pub needs_bytes : Op → Bool
-needs_bytes (op.Read fd n) = true
-needs_bytes (op.Pread fd n at) = true
-needs_bytes (op.Write fd bytes) = true
-needs_bytes (op.Pwrite fd bytes at) = true
-needs_bytes (op.Trunc fd size) = true
-needs_bytes _ = false
 
 -- The blocks that the request needs are in memory. One that is refused needs none.
 pub record IsReady (p : Parts) (ask : Ask) : Type 0 where
@@ -54,9 +42,3 @@ pub record HasReadFurther (ask : Ask) (p q : Parts) : Type 0 where
   pub files : (file : ℕ) (r s : FileState) → map.get p.files file ≡ Some r → map.get q.files file ≡ Some s → IsReadFurther r s
   pub here : (file : ℕ) → is_some (map.get q.files file) ≡ is_some (map.get p.files file)
   pub others : (file : ℕ) → (IsOf ask.desc file → ⊥) → map.get q.files file ≡ map.get p.files file
-
--- Memory was wanting, or a read failed.
-abbrev pub is_of_read : Excuse → Bool
-is_of_read excuse.Memory = true
-is_of_read (excuse.Device fault) = true
-is_of_read _ = false

@@ -5,5 +5,3 @@ pub mod Fetched
 pub mod Away
 pub mod Room
 pub mod Served
-pub mod Numbers
-pub mod Sizes

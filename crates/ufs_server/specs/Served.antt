@@ -21,7 +21,8 @@ use Rattle.ufs_promise_laws.specs.OnDisk.{IsExplainedBetween, IsOnDisk}
 use Rattle.ufs_promise_laws.specs.Parts.{Parts}
 use Rattle.ufs_promise_laws.specs.Sound.{IsSoundServer}
 use Rattle.ufs_promise_laws.specs.Stored.{ArePartsOf}
-use Rattle.ufs_server.specs.Answered.{IsAnswered, IsUntold, device_told, is_of_store}
+use Rattle.ufs_server.specs.Answered.{IsAnswered, is_of_store}
+use Rattle.ufs_told.specs.Replies.{IsUntold, device_told}
 use Rattle.ufs_server.specs.Away.{AwayStays, ForgetsNothing}
 
 -- A request that asks for no commit may be served.

@@ -14,8 +14,8 @@ ghost use Rattle.ufs_store.specs.State.{geometry_of_store};
 ghost use Rattle.ufs_promise_laws.specs.OnDisk.{IsExplainedBetween, IsOnDisk};
 ghost use Rattle.ufs_promise_laws.specs.Sound.{IsSoundServer};
 ghost use Rattle.ufs_promise_laws.specs.Stored.{ArePartsOf};
-ghost use Rattle.ufs_server.specs.Answered.{device_of, device_told};
-ghost use Rattle.ufs_server.specs.Fetched.{HasReadFurther, IsReady, LacksBlocks, is_of_read, needs_bytes};
+ghost use Rattle.ufs_told.specs.Replies.{device_of, device_told, is_of_read, needs_bytes};
+ghost use Rattle.ufs_server.specs.Fetched.{HasReadFurther, IsReady, LacksBlocks};
 ghost use Rattle.ufs_server.specs.Served.{StaysOnDisk};
 
 use crate::disk_server::DiskServer;

@@ -20,7 +20,8 @@ ghost use Rattle.ufs_store.specs.State.{geometry_of_store};
 ghost use Rattle.ufs_promise_laws.specs.OnDisk.{HasFiles, HasNames, IsExplainedBetween, IsOnDisk};
 ghost use Rattle.ufs_promise_laws.specs.Sound.{IsSoundServer};
 ghost use Rattle.ufs_promise_laws.specs.Stamping.{ExplainsNamed};
-ghost use Rattle.ufs_server.specs.Answered.{device_told, is_of_store};
+ghost use Rattle.ufs_told.specs.Replies.{device_told};
+ghost use Rattle.ufs_server.specs.Answered.{is_of_store};
 ghost use Rattle.ufs_server.specs.Served.{CommitEnds};
 
 use crate::disk_server::DiskServer;

@@ -17,11 +17,12 @@ ghost use Rattle.ufs_promise_laws.specs.OnDisk.{IsExplainedBetween, IsOnDisk};
 ghost use Rattle.ufs_promise_laws.specs.Sound.{IsSoundServer};
 ghost use Rattle.ufs_promise_laws.specs.Stamping.{ExplainsAllowed};
 ghost use Rattle.ufs_promise_laws.specs.Stored.{ArePartsOf};
-ghost use Rattle.ufs_server.specs.Answered.{IsAnswered, TellsFaults, device_in, is_refused, stopped_in};
+ghost use Rattle.ufs_server.specs.Answered.{IsAnswered};
+ghost use Rattle.ufs_told.specs.Replies.{TellsFaults, device_in, is_refused, stopped_in};
 ghost use Rattle.ufs_server.specs.Away.{AwayStays, ForgetsNothing};
 ghost use Rattle.ufs_server.specs.Touching.{IsFileTouched};
 ghost use Rattle.ufs_store.specs.Numbers.{HasRaised};
-ghost use Rattle.ufs_server.specs.Numbers.{most_raised};
+ghost use Rattle.ufs_told.specs.Numbers.{most_raised};
 
 use crate::disk_server::DiskServer;
 use ufs_file::Applied;

@@ -6,7 +6,7 @@ impl DiskServer {
     ghost use Rattle.std.specs.Prelude.{◌≡◌, IfOk, sum_by};
     ghost use Rattle.ufs_model.specs.PosixTree.{PosixTree};
     ghost use Rattle.ufs_promise_laws.specs.Stored.{ArePartsOf};
-    ghost use Rattle.ufs_server.specs.Sizes.{size_in, total_size};
+    ghost use Rattle.ufs_told.specs.Sizes.{size_in, total_size};
 
     /// How large all files are together.
     pub fn total_size(&self) -> Result<u128, Memory>

@@ -8,11 +8,11 @@ ghost use Rattle.ufs_store.specs.State.{geometry_of_store};
 ghost use Rattle.ufs_promise_laws.specs.Sound.{IsSoundServer};
 ghost use Rattle.ufs_promise_laws.specs.Stamping.{ExplainsAllowed};
 ghost use Rattle.ufs_names_commit.specs.Laws.{HasNothingNoted};
-ghost use Rattle.ufs_server.specs.Answered.{IsUntold};
+ghost use Rattle.ufs_told.specs.Replies.{IsUntold};
 ghost use Rattle.ufs_server.specs.Served.{IsServedOn, KeepsPromise, MayServe, Stays, StaysOnDisk};
 ghost use Rattle.ufs_server.specs.Touching.{IsFileTouched};
 ghost use Rattle.ufs_store.specs.Numbers.{HasRaised};
-ghost use Rattle.ufs_server.specs.Numbers.{most_committed, most_raised};
+ghost use Rattle.ufs_told.specs.Numbers.{most_committed, most_raised};
 ghost use Rattle.ufs_model.specs.PosixTree.{PosixTree};
 ghost use Rattle.ufs_promise_laws.specs.Stored.{ArePartsOf};
 

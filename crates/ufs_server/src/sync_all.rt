@@ -12,9 +12,10 @@ ghost use Rattle.ufs_promise_laws.specs.Sound.{IsSoundServer};
 ghost use Rattle.ufs_promise_laws.specs.Stamping.{ExplainsAllowed, ExplainsNamed};
 ghost use Rattle.ufs_promise_laws.specs.Stored.{ArePartsOf};
 ghost use Rattle.ufs_names_commit.specs.Laws.{HasNothingNoted};
-ghost use Rattle.ufs_server.specs.Answered.{device_told, is_of_store};
+ghost use Rattle.ufs_told.specs.Replies.{device_told};
+ghost use Rattle.ufs_server.specs.Answered.{is_of_store};
 ghost use Rattle.ufs_server.specs.Away.{ForgetsNothing};
-ghost use Rattle.ufs_server.specs.Numbers.{most_committed};
+ghost use Rattle.ufs_told.specs.Numbers.{most_committed};
 ghost use Rattle.ufs_server.specs.Served.{CommitEnds};
 
 use crate::disk_server::DiskServer;

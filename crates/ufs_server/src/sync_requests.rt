@@ -14,10 +14,11 @@ ghost use Rattle.ufs_promise_laws.specs.OnDisk.{IsExplainedBetween, IsOnDisk};
 ghost use Rattle.ufs_promise_laws.specs.Sound.{IsSoundServer};
 ghost use Rattle.ufs_promise_laws.specs.Stamping.{ExplainsAllowed};
 ghost use Rattle.ufs_promise_laws.specs.Stored.{ArePartsOf};
-ghost use Rattle.ufs_server.specs.Answered.{IsSyncReply, TellsItsOwn, device_in, is_refused, reply_to, stopped_in};
+ghost use Rattle.ufs_server.specs.Answered.{IsSyncReply, reply_to};
+ghost use Rattle.ufs_told.specs.Replies.{TellsItsOwn, device_in, is_refused, stopped_in};
 ghost use Rattle.ufs_server.specs.Away.{ForgetsNothing};
 ghost use Rattle.ufs_server.specs.Served.{IsServedOn, KeepsPromise};
-ghost use Rattle.ufs_server.specs.Numbers.{most_raised};
+ghost use Rattle.ufs_told.specs.Numbers.{most_raised};
 
 use crate::disk_server::DiskServer;
 use ufs_calls::own_refusal;

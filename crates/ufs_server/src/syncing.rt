@@ -12,7 +12,8 @@ ghost use Rattle.ufs_store.specs.declared.fault.StoreFault.TheVariants as refusa
 ghost use Rattle.ufs_promise_laws.specs.OnDisk.{HasFile, HasFiles, HasNames, IsExplainedBetween, IsOnDisk};
 ghost use Rattle.ufs_promise_laws.specs.Sound.{IsSoundServer};
 ghost use Rattle.ufs_promise_laws.specs.Stamping.{ExplainsAllowed};
-ghost use Rattle.ufs_server.specs.Answered.{device_of, is_of_store};
+ghost use Rattle.ufs_told.specs.Replies.{device_of};
+ghost use Rattle.ufs_server.specs.Answered.{is_of_store};
 ghost use Rattle.ufs_server.specs.Served.{CommitEnds};
 
 use crate::disk_server::DiskServer;

@@ -19,12 +19,13 @@ use Rattle.ufs_promise_laws.specs.Parts.{Parts}
 use Rattle.ufs_promise_laws.specs.Sound.{IsSoundServer}
 use Rattle.ufs_session.specs.Drawing.{SeesDisk}
 use Rattle.ufs_session.specs.Picked.{MayHaveBegun}
-use Rattle.ufs_session.specs.Played.{BeginsAs, IsPlayedFrom, MayBegin}
+use Rattle.ufs_session.specs.Played.{BeginsAs, IsPlayedFrom}
+use Rattle.ufs_told.specs.MayBegin.{MayBegin}
 use Rattle.ufs_session.specs.Reading.{HasReadOn, IsNewTo}
 use Rattle.ufs_session.specs.Served.{AreServed, GoesAlong}
 use Rattle.ufs_session.specs.Serving.{IsReached, IsReady, GoesOn, IsDone}
-use Rattle.ufs_session.specs.Told.{AreFaultsTold}
-use Rattle.ufs_session.proofs.ToldLemmas.{none_told}
+use Rattle.ufs_told.specs.Told.{AreFaultsTold}
+use Rattle.ufs_told.proofs.ToldLemmas.{none_told}
 use Rattle.ufs_session.proofs.Picked.{picks_begin}
 use Rattle.ufs_session.proofs.ReadOnLemmas.{joined_on, none_on, sees_on}
 

@@ -22,7 +22,8 @@ use Rattle.ufs_hand_laws.specs.Parts.{Start, View}
 use Rattle.ufs_hand_laws.specs.Visible.{IsDiskVisible}
 use Rattle.ufs_promise_laws.specs.Parts.{Parts}
 use Rattle.ufs_session.specs.Drawing.{IsServedIn, entry_had, had_as, tree_had}
-use Rattle.ufs_session.specs.Played.{BeginsAs, IsLikeStart, MayBegin}
+use Rattle.ufs_session.specs.Played.{BeginsAs, IsLikeStart}
+use Rattle.ufs_told.specs.MayBegin.{MayBegin}
 
 -- ---- of any history
 

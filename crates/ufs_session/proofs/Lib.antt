@@ -1,9 +1,5 @@
-pub mod ToldLemmas
-mod CausedLemmas
-mod ToldRows
 pub mod ServingLemmas
 pub mod ClientsLemmas
-pub mod ThroughoutLemmas
 pub mod OwnLemmas
 pub mod SeenLemmas
 pub mod HadLemmas

@@ -25,9 +25,8 @@ use Rattle.ufs_names.proofs.FileRequestLemmas.{keeps_names}
 use Rattle.ufs_names.specs.NamesPart.{IsNamesPart}
 use Rattle.ufs_crash_laws.specs.Changes.{asks_commit}
 use Rattle.ufs_crash_laws.specs.Steps.{is_ok}
-use Rattle.ufs_server.specs.Answered.{IsAnswered, is_refused, stopped_in}
-use Rattle.ufs_store.specs.State.{StoreState}
-use Rattle.ufs_promise_laws.specs.OnDisk.{IsOnDisk}
+use Rattle.ufs_server.specs.Answered.{IsAnswered}
+use Rattle.ufs_told.specs.Replies.{is_refused, stopped_in}
 use Rattle.ufs_promise_laws.specs.Parts.{Parts}
 use Rattle.ufs_promise_laws.specs.Stored.{ArePartsOf}
 use Rattle.ufs_promise_laws.proofs.Whole.{file_stays}
@@ -97,10 +96,6 @@ module _ (p : Parts) (t : PosixTree) (ask : Ask) (answer : Reply) (desc : Option
       by : ((e : Errno) × (posix t ask.client ask.op ≡ (t, reply.Refused e))) ⊎ ((is_own_seek ask.op ≡ true) × (own_refusal t ask.client ask.op ≡ None)) → is_refused answer ≡ true
       by (inl refused) = ap is_refused is.replied ∙ ap (λ (x : PosixTree × Reply). is_refused x.1) refused.1
       by (inr seek) = (let no : true ≡ false = sym kind ∙ seek_unsynced ask.op seek.0 in absurd cc)
-
-pub parts_on_disk : (s : StoreState) (start : PosixTree) (history : List Entry) (p : Parts) → IsOnDisk s start history p → ArePartsOf p (tree_after start history)
-parts_on_disk s start history p (inl going) = going.stored.parts
-parts_on_disk s start history p (inr stopped) = stopped.parts
 
 -- the parts are those of the tree behind the entry
 pub parts_behind : (p : Parts) (start : PosixTree) (history : List Entry) (entry : Entry) (ask : Ask) (desc : Option Desc) → entry.client ≡ ask.client → entry.op ≡ ask.op → is_excused entry.reply ≡ false

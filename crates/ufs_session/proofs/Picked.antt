@@ -20,7 +20,8 @@ use Rattle.ufs_file.specs.Content.{own_bytes}
 use Rattle.ufs_server.specs.Away.{AwayStays, ForgetsNothing, IsAway}
 use Rattle.ufs_server.specs.Fetched.{HasReadFurther}
 use Rattle.ufs_session.specs.Picked.{HasPicked, HasReadOf, IsUnpicked, MayHaveBegun, Pick}
-use Rattle.ufs_session.specs.Played.{BeginsAs, IsLikeStart, MayBegin}
+use Rattle.ufs_session.specs.Played.{BeginsAs, IsLikeStart}
+use Rattle.ufs_told.specs.MayBegin.{MayBegin}
 use Rattle.ufs_session.specs.Serving.{IsReached}
 use Rattle.ufs_bytes_laws.proofs.BlockTreeLemmas.{blocks_alike, blocks_else, blocks_marked, blocks_same, with_blocks}
 use Rattle.ufs_session.proofs.FurtherLemmas.{IsNoneRead, IsOneRead, IsReadOf, as_long, away_before, away_in, came_away, came_own, came_there, none_away, none_parts, not_both, one_or_none, parts_away, parts_read}

@@ -18,9 +18,9 @@ use Rattle.ufs_session.specs.Drawing.{SeesDisk}
 use Rattle.ufs_session.specs.Picked.{HasPicked, HasReadOf, MayHaveBegun, Pick}
 use Rattle.ufs_session.specs.Reading.{HasReadOn}
 use Rattle.ufs_session.specs.Serving.{IsReached, IsServedReading}
-use Rattle.ufs_session.specs.Throughout.{IsExplainedThroughout}
+use Rattle.ufs_told.specs.Throughout.{IsExplainedThroughout}
 use Rattle.ufs_session.proofs.Picked.{picks_read, picks_serve}
-use Rattle.ufs_session.proofs.ThroughoutLemmas.{throughout_joined}
+use Rattle.ufs_told.proofs.ThroughoutLemmas.{throughout_joined}
 
 -- where the disk is seen the session may have begun with the start's tree
 pub may_seen : (k : Start) (begun : Parts) (picks : List Pick) (p : Parts) (history : List Entry) → HasReadOf k begun picks p history → IsDiskVisible k → MayHaveBegun begun picks k.tree

@@ -12,13 +12,13 @@ use Rattle.ufs_model.specs.declared.data.Reply.{Reply}
 use Rattle.ufs_model.specs.declared.data.Reply.TheVariants as reply
 use Rattle.ufs_model.proofs.Facts.Lookups.{from_some}
 use Rattle.ufs_names.specs.NamesPart.{IsNamesPart, NamesPart}
-use Rattle.ufs_server.specs.Answered.{TellsFaults, device_in, device_of, stopped_in, stopped_of}
+use Rattle.ufs_told.specs.Replies.{TellsFaults, device_in, device_of, stopped_in, stopped_of, is_of_read}
 use Rattle.ufs_store.specs.State.{StoreState}
 use Rattle.ufs_promise_laws.specs.Parts.{Parts}
 use Rattle.ufs_promise_laws.specs.Stored.{ArePartsOf}
 use Rattle.ufs_server.specs.Away.{ForgetsNothing}
-use Rattle.ufs_server.specs.Fetched.{HasReadFurther, IsReadFurther, is_of_read}
-use Rattle.ufs_session.specs.Told.{TellsRequest}
+use Rattle.ufs_server.specs.Fetched.{HasReadFurther, IsReadFurther}
+use Rattle.ufs_told.specs.Told.{TellsRequest}
 
 -- ---- nothing was read
 

@@ -17,8 +17,8 @@ use Rattle.ufs_store.specs.State.{StoreState}
 use Rattle.ufs_session.specs.Drawing.{KnowsFaults}
 use Rattle.ufs_session.specs.Gathered.{AreParted}
 use Rattle.ufs_session.specs.Resting.{IsResting, KnowsDisk}
-use Rattle.ufs_session.specs.Told.{IsReadFault, IsStopFault, TellsRequest}
-use Rattle.ufs_session.proofs.ToldLemmas.{Meets, meets}
+use Rattle.ufs_told.specs.Told.{IsReadFault, IsStopFault, TellsRequest}
+use Rattle.ufs_told.proofs.ToldLemmas.{Meets, meets}
 
 -- ---- the hand goes on
 

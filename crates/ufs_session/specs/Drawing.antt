@@ -17,7 +17,7 @@ use Rattle.ufs_model.specs.declared.data.Reply.TheVariants as reply
 use Rattle.ufs_crash_laws.specs.Changes.{asks_commit}
 use Rattle.ufs_crash_laws.specs.Steps.{is_ok}
 use Rattle.ufs_one_hand.specs.Apart.{FileViews, HasEachFile}
-use Rattle.ufs_server.specs.Answered.{device_in, stopped_in}
+use Rattle.ufs_told.specs.Replies.{device_in, stopped_in}
 use Rattle.ufs_hand_laws.specs.Owned.{times}
 use Rattle.ufs_hand_laws.specs.Parts.{Shortage, Start, View}
 use Rattle.ufs_hand_laws.specs.Visible.{IsDiskVisible}

@@ -1,4 +1,3 @@
-pub mod Told
 pub mod Played
 pub mod Serving
 pub mod Served

@@ -7,7 +7,8 @@ use Rattle.ufs_model.specs.PosixTree.{PosixTree}
 use Rattle.ufs_model.specs.declared.data.Entry.{Entry}
 use Rattle.ufs_file.specs.Content.{own_bytes}
 use Rattle.ufs_server.specs.Away.{AwayStays, IsAway}
-use Rattle.ufs_session.specs.Played.{IsLikeStart, MayBegin}
+use Rattle.ufs_session.specs.Played.{IsLikeStart}
+use Rattle.ufs_told.specs.MayBegin.{MayBegin}
 use Rattle.ufs_session.specs.Serving.{IsReached}
 use Rattle.ufs_hand_laws.specs.Owned.{Has}
 use Rattle.ufs_hand_laws.specs.Parts.{Start}

@@ -1,8 +1,6 @@
 -- What a session from a tree has told its clients.
-use Rattle.std.specs.Prelude.{ℕ, ◌≡◌, ◌+◌, ◌*◌, ◌^◌, ◌≤◌, List, Result, Ok, None, length}
-use Rattle.std.specs.FinMap as map
+use Rattle.std.specs.Prelude.{◌≡◌, List, Result, Ok, length}
 use Rattle.ufs_bytes_laws.specs.Alike.{AreAlike}
-use Rattle.ufs_base.specs.declared.limits.TheConstants.{MAX_CLIENTS, MAX_REQUESTS}
 use Rattle.ufs_model.specs.PosixTree.{PosixTree}
 use Rattle.ufs_model.specs.History.{IsLegal, IsInOrder, IsComplete, joined, tree_after}
 use Rattle.ufs_model.specs.declared.data.Op.{Op}
@@ -14,12 +12,6 @@ use Rattle.ufs_hand_laws.specs.Parts.{Start}
 use Rattle.ufs_hand_laws.specs.Visible.{IsDiskVisible}
 use Rattle.ufs_promise_laws.specs.Parts.{Parts}
 use Rattle.ufs_promise_laws.specs.Stored.{ArePartsOf}
-
--- A session may begin with this tree, of which these are the parts: nothing is open in it, and file numbers stay small.
-pub record MayBegin (p : Parts) (start : PosixTree) : Type 0 where
-  pub parts : ArePartsOf p start
-  pub closed : (client fd : ℕ) → map.get start.fds (client, fd) ≡ None
-  pub numbers : start.next + MAX_CLIENTS * MAX_REQUESTS ≤ 2 ^ 31
 
 -- The tree is the start's. Over a disk that the start doesn't see, its files may have other bytes, and as many.
 pub record IsLikeStart (k : Start) (tree : PosixTree) : Type 0 where

@@ -6,7 +6,7 @@ use Rattle.ufs_model.specs.declared.data.Entry.{Entry}
 use Rattle.ufs_model.specs.declared.data.Op.{Op}
 use Rattle.ufs_session.specs.Picked.{HasPicked, HasReadOf, MayHaveBegun, Pick}
 use Rattle.ufs_session.specs.Serving.{IsDone, IsReady}
-use Rattle.ufs_session.specs.Throughout.{IsExplainedThroughout}
+use Rattle.ufs_told.specs.Throughout.{IsExplainedThroughout}
 use Rattle.ufs_hand_laws.specs.Parts.{Start}
 use Rattle.ufs_store.specs.State.{StoreState}
 use Rattle.ufs_promise_laws.specs.OnDisk.{IsOnDisk}

@@ -5,9 +5,10 @@ use Rattle.ufs_model.specs.History.{joined, tree_after}
 use Rattle.ufs_model.specs.PosixTree.{PosixTree}
 use Rattle.ufs_model.specs.declared.data.Entry.{Entry}
 use Rattle.ufs_model.specs.declared.data.Op.{Op}
-use Rattle.ufs_session.specs.Played.{IsPlayedFrom, IsPlayedLike, MayBegin}
-use Rattle.ufs_session.specs.Throughout.{IsExplainedThroughout}
-use Rattle.ufs_session.specs.Told.{AreFaultsTold}
+use Rattle.ufs_session.specs.Played.{IsPlayedFrom, IsPlayedLike}
+use Rattle.ufs_told.specs.MayBegin.{MayBegin}
+use Rattle.ufs_told.specs.Throughout.{IsExplainedThroughout}
+use Rattle.ufs_told.specs.Told.{AreFaultsTold}
 use Rattle.ufs_hand_laws.specs.Parts.{Start}
 use Rattle.ufs_store.specs.State.{StoreState, geometry_of_store}
 use Rattle.ufs_promise_laws.specs.OnDisk.{IsOnDisk}

@@ -19,7 +19,7 @@ use Rattle.ufs_store.specs.Mounting.{marking}
 use Rattle.ufs_store.specs.State.{StoreState}
 use Rattle.ufs_store.specs.Tables.{state_of}
 use Rattle.ufs_promise_laws.specs.OnDisk.{IsExplainedBetween, IsExplainedImage}
-use Rattle.ufs_engine.specs.Laws.{IsReadClean, parts_of}
+use Rattle.ufs_brink.specs.Laws.{IsReadClean, parts_of}
 use Rattle.ufs_joint.specs.FirstHand.{Beginning, with_store}
 use Rattle.ufs_joint.specs.Ready.{IsReady}
 use Rattle.ufs_begin_hands.specs.Mounted.{beginning_of}

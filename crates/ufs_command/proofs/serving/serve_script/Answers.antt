@@ -2,7 +2,7 @@ use Rattle.std.proofs.Common.{inl, inr, length}
 use Rattle.ufs_disk.specs.Moments.{reads}
 use Rattle.ufs_promise_laws.specs.Last.{StandsForTree}
 use Rattle.ufs_model.specs.History.{joined, tree_after}
-use Rattle.ufs_engine.specs.Numbers.{RaisesNumbers}
+use Rattle.ufs_brink.specs.Numbers.{RaisesNumbers}
 use Rattle.ufs_recovery.specs.Recovered.{IsCleanDisk}
 use Rattle.ufs_command.specs.Seen.{formatting, writing}
 use Rattle.ufs_print.specs.Printed.{session_lines}

@@ -6,13 +6,13 @@ use Rattle.ufs_disk.specs.Moments.{Moments, reads}
 use Rattle.ufs_image.specs.Opens.{opens}
 use Rattle.ufs_model.specs.PosixTree.{PosixTree}
 use Rattle.ufs_recovery.specs.Recovered.{IsCleanDisk, IsProperDisk}
-use Rattle.ufs_session.proofs.ThroughoutLemmas.{between_joined}
+use Rattle.ufs_told.proofs.ThroughoutLemmas.{between_joined}
 use Rattle.ufs_start.specs.Begun.{IsBegun}
 use Rattle.ufs_start.specs.Refused.{HasStartCause}
 use Rattle.ufs_promise_laws.specs.OnDisk.{IsExplainedBetween}
-use Rattle.ufs_engine.specs.Begins.{BeginsWith}
-use Rattle.ufs_engine.proofs.Numbers.{begins_from}
-use Rattle.ufs_engine.proofs.Read.{begins_alike, outside_session, proper_begins, recovery_explained, same_tree}
+use Rattle.ufs_brink.specs.Begins.{BeginsWith}
+use Rattle.ufs_brink.proofs.Numbers.{begins_from}
+use Rattle.ufs_brink.proofs.Read.{begins_alike, outside_session, proper_begins, recovery_explained, same_tree}
 use Rattle.ufs_engine.proofs.beginning.begin.Given.{Over}
 use Rattle.ufs_engine.proofs.beginning.begin.Goals.{After-mount}
 use Rattle.ufs_engine.proofs.beginning.begin.Goals as goal

@@ -13,7 +13,8 @@ use Rattle.ufs_model.specs.PosixTree.{PosixTree}
 use Rattle.ufs_promise_laws.specs.Starts.{image_start}
 use Rattle.ufs_one_hand.specs.OneHand.{IsStart, seeing}
 use Rattle.ufs_one_hand.proofs.Started.{seeing_starts}
-use Rattle.ufs_session.specs.Played.{MayBegin}
+use Rattle.ufs_brink.specs.Begins.{BeginsWith}
+use Rattle.ufs_told.specs.MayBegin.{MayBegin}
 use Rattle.ufs_hand_laws.specs.Parts as sound
 use Rattle.ufs_hand_laws.specs.Visible.{IsDiskVisible}
 use Rattle.ufs_start.specs.Begun.{tree_under, volume_under}
@@ -22,16 +23,15 @@ use Rattle.ufs_store_steps.specs.Cells.{cells_of}
 use Rattle.ufs_promise_laws.specs.OnDisk.{IsExplainedImage}
 use Rattle.ufs_promise_laws.specs.Parts.{Parts}
 use Rattle.ufs_promise_laws.specs.Sound.{IsSoundServer}
-use Rattle.ufs_engine.specs.Begins.{BeginsWith}
-use Rattle.ufs_engine.specs.Laws.{IsReadClean, parts_of}
+use Rattle.ufs_brink.specs.Laws.{IsReadClean, parts_of}
 use Rattle.ufs_image.specs.Volume.{Volume, superblock_of}
 use Rattle.ufs_image.proofs.Journals.{taken}
 use Rattle.ufs_layout.specs.Superblock.{geometry_of}
 use Rattle.ufs_layout.specs.declared.superblock.Super.{Super}
-use Rattle.ufs_engine.proofs.Read.{clean_explained}
-use Rattle.ufs_engine.proofs.Refused.{refused_leaves}
+use Rattle.ufs_brink.proofs.Read.{clean_explained}
+use Rattle.ufs_brink.proofs.Refused.{refused_leaves}
 use Rattle.ufs_engine.proofs.Seen.{clean_seen, seen_clean, seen_visible}
-use Rattle.ufs_engine.proofs.Starts.{is_form, same_start}
+use Rattle.ufs_brink.proofs.Starts.{is_form, same_start}
 use Rattle.ufs_engine.proofs.beginning.mount.Goals as goal
 
 pub mount-requires-clause-form : goal.mount-requires-clause-form

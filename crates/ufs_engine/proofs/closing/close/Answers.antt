@@ -1,19 +1,14 @@
 use Rattle.std.proofs.Common.{◌≡◌, ◌∙◌, ℕ, Err, ap, sym, subst}
 use Rattle.std.proofs.lemmas.Result.{on_ok_weaker}
-use Rattle.ufs_disk.specs.Moments.{Moments}
-use Rattle.ufs_engine.specs.Closes.{closing_fault}
-use Rattle.ufs_engine.specs.declared.closing.CloseFault.{CloseFault}
+use Rattle.ufs_disk.specs.Moments.{Moments, reads}
+use Rattle.ufs_brink.specs.Closes.{closing_fault}
+use Rattle.ufs_brink.specs.declared.closing.CloseFault.{CloseFault}
 use Rattle.ufs_model.specs.declared.data.Excuse.{Excuse}
 use Rattle.ufs_model.specs.declared.data.Excuse.TheVariants as excuse
-use Rattle.ufs_engine.specs.declared.closing.CloseFault.TheVariants as cause
+use Rattle.ufs_brink.specs.declared.closing.CloseFault.TheVariants as cause
 use Rattle.ufs_store.specs.Refusals.{IsTold}
 use Rattle.ufs_promise_laws.specs.OnDisk.{IsExplainedBetween}
-use Rattle.ufs_base.specs.Images.{Image}
-use Rattle.ufs_disk.specs.Moments.{reads}
-use Rattle.ufs_recovery.specs.Recovered.{IsRecovered}
-use Rattle.ufs_store.specs.State.{StoreState}
-use Rattle.ufs_store.specs.Tables.{state_of}
-use Rattle.ufs_engine.proofs.ClosedNumbers.{closes_from, has_superblock}
+use Rattle.ufs_brink.proofs.ClosedNumbers.{closes_from}
 use Rattle.ufs_engine.proofs.Ended.{ended_clean, ended_explained, ended_last, proper_given, tells_none, told_alike, told_behind}
 use Rattle.ufs_engine.proofs.closing.close.Goals as goal
 

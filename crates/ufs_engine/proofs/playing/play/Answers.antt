@@ -14,21 +14,22 @@ use Rattle.ufs_model.specs.History.{AreTicketsOnce, joined, tree_after}
 use Rattle.ufs_model.specs.Order.{fd_cmp}
 use Rattle.ufs_model.specs.PosixTree.{PosixTree, root_alone}
 use Rattle.ufs_model.specs.declared.data.Entry.{Entry}
-use Rattle.ufs_engine.specs.Begins.{BeginsWith}
+use Rattle.ufs_brink.specs.Begins.{BeginsWith}
+use Rattle.ufs_told.specs.MayBegin.{MayBegin}
 use Rattle.ufs_engine.specs.Plays.{AreFaultsOf, HasBytes, IsEndFault, IsStampedThroughout, MayPlay, served_end}
 use Rattle.ufs_recovery.specs.Recovered.{IsCleanDisk}
-use Rattle.ufs_server.specs.Sizes.{total_size}
-use Rattle.ufs_session.specs.Played.{IsPlayedFrom, MayBegin}
-use Rattle.ufs_session.specs.Throughout.{AreMomentsStamped, IsExplainedThroughout}
+use Rattle.ufs_told.specs.Sizes.{total_size}
+use Rattle.ufs_session.specs.Played.{IsPlayedFrom}
+use Rattle.ufs_session.specs.Throughout.{AreMomentsStamped}
+use Rattle.ufs_told.specs.Throughout.{IsExplainedThroughout}
 use Rattle.ufs_session.proofs.HadLemmas.{begins_itself}
-use Rattle.ufs_session.proofs.ThroughoutLemmas.{throughout_after, throughout_before}
+use Rattle.ufs_told.proofs.ThroughoutLemmas.{throughout_after, throughout_before}
 use Rattle.ufs_store.specs.State.{StoreState}
 use Rattle.ufs_store.specs.Tables.{state_of}
 use Rattle.ufs_promise_laws.specs.OnDisk.{IsExplainedBetween, IsOnDisk}
 use Rattle.ufs_promise_laws.specs.Stored.{ArePartsOf}
 use Rattle.ufs_engine.proofs.EndLemmas.{both_ok, bytes_told, end_fault, faults_of, never_ended, no_faults, none_played, not_served, played_as}
-use Rattle.ufs_engine.proofs.Numbers.{raises_numbers}
-use Rattle.ufs_engine.specs.Numbers.{RaisesNumbers}
+use Rattle.ufs_brink.proofs.Numbers.{raises_numbers}
 use Rattle.ufs_engine.proofs.StampedLemmas.{none_stamped, passed_throughout}
 use Rattle.ufs_engine.proofs.playing.play.Given.{Over}
 use Rattle.ufs_engine.proofs.playing.play.Goals.{After-drop-script}

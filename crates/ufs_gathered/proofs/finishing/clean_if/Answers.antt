@@ -1,8 +1,8 @@
 use Rattle.std.proofs.Common.{Result, Err, ap, refl, subst, sym}
 use Rattle.ufs_disk.specs.Disk.{IsImage}
 use Rattle.ufs_disk.proofs.Runs.{started}
-use Rattle.ufs_engine.specs.declared.closing.CloseFault.{CloseFault}
-use Rattle.ufs_engine.proofs.Ended.{as_it_was}
+use Rattle.ufs_brink.specs.declared.closing.CloseFault.{CloseFault}
+use Rattle.ufs_brink.proofs.Cleaned.{as_it_was}
 use Rattle.ufs_store.specs.declared.fault.StoreFault.{StoreFault}
 use Rattle.ufs_gathered.specs.Finished.{EndsBehind}
 use Rattle.ufs_gathered.proofs.finishing.clean_if.Goals as goal

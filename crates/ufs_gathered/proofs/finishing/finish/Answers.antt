@@ -4,7 +4,7 @@ use Rattle.std.specs.Prelude.{IfErr, OnOk, is_ok}
 use Rattle.std.proofs.lemmas.Result.{on_ok_weaker}
 use Rattle.ufs_disk.specs.Disk.{Leaves}
 use Rattle.ufs_disk.specs.Moments.{LeavesOnly, Moments, reads}
-use Rattle.ufs_engine.specs.Closes.{OpensAsLeft, tells_unsound}
+use Rattle.ufs_brink.specs.Closes.{OpensAsLeft, tells_unsound}
 use Rattle.ufs_held.specs.Together.{under_numbers}
 use Rattle.ufs_image.specs.Proper.{IsProperImage}
 use Rattle.ufs_image.specs.Volume.{superblock_of}

@@ -1,5 +1,5 @@
 use Rattle.std.proofs.Common.{◌≡◌, ◌++◌, ◌≤◌, ℕ, List, length, None, Some, sym, refl, ap, ◌∙◌, subst, inl, arith}
-use Rattle.ufs_server.specs.Answered.{device_in, stopped_in}
+use Rattle.ufs_told.specs.Replies.{device_in, stopped_in}
 use Rattle.ufs_session.specs.Drawing.{short_in}
 use Rattle.ufs_hand_laws.specs.Owned.{Has, times}
 use Rattle.ufs_hand_laws.specs.Parts.{Cells, Shortage}

@@ -4,17 +4,18 @@ use Rattle.ufs_file.specs.Content.{own_bytes}
 use Rattle.ufs_model.specs.FileBytes.{bytes_of}
 use Rattle.ufs_model.specs.History.{is_excused}
 use Rattle.ufs_model.specs.PosixTree.{Files}
-use Rattle.ufs_server.proofs.Beside.{calm_told, no_device}
+use Rattle.ufs_told.proofs.Beside.{calm_told, no_device}
 use Rattle.ufs_server.proofs.FileFetching.{none_read}
-use Rattle.ufs_server.specs.Numbers.{most_raised}
+use Rattle.ufs_told.specs.Numbers.{most_raised}
 use Rattle.ufs_store.proofs.Raised.{raises_none}
 use Rattle.ufs_session.specs.Asking.{IsOwnTold}
 use Rattle.ufs_store.specs.State.{geometry_of_store}
-use Rattle.ufs_session.proofs.CausedLemmas.{own_caused}
-use Rattle.ufs_session.proofs.OwnLemmas.{bytes_behind, nothing, own_answered, own_refused, parts_behind, parts_on_disk, same_bytes}
+use Rattle.ufs_told.proofs.CausedLemmas.{own_caused}
+use Rattle.ufs_session.proofs.OwnLemmas.{bytes_behind, nothing, own_answered, own_refused, parts_behind, same_bytes}
+use Rattle.ufs_told.proofs.OnDisk.{parts_on_disk}
 use Rattle.ufs_session.proofs.ReadingLemmas.{nothing_forgotten}
-use Rattle.ufs_session.proofs.ThroughoutLemmas.{throughout_one}
-use Rattle.ufs_session.proofs.ToldLemmas.{plain_going, served_told}
+use Rattle.ufs_told.proofs.ThroughoutLemmas.{throughout_one}
+use Rattle.ufs_told.proofs.ToldLemmas.{plain_going, served_told}
 use Rattle.ufs_session.proofs.request.serve_asked.Given.{Over}
 use Rattle.ufs_session.proofs.request.serve_asked.Goals as goal
 use Rattle.ufs_session.proofs.request.serve_asked.Goals.{In-Some}

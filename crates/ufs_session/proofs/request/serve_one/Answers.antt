@@ -16,19 +16,19 @@ use Rattle.ufs_model.specs.History.{is_excused}
 use Rattle.ufs_model.specs.PosixTree.{PosixTree}
 use Rattle.ufs_model.specs.declared.data.Entry.{Entry}
 use Rattle.ufs_server.proofs.FileFetching.{none_read}
-use Rattle.ufs_server.specs.Answered.{device_told}
+use Rattle.ufs_told.specs.Replies.{device_told}
 use Rattle.ufs_store.specs.State.{geometry_of_store}
 use Rattle.ufs_promise_laws.specs.OnDisk.{IsExplainedBetween, IsOnDisk}
 use Rattle.ufs_promise_laws.proofs.Stamping.{go_on}
 use Rattle.ufs_layout.specs.declared.geometry.Geometry.{Geometry}
-use Rattle.ufs_server.specs.Numbers.{most_raised}
+use Rattle.ufs_told.specs.Numbers.{most_raised}
 use Rattle.ufs_store.specs.Numbers.{HasRaised}
 use Rattle.ufs_store.proofs.Raised.{raises_behind, raises_more, raises_none}
-use Rattle.ufs_session.proofs.CausedLemmas.{memory_caused, read_caused, served_caused}
+use Rattle.ufs_told.proofs.CausedLemmas.{memory_caused, read_caused, served_caused}
 use Rattle.ufs_session.proofs.FurtherLemmas.{tree_read}
-use Rattle.ufs_session.proofs.OwnLemmas.{parts_on_disk}
+use Rattle.ufs_told.proofs.OnDisk.{parts_on_disk}
 use Rattle.ufs_session.proofs.ReadingLemmas.{nothing_forgotten, parts_before, read_failed, read_served, same_excuse}
-use Rattle.ufs_session.proofs.ThroughoutLemmas.{between_joined, throughout_one}
+use Rattle.ufs_told.proofs.ThroughoutLemmas.{between_joined, throughout_one}
 use Rattle.ufs_session.proofs.request.serve_one.Given.{Over}
 use Rattle.ufs_session.proofs.request.serve_one.Goals as goal
 use Rattle.ufs_session.proofs.request.serve_one.Goals.{After-apply}

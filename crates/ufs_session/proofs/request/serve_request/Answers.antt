@@ -21,15 +21,15 @@ use Rattle.ufs_session.specs.Gathered.{IsFileTold, IsTogether}
 use Rattle.ufs_session.specs.Picked.{HasReadOf, MayHaveBegun, Pick}
 use Rattle.ufs_session.specs.Reading.{HasReadOn}
 use Rattle.ufs_session.specs.Resting.{IsResting, KnowsDisk}
-use Rattle.ufs_session.specs.Told.{AreFaultsTold}
+use Rattle.ufs_told.specs.Told.{AreFaultsTold}
 use Rattle.ufs_session.proofs.AskingLemmas.{asking_at, away_behind, has_answered, served_behind}
-use Rattle.ufs_session.proofs.CausedLemmas.{caused_as}
+use Rattle.ufs_told.proofs.CausedLemmas.{caused_as}
 use Rattle.ufs_session.proofs.GatheredLemmas.{has_files}
 use Rattle.ufs_session.proofs.HadLemmas.{had_alike, had_own, reply_had, served_had, told_seen}
 use Rattle.ufs_session.proofs.ReadOnLemmas.{began_before, may_seen, one_on, picked_now, read_now}
 use Rattle.ufs_session.proofs.RestingLemmas.{knows_beside, knows_on, stamping_begins, stamping_faults, stamping_knows}
 use Rattle.ufs_session.proofs.SeenLemmas.{explained_cells}
-use Rattle.ufs_session.proofs.ToldLemmas.{legal_told, one_raised, one_told, told_on}
+use Rattle.ufs_told.proofs.ToldLemmas.{legal_told, one_raised, one_told, told_on}
 use Rattle.ufs_session.proofs.request.serve_request.Given.{Over}
 use Rattle.ufs_session.proofs.request.serve_request.Goals as goal
 use Rattle.ufs_session.proofs.request.serve_request.Goals.{After-draw-entry, After-gather, After-keep}

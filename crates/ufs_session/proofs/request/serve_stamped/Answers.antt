@@ -1,7 +1,7 @@
 use Rattle.std.proofs.Common.{◌∷◌, ◌++◌, [], sym, subst}
 use Rattle.ufs_ledger.specs.Kept.{OpensExplained}
-use Rattle.ufs_session.specs.Throughout.{IsExplainedThroughout}
-use Rattle.ufs_session.specs.Told.{IsCaused}
+use Rattle.ufs_told.specs.Throughout.{IsExplainedThroughout}
+use Rattle.ufs_told.specs.Told.{IsCaused}
 use Rattle.ufs_stamped.specs.Stamped.{StoreBefore}
 use Rattle.ufs_store.specs.State.{StoreState}
 use Rattle.ufs_promise_laws.specs.OnDisk.{IsOnDisk}

@@ -13,10 +13,10 @@ use Rattle.ufs_session.specs.Picked.{Pick}
 use Rattle.ufs_session.specs.Reading.{HasServedOn, IsNewTo}
 use Rattle.ufs_session.specs.Resting.{IsResting}
 use Rattle.ufs_session.specs.Serving.{GoesOn}
-use Rattle.ufs_session.specs.Told.{AreFaultsTold}
+use Rattle.ufs_told.specs.Told.{AreFaultsTold}
 use Rattle.ufs_session.proofs.ReadOnLemmas.{joined_on, none_on, sees_on}
 use Rattle.ufs_session.proofs.ServingLemmas.{IsReading, IsServing, begins, few_so_far, is_asking, is_done, names_few, one_serving, serving_more}
-use Rattle.ufs_session.proofs.ToldLemmas.{none_told, told_on}
+use Rattle.ufs_told.proofs.ToldLemmas.{none_told, told_on}
 use Rattle.ufs_session.proofs.session.serve_client.Given.{Over}
 use Rattle.ufs_session.proofs.session.serve_client.Goals as goal
 use Rattle.ufs_session.proofs.session.serve_client.Goals.{After-ask-asked}

@@ -8,7 +8,7 @@ use Rattle.ufs_session.specs.Drawing.{had_as}
 use Rattle.ufs_session.specs.Picked.{Pick}
 use Rattle.ufs_session.specs.Reading.{IsNewTo}
 use Rattle.ufs_session.specs.Resting.{IsResting}
-use Rattle.ufs_session.specs.Told.{AreFaultsTold}
+use Rattle.ufs_told.specs.Told.{AreFaultsTold}
 use Rattle.ufs_session.proofs.ServingLemmas.{IsReading}
 use Rattle.ufs_session.proofs.session.serve_client.Given as goal
 

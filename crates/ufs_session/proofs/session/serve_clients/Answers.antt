@@ -15,10 +15,10 @@ use Rattle.ufs_session.specs.Reading.{HasReadOn, IsNewTo}
 use Rattle.ufs_session.specs.Resting.{IsResting}
 use Rattle.ufs_session.specs.Served.{AreServed}
 use Rattle.ufs_session.specs.Serving.{IsDone, IsReached}
-use Rattle.ufs_session.specs.Told.{AreFaultsTold}
+use Rattle.ufs_told.specs.Told.{AreFaultsTold}
 use Rattle.ufs_session.proofs.ClientsLemmas.{AreServing, HasReadWith, few, low, none_served, one_client_more, played_here, played_more, ready, served_all, with_more, with_new, with_none, with_sees}
 use Rattle.ufs_session.proofs.RestingLemmas.{regrouped}
-use Rattle.ufs_session.proofs.ToldLemmas.{none_told, once_told, told_on}
+use Rattle.ufs_told.proofs.ToldLemmas.{none_told, once_told, told_on}
 use Rattle.ufs_session.proofs.session.serve_clients.Given.{Over}
 use Rattle.ufs_session.proofs.session.serve_clients.Goals as goal
 use Rattle.ufs_session.proofs.session.serve_clients.Goals.{After-new-mine, After-unwrap}

@@ -4,7 +4,7 @@ use Rattle.ufs_store.specs.State.{geometry_of_store}
 use Rattle.ufs_promise_laws.specs.Sound.{IsSoundServer}
 use Rattle.ufs_session.specs.Drawing.{had_as}
 use Rattle.ufs_session.specs.Resting.{IsResting}
-use Rattle.ufs_session.specs.Told.{AreFaultsTold}
+use Rattle.ufs_told.specs.Told.{AreFaultsTold}
 use Rattle.ufs_session.proofs.ClientsLemmas.{AreServing, HasReadWith}
 use Rattle.ufs_session.proofs.session.serve_clients.Given as goal
 

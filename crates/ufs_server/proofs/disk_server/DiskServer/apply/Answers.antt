@@ -2,7 +2,7 @@ use Rattle.std.proofs.Common.{◌≡◌, ◌≢◌, Some, None, true, false, ap,
 use Rattle.ufs_model.specs.declared.data.Op.{Op}
 use Rattle.ufs_model.specs.declared.data.Op.TheVariants as op
 use Rattle.ufs_crash_laws.specs.Changes.{asks_commit}
-use Rattle.ufs_server.proofs.Beside.{beside_told, no_device, no_stopped}
+use Rattle.ufs_told.proofs.Beside.{beside_told, no_device, no_stopped}
 use Rattle.ufs_server.proofs.disk_server.DiskServer.apply.Goals as goal
 
 pub returns-then-is_sync-clause-on_disk : goal.returns-then-is_sync-clause-on_disk

@@ -1,7 +1,7 @@
 use Rattle.std.proofs.Common.{◌≡◌, ◌∙◌, true, ap, sym}
 use Rattle.ufs_store.proofs.Raised.{raises_none}
 use Rattle.ufs_store.specs.State.{StoreState}
-use Rattle.ufs_server.specs.Fetched.{is_of_read}
+use Rattle.ufs_told.specs.Replies.{is_of_read}
 use Rattle.ufs_server.proofs.FileCommitting.{same_error}
 use Rattle.ufs_server.proofs.FileFetching.{allowed_there, needs_those, read_fits}
 use Rattle.ufs_server.proofs.disk_server.DiskServer.fetch.Goals as goal

@@ -2,10 +2,10 @@ use Rattle.std.proofs.Common.{inl, ap, ◌+◌, arith}
 use Rattle.ufs_promise_laws.proofs.Stamping.{go_on}
 use Rattle.ufs_store.proofs.Raised.{raises_more, raises_then}
 use Rattle.ufs_store.specs.State.{geometry_of_store}
-use Rattle.ufs_server.specs.Numbers.{most_committed}
-use Rattle.ufs_server.specs.Answered.{device_told}
+use Rattle.ufs_told.specs.Numbers.{most_committed}
+use Rattle.ufs_told.specs.Replies.{device_told}
 use Rattle.ufs_server.specs.Served.{Stays}
-use Rattle.ufs_server.proofs.Beside.{told_untold}
+use Rattle.ufs_told.proofs.Beside.{told_untold}
 use Rattle.ufs_server.proofs.Staying.{on_disk_joined, stays_joined}
 use Rattle.ufs_server.proofs.disk_server.DiskServer.reclaim.Goals as goal
 

@@ -7,9 +7,9 @@ use Rattle.ufs_store.proofs.Raised.{raises_more, raises_then}
 use Rattle.ufs_layout.specs.declared.geometry.Geometry.{Geometry}
 use Rattle.ufs_store.specs.Numbers.{HasRaised}
 use Rattle.ufs_store.specs.State.{StoreState, geometry_of_store}
-use Rattle.ufs_server.specs.Numbers.{most_committed, most_raised}
+use Rattle.ufs_told.specs.Numbers.{most_committed, most_raised}
 use Rattle.ufs_server.specs.Served.{IsServedOn, KeepsPromise, MayServe}
-use Rattle.ufs_server.proofs.Beside.{untold_joined}
+use Rattle.ufs_told.proofs.Beside.{untold_joined}
 use Rattle.ufs_server.proofs.Staying.{excused_stays, on_disk_joined, promise_behind, served_behind, stays_joined}
 use Rattle.ufs_server.proofs.disk_server.DiskServer.serve_in_space.Given.{Over}
 use Rattle.ufs_server.proofs.disk_server.DiskServer.serve_in_space.Goals as goal

@@ -10,8 +10,9 @@ use Rattle.ufs_crash_laws.specs.Steps.{is_ok}
 use Rattle.ufs_promise_laws.specs.Laws.{leaves_tree}
 use Rattle.ufs_store.specs.State.{geometry_of_store}
 use Rattle.ufs_store.proofs.Raised.{raises_none}
-use Rattle.ufs_server.specs.Numbers.{most_raised}
-use Rattle.ufs_server.specs.Answered.{IsSyncReply, is_refused, stopped_in}
+use Rattle.ufs_told.specs.Numbers.{most_raised}
+use Rattle.ufs_server.specs.Answered.{IsSyncReply}
+use Rattle.ufs_told.specs.Replies.{is_refused, stopped_in}
 use Rattle.ufs_server.proofs.Away.{away_still}
 use Rattle.ufs_server.proofs.Replied.{done_reply, excuse_kind}
 use Rattle.ufs_server.proofs.Syncs.{answered_so, fits_store, leaves, posix_done, posix_refused}

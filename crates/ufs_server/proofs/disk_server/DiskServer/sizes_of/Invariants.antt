@@ -2,7 +2,7 @@ use Rattle.std.proofs.Common.{◌≡◌, ◌≤◌, ◌*◌, take}
 use Rattle.std.specs.List.{sum_by}
 use Rattle.ufs_model.specs.PosixTree.{PosixTree}
 use Rattle.ufs_promise_laws.specs.Stored.{ArePartsOf}
-use Rattle.ufs_server.specs.Sizes.{size_in}
+use Rattle.ufs_told.specs.Sizes.{size_in}
 use Rattle.ufs_server.proofs.disk_server.DiskServer.sizes_of.Given as goal
 
 abbrev pub invariant-loop-file : goal.invariant-loop-file

@@ -10,7 +10,7 @@ use Rattle.ufs_promise_laws.proofs.Stamping.{go_on_named}
 use Rattle.ufs_name_tree.specs.NameTable.{IsNameTable}
 use Rattle.ufs_store.specs.State.{geometry_of_store}
 use Rattle.ufs_store.proofs.Raised.{raises_more, raises_none, raises_then}
-use Rattle.ufs_server.specs.Numbers.{most_committed}
+use Rattle.ufs_told.specs.Numbers.{most_committed}
 use Rattle.ufs_server.proofs.Raising.{few_files}
 use Rattle.ufs_server.proofs.Filed.{keys_are}
 use Rattle.ufs_server.proofs.disk_server.DiskServer.sync_all.Goals as goal

@@ -6,8 +6,9 @@ use Rattle.ufs_model.specs.declared.data.Op.TheVariants as op
 use Rattle.ufs_store.specs.Refusals.{IsTold, stop_after}
 use Rattle.ufs_store.specs.State.{geometry_of_store}
 use Rattle.ufs_store.proofs.Raised.{raises_more}
-use Rattle.ufs_server.specs.Numbers.{most_committed, most_raised}
-use Rattle.ufs_server.specs.Answered.{IsSyncReply, device_in, device_told, stopped_in}
+use Rattle.ufs_told.specs.Numbers.{most_committed, most_raised}
+use Rattle.ufs_server.specs.Answered.{IsSyncReply}
+use Rattle.ufs_told.specs.Replies.{device_in, device_told, stopped_in}
 use Rattle.ufs_server.proofs.Replied.{reply_device, reply_halted, reply_stopped, synced_entry}
 use Rattle.ufs_server.proofs.Syncs.{live_file, opened_is, reply_kind, which}
 use Rattle.ufs_server.proofs.disk_server.DiskServer.sync_asked.Goals as goal

@@ -11,7 +11,7 @@ use Rattle.ufs_promise_laws.specs.OnDisk.{IsOnDisk}
 use Rattle.ufs_promise_laws.proofs.Stamping.{is_going}
 use Rattle.ufs_names_commit.specs.Laws.{IsBeside, with_reclaimed}
 use Rattle.ufs_server.proofs.Away.{forgets_none}
-use Rattle.ufs_server.proofs.Beside.{told_untold}
+use Rattle.ufs_told.proofs.Beside.{told_untold}
 use Rattle.ufs_server.proofs.Checkpoints.{checkpoint_err, checkpoint_moments, checkpoint_ok, none_passed, none_told}
 use Rattle.ufs_server.proofs.disk_server.DiskServer.take_dropped.Goals as goal
 

@@ -1,6 +1,6 @@
 use Rattle.std.proofs.Common.{◌≡◌, ◌∙◌, ℕ, List, ap}
 use Rattle.std.specs.List.{sum_by}
-use Rattle.ufs_server.specs.Sizes.{size_in}
+use Rattle.ufs_told.specs.Sizes.{size_in}
 use Rattle.ufs_server.proofs.SizeLemmas.{live_keys}
 use Rattle.ufs_server.proofs.disk_server.DiskServer.total_size.Goals as goal
 

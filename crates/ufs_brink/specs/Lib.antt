@@ -1,0 +1,4 @@
+pub mod Begins
+pub mod Laws
+pub mod Closes
+pub mod Numbers
