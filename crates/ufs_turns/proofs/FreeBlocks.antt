@@ -1,5 +1,5 @@
 -- What contracts see of a store before a turn and behind it is that of its cell.
-use Rattle.std.proofs.Common.{◌≡◌, ◌≤◌, ℕ, Bool, List, Option, Result, Ok, Err, sym, ap, ◌∙◌, subst, arith}
+use Rattle.std.proofs.Common.{◌≡◌, ◌≤◌, ℕ, Bool, List, Option, None, Some, Result, Ok, Err, sym, ap, ◌∙◌, subst, arith}
 use Rattle.std.specs.Prelude.{OnOk}
 use Rattle.ufs_bitmap.specs.Blocks.{BlockSet}
 use Rattle.ufs_hand_laws.specs.Parts.{Stretch}
@@ -25,12 +25,20 @@ module _ (k : Start) (visible keeps : Bool) (v w u : View) (s : StoreState) (hom
   pub stop_behind : (cell : StoreCell) (told : Option ℕ) → HasStoreAlone cell w → cell.stop ≡ stop_after s.stop told → stop_in w.store ≡ stop_after (stop_in u.store) told
   stop_behind cell told back is = ap stop_in back.store ∙ is ∙ ap (λ (q : Option ℕ). stop_after q told) (sym stop_before)
 
+  pub stop_rests : (cell : StoreCell) → HasStoreAlone cell w → cell.stop ≡ s.stop → stop_in w.store ≡ stop_in u.store
+  stop_rests cell back is = ap stop_in back.store ∙ is ∙ sym stop_before
+
   -- what the turn did to the store it did to its cell
   pub run_behind : (stamp : ℕ) (past : List Stretch) (t : StoreState) → HasStoreAlone (cell_of stamp past t) w → (told : Option ℕ) (epochs commits : ℕ) → HasRun told epochs commits s t → RunIn told epochs commits u.store w.store
   run_behind stamp past t back told epochs commits ran =
       subst (λ (x : List (Unit {0} × StoreCell) × List (Unit {0} × StoreCell)). RunIn told epochs commits x.0 x.1)
       (λ i. (sym (ap (λ (q : View). q.store) (sym seen) ∙ home.store.has) i, sym back.store i))
       (record { count = ran.count; epoch = ran.raised.epoch; epoch_most = ran.raised.epoch_most; number = ran.raised.number; number_most = ran.raised.number_most })
+
+-- where no fault was told the store stopped where it had before
+pub rests_so : (before behind : Option ℕ) → behind ≡ before → behind ≡ stop_after before None
+rests_so None behind is = is
+rests_so (Some fault) behind is = is
 
 -- Where neither superblock nor journal goes on, no number is raised.
 pub none_raised : (s t : StoreState) → t.superblock ≡ s.superblock → t.journal ≡ s.journal → HasRaised 0 0 s t

@@ -131,6 +131,7 @@ impl<N: Naming, D: Door, L: Ledger> HeldStore<N, D, L> {
         ensures free { free_in self.new.store ≡ free_in self.old.store }
         ensures beside { IsBeside hand.old hand.new }
         ensures ran { RunIn (fault_in result) 0 0 self.old.store self.new.store }
+        ensures rests { stop_in self.new.store ≡ stop_in self.old.store }
         ensures faults { hand.new.faults ≡ told_list (fault_told (fault_in result)) ++ hand.old.faults }
         ensures refused { IfErr result (λ fault. IsTrue (is_own fault)) }
     {
@@ -201,6 +202,7 @@ impl<N: Naming, D: Door, L: Ledger> HeldStore<N, D, L> {
         ensures kept { OnErr result (pool.new ≡ pool.old) }
         ensures same { OnErr result (free_in self.new.store ≡ free_in self.old.store) }
         ensures ran { RunIn None 0 0 self.old.store self.new.store }
+        ensures rests { stop_in self.new.store ≡ stop_in self.old.store }
         ensures met { OnOk result (share.new.amount ≡ share.old.amount) }
         ensures unmet { OnErr result (share.new.amount ≡ share.old.amount + 1) }
         ensures parts { share.new.parts ≡ share.old.parts }
@@ -224,6 +226,7 @@ impl<N: Naming, D: Door, L: Ledger> HeldStore<N, D, L> {
         ensures beside { IsBesidePools hand.old hand.new }
         ensures back { free_in self.new.store ≡ set.union (free_in self.old.store) pool.old }
         ensures ran { RunIn None 0 0 self.old.store self.new.store }
+        ensures rests { stop_in self.new.store ≡ stop_in self.old.store }
         ensures none { pool.new ≡ set.empty }
     {
         let HeldStore {
@@ -320,6 +323,7 @@ fn fetch_lent<N: Naming, D: Door>(
     ensures free { (D.store store.new).unassigned.free ≡ (D.store store.old).unassigned.free }
     ensures beside { IsBeside hand.old hand.new }
     ensures ran { HasRun (fault_in result) 0 0 (D.store store.old) (D.store store.new) }
+    ensures rests { (D.store store.new).stop ≡ (D.store store.old).stop }
     ensures faults { hand.new.faults ≡ told_list (fault_told (fault_in result)) ++ hand.old.faults }
     ensures refused { IfErr result (λ fault. IsTrue (is_own fault)) }
 {

@@ -88,6 +88,7 @@ pub(crate) fn give_lent<N: Naming, D: Door>(
     ensures pool { (name : ℕ) → hand.old.pools ≡ (name, pool.old) ∷ [] → hand.new.pools ≡ (name, pool.new) ∷ [] }
     ensures beside { IsBesidePools hand.old hand.new }
     ensures ran { HasRun None 0 0 (D.store store.old) (D.store store.new) }
+    ensures rests { (D.store store.new).stop ≡ (D.store store.old).stop }
     ensures given { OnOk result (GainsBlocks missing (D.store store.old).unassigned.free (D.store store.new).unassigned.free pool.old pool.new) }
     ensures lacks { IfErr result (LacksBlocks missing (set.len (D.store store.old).unassigned.free)) }
     ensures kept { OnErr result (pool.new ≡ pool.old) }
@@ -113,6 +114,7 @@ pub(crate) fn take_lent<N: Naming, D: Door>(
     ensures pool { (name : ℕ) → hand.old.pools ≡ (name, pool.old) ∷ [] → hand.new.pools ≡ (name, pool.new) ∷ [] }
     ensures beside { IsBesidePools hand.old hand.new }
     ensures ran { HasRun None 0 0 (D.store store.old) (D.store store.new) }
+    ensures rests { (D.store store.new).stop ≡ (D.store store.old).stop }
     ensures back { (D.store store.new).unassigned.free ≡ set.union (D.store store.old).unassigned.free pool.old }
     ensures none { pool.new ≡ set.empty }
 {

@@ -24,7 +24,8 @@ use ufs_store::StoreFault;
 /// A way to the store of session `N`. Each call is a turn: nobody else comes to the store meanwhile. What its contracts say
 /// is of the hand that is lent and of the answer, since others may change the store between two turns; and of the store's cell by a
 /// way that tells it: by such a way the device's count of faults goes on by what is told alone, and by each call it is known how far
-/// the store's epoch and its next commit number may rise (`ran`).
+/// the store's epoch and its next commit number may rise (`ran`). A call that neither commits nor makes a checkpoint leaves the store
+/// going, or stopped where it had (`rests`), also where the disk fails.
 pub trait Turns<N: Naming> {
     /// The store's own hand, where nobody else comes to the store between two turns.
     ghost tells: { Self → Option View };
@@ -79,6 +80,7 @@ pub trait Turns<N: Naming> {
         ensures nothing { HasNeeded file.old.content desc op.now → (file.new ≡ file.old) × (result ≡ Ok tt) }
         ensures free { AreTold (tells self.old) (tells self.new) (λ had has. has ≡ had) }
         ensures ran { Runs (tells self.old) (tells self.new) (fault_in result) 0 0 }
+        ensures rests { StopsByFault (tells self.old) (tells self.new) None }
         ensures telling { is_some (tells self.new) ≡ is_some (tells self.old) }
         ensures answers { answers self.new ≡ answers self.old }
         ensures beside { IsBeside hand.old hand.new }
@@ -132,6 +134,7 @@ pub trait Turns<N: Naming> {
         ensures lowest { OnOk result (AreTold (tells self.old) (tells self.new) (λ had left. GainsBlocks missing had left pool.old pool.new)) }
         ensures fewer { IfErr result (λ fault. AreTold (tells self.old) (tells self.new) (λ had left. LacksBlocks missing (set.len had) fault × (left ≡ had))) }
         ensures ran { Runs (tells self.old) (tells self.new) None 0 0 }
+        ensures rests { StopsByFault (tells self.old) (tells self.new) None }
         ensures telling { is_some (tells self.new) ≡ is_some (tells self.old) }
         ensures met { OnOk result (answers self.new ≡ answers self.old) }
         ensures unmet { OnErr result (answers self.new ≡ answers self.old + 1) };
@@ -144,6 +147,7 @@ pub trait Turns<N: Naming> {
         ensures none { pool.new ≡ set.empty }
         ensures back { AreTold (tells self.old) (tells self.new) (λ had has. has ≡ set.union had pool.old) }
         ensures ran { Runs (tells self.old) (tells self.new) None 0 0 }
+        ensures rests { StopsByFault (tells self.old) (tells self.new) None }
         ensures telling { is_some (tells self.new) ≡ is_some (tells self.old) }
         ensures answers { answers self.new ≡ answers self.old };
 

@@ -92,3 +92,6 @@ returns-clause-ran g c =
     let t = g.D.Door.store c.fetch-read.new.door in
     let is = c.fetch-read.ensures.store in
     record { count = c.fetch-read.ensures.cause; raised = none_raised s t (ap (λ (q : StoreState). q.superblock) is) (ap (λ (q : StoreState). q.journal) is) }
+
+pub returns-clause-rests : goal.returns-clause-rests
+returns-clause-rests g c = ap (λ (q : StoreState). q.stop) c.fetch-read.ensures.store

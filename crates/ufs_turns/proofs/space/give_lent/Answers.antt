@@ -87,3 +87,6 @@ returns-clause-ran g c =
     let t = g.D.Door.store c.give_pool-given.new.self in
     let is = c.give_pool-given.ensures.rest in
     record { count = ap (λ (q : StoreState). q.faults) is; raised = none_raised s t (ap (λ (q : StoreState). q.superblock) is) (ap (λ (q : StoreState). q.journal) is) }
+
+pub returns-clause-rests : goal.returns-clause-rests
+returns-clause-rests g c = ap (λ (q : StoreState). q.stop) c.give_pool-given.ensures.rest

@@ -72,3 +72,6 @@ returns-clause-ran g c =
     let t = g.D.Door.store c.take_back.new.self in
     let is = c.take_back.ensures.back in
     record { count = ap (λ (q : StoreState). q.faults) is; raised = none_raised s t (ap (λ (q : StoreState). q.superblock) is) (ap (λ (q : StoreState). q.journal) is) }
+
+pub returns-clause-rests : goal.returns-clause-rests
+returns-clause-rests g c = ap (λ (q : StoreState). q.stop) c.take_back.ensures.back

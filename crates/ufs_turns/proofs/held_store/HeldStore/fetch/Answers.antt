@@ -3,7 +3,7 @@ use Rattle.std.proofs.Common.{◌≡◌, ℕ, ◌∙◌, ◌++◌, List, ap}
 use Rattle.ufs_joint.specs.Disks.{cell_of}
 use Rattle.ufs_store.specs.Refusals.{fault_in}
 use Rattle.ufs_turns.specs.Told.{fault_told, told_list}
-use Rattle.ufs_turns.proofs.FreeBlocks.{in_cells, run_behind}
+use Rattle.ufs_turns.proofs.FreeBlocks.{in_cells, run_behind, stop_rests}
 use Rattle.ufs_turns.proofs.held_store.HeldStore.fetch.Goals as goal
 
 pub invariant_of-self : goal.invariant_of-self
@@ -30,3 +30,10 @@ returns-clause-ran g c =
     let st = c.fetch_lent-read.ensures.store in
     let alone = c.give_back.ensures.home (cell_of st.stamp st.past t) st.has in
     run_behind g.N.Naming.start g.D.Door.visible g.D.Door.keeps c.self.inside.hand c.give_back.new.own c.args.self.now (g.D.Door.store c.self.inside.store) c.self.invariant.1 c.self.view_is st.stamp st.past t alone (fault_in c.fetch_lent-read.result) 0 0 c.fetch_lent-read.ensures.ran
+
+pub returns-clause-rests : goal.returns-clause-rests
+returns-clause-rests g c =
+    let t = g.D.Door.store c.fetch_lent-read.new.store in
+    let st = c.fetch_lent-read.ensures.store in
+    let alone = c.give_back.ensures.home (cell_of st.stamp st.past t) st.has in
+    stop_rests g.N.Naming.start g.D.Door.visible g.D.Door.keeps c.self.inside.hand c.give_back.new.own c.args.self.now (g.D.Door.store c.self.inside.store) c.self.invariant.1 c.self.view_is (cell_of st.stamp st.past t) alone c.fetch_lent-read.ensures.rests

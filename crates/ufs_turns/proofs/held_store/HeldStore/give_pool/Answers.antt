@@ -4,7 +4,7 @@ use Rattle.std.specs.FinSet as set
 use Rattle.std.specs.Prelude.{IfErr, OnErr, OnOk}
 use Rattle.std.proofs.Common.{◌≡◌, None}
 use Rattle.ufs_joint.specs.Disks.{cell_of}
-use Rattle.ufs_turns.proofs.FreeBlocks.{in_cells, run_behind}
+use Rattle.ufs_turns.proofs.FreeBlocks.{in_cells, run_behind, stop_rests}
 use Rattle.ufs_turns.proofs.held_store.HeldStore.give_pool.Goals as goal
 
 pub invariant_of-self : goal.invariant_of-self
@@ -44,3 +44,10 @@ returns-clause-ran g c =
     let st = c.give_lent-given.ensures.store in
     let alone = c.give_back.ensures.home (cell_of st.stamp st.past t) st.has in
     run_behind g.N.Naming.start g.D.Door.visible g.D.Door.keeps c.self.inside.hand c.give_back.new.own c.args.self.now (g.D.Door.store c.self.inside.store) c.self.invariant.1 c.self.view_is st.stamp st.past t alone None 0 0 c.give_lent-given.ensures.ran
+
+pub returns-clause-rests : goal.returns-clause-rests
+returns-clause-rests g c =
+    let t = g.D.Door.store c.give_lent-given.new.store in
+    let st = c.give_lent-given.ensures.store in
+    let alone = c.give_back.ensures.home (cell_of st.stamp st.past t) st.has in
+    stop_rests g.N.Naming.start g.D.Door.visible g.D.Door.keeps c.self.inside.hand c.give_back.new.own c.args.self.now (g.D.Door.store c.self.inside.store) c.self.invariant.1 c.self.view_is (cell_of st.stamp st.past t) alone c.give_lent-given.ensures.rests
