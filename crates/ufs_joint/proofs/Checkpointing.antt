@@ -1,6 +1,6 @@
 -- A turn of the store in which a checkpoint was made may end.
-use Rattle.std.proofs.Common.{◌≡◌, ℕ, ◌+◌, ◌≤◌, ◌⊎◌, inl, inr, Bool, true, cond, eqb, leb, List, [], ◌∷◌, length, map, Option, None, sym, refl, ap, ◌∙◌, subst, arith}
-use Rattle.std.specs.Prelude.{IsSome, drop}
+use Rattle.std.proofs.Common.{◌≡◌, ℕ, ◌+◌, ◌≤◌, ◌⊎◌, inl, inr, Bool, true, cond, eqb, leb, List, [], ◌∷◌, Option, None, sym, refl, ap, ◌∙◌, subst, arith}
+use Rattle.std.specs.Prelude.{IsTrue, IsSome}
 use Rattle.std.proofs.lemmas.List.{append-nil}
 use Rattle.std.specs.FinMap as fin
 use Rattle.ufs_bitmap.specs.Blocks.{BlockSet}
@@ -20,7 +20,6 @@ use Rattle.ufs_hand_laws.specs.Owned.{Has, count}
 use Rattle.ufs_hand_laws.specs.Parts.{Cells, only_one}
 use Rattle.ufs_store.specs.Ledgers.{HasAny, HasLedger, beginning_next, checkpointed}
 use Rattle.ufs_store.specs.State.{StoreState, geometry_of_store, next_superblock}
-use Rattle.ufs_store_steps.specs.Cells.{cells_of}
 use Rattle.ufs_promise_laws.specs.AlwaysLaws.{CheckpointsAreExplained}
 use Rattle.ufs_promise_laws.specs.Laws.{EmptiedIsStored}
 use Rattle.ufs_promise_laws.specs.OnDisk.{AreReadable, IsExplainedBetween, IsExplainedImage}
@@ -35,8 +34,8 @@ use Rattle.ufs_promise_laws.specs.Known.{IsDiskKept, IsKeptGoing, IsKeptStopped,
 use Rattle.ufs_joint.specs.NoneLost.{IsHad}
 use Rattle.ufs_joint.specs.Turns.{EndsOnDisk, MayEndTurn, Turn, known_by}
 use Rattle.ufs_joint.specs.Whole.{HasCells}
-use Rattle.ufs_joint.proofs.Disks.{among, drop_behind, nothing_behind}
 use Rattle.ufs_joint.proofs.FileTurns.{or_none}
+use Rattle.ufs_joint.proofs.Passing.{each_passed, none_passed}
 use Rattle.ufs_joint.proofs.Kept.{kept_going, since_kept}
 use Rattle.ufs_joint.proofs.Forgetting.{less_is_kept}
 
@@ -136,20 +135,17 @@ module _ (g : Geometry) (begins : BeginningIsKept g) (empties : EmptiedIsStored 
       between : IsExplainedBetween keeps was.sectors start history old.moments new.moments
       between = explains keeps old old.moments new.moments kept.going.ledger start history kept.going.counts (kept.going.formed ∙ form) kept.going.has.superblock_is kept.going.stored.kept (makes.crash seen kept.going.ledger kept.going.has)
 
-      passes : Passes (Leaves (IsExplainedImage was.sectors start history)) old.moments new.moments
-      passes = between.between (makes.left_so.keeps_all seen)
-
-      behind : passed ≡ map (cells_of was.sectors) passes.inside
-      behind = makes.left_so.went seen ∙ (λ i. map (cells_of (makes.left_so.sectors i)) (drop (length (all old.moments)) (passes.whole i))) ∙ ap (map (cells_of was.sectors)) (drop_behind (all old.moments) passes.inside)
+      passes : IsTrue keeps → Passes (Leaves (IsExplainedImage was.sectors start history)) old.moments new.moments
+      passes = between.between
 
       after : HasBegunAnew old new → IsDiskKept new start history p known
       after anew = goes_on g begins empties old new start history p known form makes.left_so.geometry makes.unassigned kept anew
 
     ends : (new ≡ old) ⊎ ((was.stop ≡ None) × HasBegunAnew old new) → EndsOnDisk was t (λ q. q) start history p known
-    ends (inr told) = record {
-      kept = less_is_kept (store_of left) start history p (known_by start history t known) known less (since_kept left makes.later [] start history p known (after told.0 told.1));
+    ends (inr anew) = record {
+      kept = less_is_kept (store_of left) start history p (known_by start history t known) known less (since_kept left makes.later [] start history p known (after anew.0 anew.1));
       picked = λ pick never. absurd never;
-      passed = λ cells has. among was.sectors start history (passes told.0).inside (passes told.0).each cells (subst (Has cells) (behind told.0) has);
+      passed = each_passed keeps visible was left makes.earlier makes.later passed told makes.left_so seen start history (passes anew.0);
     }
     ends (inl same) = record {
       kept = less_is_kept (store_of left) start history p (known_by start history t known) known less (since_kept left makes.later [] start history p known (subst (λ (s : StoreState). IsDiskKept s start history p known) (sym same) was_kept));
@@ -158,14 +154,14 @@ module _ (g : Geometry) (begins : BeginningIsKept g) (empties : EmptiedIsStored 
     }
       where
         none : passed ≡ []
-        none = makes.left_so.went seen ∙ ap (λ (s : StoreState). map (cells_of s.sectors) (drop (length (all old.moments)) (all s.moments))) same ∙ ap (map (cells_of was.sectors)) (nothing_behind (all old.moments))
+        none = none_passed keeps visible was left makes.earlier makes.later passed told makes.left_so seen same
 
-    went_by : (new ≡ old) ⊎ ((was.stop ≡ None) × HasBegunAnew old new) → WentOn old new
-    went_by (inl same) = ([], ap (λ (q : StoreState). all q.moments) same ∙ sym (append-nil (all old.moments)))
-    went_by (inr told) = (let is = passes told.0 in (is.inside, is.whole))
+    went_by : (new ≡ old) ⊎ ((was.stop ≡ None) × HasBegunAnew old new) → IsTrue keeps → WentOn old new
+    went_by (inl same) keeping = ([], ap (λ (q : StoreState). all q.moments) same ∙ sym (append-nil (all old.moments)))
+    went_by (inr told) keeping = (let is = passes told.0 keeping in (is.inside, is.whole))
 
-  pub went_on : visible ≡ true → (start : PosixTree) (history : List Entry) (p : Parts) (known : Known) → IsAsBegun v was start history p known → WentOn (store_since makes.earlier was) (store_since makes.later left)
-  went_on seen start history p known begun = went_by seen start history p known begun (makes.made seen)
+  pub went_on : visible ≡ true → IsTrue keeps → (start : PosixTree) (history : List Entry) (p : Parts) (known : Known) → IsAsBegun v was start history p known → WentOn (store_since makes.earlier was) (store_since makes.later left)
+  went_on seen kept start history p known begun = went_by seen start history p known begun (makes.made seen) kept
 
   no_file : (file : ℕ) (c : FileCell) → Has (file, c) v.files → ⊥
   no_file file c has = subst (Has (file, c)) hand.files has

@@ -1,6 +1,6 @@
 -- A turn of the store in which the commit of a file failed may end.
-use Rattle.std.proofs.Common.{◌≡◌, ◌≢◌, ℕ, ◌≤◌, ◌⊎◌, inl, inr, Bool, true, false, cond, ◌||◌, eqb, ne_eqb, leb, List, [], ◌∷◌, length, map, Option, Some, None, sym, refl, ap, ◌∙◌, subst, arith}
-use Rattle.std.specs.Prelude.{drop}
+use Rattle.std.proofs.Common.{◌≡◌, ◌≢◌, ℕ, ◌≤◌, ◌⊎◌, inl, inr, Bool, true, false, cond, ◌||◌, eqb, ne_eqb, leb, List, [], ◌∷◌, Option, Some, None, sym, refl, ap, ◌∙◌, subst, arith}
+use Rattle.std.specs.Prelude.{IsTrue}
 use Rattle.std.proofs.lemmas.List.{append-nil}
 use Rattle.std.specs.FinMap as fin
 use Rattle.std.specs.List.{slice_get}
@@ -22,12 +22,11 @@ use Rattle.ufs_promise_laws.specs.Sound.{IsSoundServer}
 use Rattle.ufs_joint.specs.Cells.{FileCell, StoreCell, View, store_of, store_since}
 use Rattle.ufs_joint.specs.FileHands.{FailsFile, FileFailuresGoOn, FileFailuresMayEnd, IsAsBegun, IsSyncHand, WentOn, failed_turn}
 use Rattle.ufs_promise_laws.specs.Known.{IsDiskKept, IsKeptGoing, IsMore, Known}
-use Rattle.ufs_store_steps.specs.Cells.{cells_of}
 use Rattle.ufs_joint.specs.NoneLost.{IsHad}
 use Rattle.ufs_joint.specs.Turns.{EndsOnDisk, MayEndTurn, Turn, known_by}
 use Rattle.ufs_joint.specs.Whole.{HasCells, HasFileCell, birth_known, changes_known, file_changes_at}
 use Rattle.ufs_joint.proofs.FileTurns.{or_none}
-use Rattle.ufs_joint.proofs.Disks.{among, drop_behind, nothing_behind}
+use Rattle.ufs_joint.proofs.Passing.{each_passed, none_passed}
 use Rattle.ufs_joint.proofs.Kept.{kept_going, since_kept}
 use Rattle.ufs_joint.specs.Files.{FailedFilesStayKept, FilesAreExplained, IsBornHere, WrittenFilesStayKept}
 use Rattle.ufs_joint.proofs.Forgetting.{less_is_kept}
@@ -109,17 +108,14 @@ module _ (fails_known : FailedFilesStayKept) (g : Geometry) (writes_known : Writ
         between : IsExplainedBetween keeps was.sectors start history old.moments new.moments
         between = explains keeps old new start history p known cell.value.file form born fails.fits (subst (LeavesStages keeps old new) (sym durable) (fails.stages seen)) kept
 
-        passes : Passes (Leaves (IsExplainedImage was.sectors start history)) old.moments new.moments
-        passes = between.between (fails.left_so.keeps_all seen)
-
-        behind : passed ≡ map (cells_of was.sectors) passes.inside
-        behind = fails.left_so.went seen ∙ (λ i. map (cells_of (fails.left_so.sectors i)) (drop (length (all old.moments)) (passes.whole i))) ∙ ap (map (cells_of was.sectors)) (drop_behind (all old.moments) passes.inside)
+        passes : IsTrue keeps → Passes (Leaves (IsExplainedImage was.sectors start history)) old.moments new.moments
+        passes = between.between
 
         ended : HasWritten old new cell.value ⊎ HasFailed old new cell.value → EndsOnDisk was t (λ q. q) start history p known
-        ended told = record {
-          kept = less_is_kept (store_of left) start history p (known_by start history t known) known less (since_kept left fails.later [] start history p known (after told));
+        ended tried = record {
+          kept = less_is_kept (store_of left) start history p (known_by start history t known) known less (since_kept left fails.later [] start history p known (after tried));
           picked = λ pick never. absurd never;
-          passed = λ cells has. among was.sectors start history passes.inside passes.each cells (subst (Has cells) behind has);
+          passed = each_passed keeps visible was left fails.earlier fails.later passed told fails.left_so seen start history passes;
         }
 
       ends : (new ≡ old) ⊎ ((was.stop ≡ None) × (HasWritten old new cell.value ⊎ HasFailed old new cell.value)) → EndsOnDisk was t (λ q. q) start history p known
@@ -131,14 +127,14 @@ module _ (fails_known : FailedFilesStayKept) (g : Geometry) (writes_known : Writ
       }
         where
           none : passed ≡ []
-          none = fails.left_so.went seen ∙ ap (λ (s : StoreState). map (cells_of s.sectors) (drop (length (all old.moments)) (all s.moments))) same ∙ ap (map (cells_of was.sectors)) (nothing_behind (all old.moments))
+          none = none_passed keeps visible was left fails.earlier fails.later passed told fails.left_so seen same
 
-      went_by : (new ≡ old) ⊎ ((was.stop ≡ None) × (HasWritten old new cell.value ⊎ HasFailed old new cell.value)) → WentOn old new
-      went_by (inl same) = ([], ap (λ (q : StoreState). all q.moments) same ∙ sym (append-nil (all old.moments)))
-      went_by (inr told) = (let is = passes told.0 in (is.inside, is.whole))
+      went_by : (new ≡ old) ⊎ ((was.stop ≡ None) × (HasWritten old new cell.value ⊎ HasFailed old new cell.value)) → IsTrue keeps → WentOn old new
+      went_by (inl same) keeping = ([], ap (λ (q : StoreState). all q.moments) same ∙ sym (append-nil (all old.moments)))
+      went_by (inr told) keeping = (let is = passes told.0 keeping in (is.inside, is.whole))
 
-  pub went_on : visible ≡ true → (start : PosixTree) (history : List Entry) (p : Parts) (known : Known) → IsAsBegun v was start history p known → WentOn (store_since fails.earlier was) (store_since fails.later left)
-  went_on seen start history p known begun = went_by p begun.cells seen start history known begun (fails.failed seen)
+  pub went_on : visible ≡ true → IsTrue keeps → (start : PosixTree) (history : List Entry) (p : Parts) (known : Known) → IsAsBegun v was start history p known → WentOn (store_since fails.earlier was) (store_since fails.later left)
+  went_on seen kept start history p known begun = went_by p begun.cells seen start history known begun (fails.failed seen) kept
 
   pub may_end : MayEndTurn g visible v t
   may_end = record {

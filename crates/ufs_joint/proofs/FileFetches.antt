@@ -1,11 +1,11 @@
 -- A turn of the store in which blocks of a file were read may end.
-use Rattle.std.proofs.Common.{◌≡◌, ◌≢◌, ℕ, ◌≤◌, ◌⊎◌, inl, inr, Bool, true, false, cond, ◌||◌, eqb, ne_eqb, leb, List, [], ◌∷◌, length, map, Option, Some, None, sym, refl, ap, ◌∙◌, subst, arith, ⊎_elim}
-use Rattle.std.specs.Prelude.{drop}
+use Rattle.std.proofs.Common.{◌≡◌, ◌≢◌, ℕ, ◌≤◌, ◌⊎◌, inl, inr, Bool, true, false, cond, ◌||◌, eqb, ne_eqb, leb, List, [], ◌∷◌, length, Option, Some, None, sym, refl, ap, ◌∙◌, subst, arith, ⊎_elim}
+use Rattle.std.specs.Prelude.{IsTrue}
 use Rattle.std.specs.FinMap as fin
 use Rattle.std.specs.List.{slice_get}
 use Rattle.ufs_bitmap.specs.Blocks.{BlockSet}
 use Rattle.ufs_disk.specs.Disk.{Leaves}
-use Rattle.ufs_disk.specs.Moments.{Passes, all}
+use Rattle.ufs_disk.specs.Moments.{Passes}
 use Rattle.ufs_hand_laws.proofs.Keys.{itself}
 use Rattle.ufs_files.proofs.MapLemmas.{one_or_apart}
 use Rattle.ufs_layout.specs.declared.geometry.Geometry.{Geometry}
@@ -20,7 +20,6 @@ use Rattle.ufs_promise_laws.specs.Sound.{IsSoundServer}
 use Rattle.ufs_joint.specs.Cells.{FileCell, StoreCell, View, store_of, store_since}
 use Rattle.ufs_joint.specs.FileHands.{FetchesFile, FileFetchesGoOn, FileFetchesMayEnd, IsAsBegun, IsFetchHand, WentOn, fetched_turn}
 use Rattle.ufs_promise_laws.specs.Known.{IsDiskKept, IsMore, Known}
-use Rattle.ufs_store_steps.specs.Cells.{cells_of}
 use Rattle.ufs_joint.specs.Turns.{EndsOnDisk, MayEndTurn, Turn, known_by}
 use Rattle.ufs_joint.specs.Whole.{HasCells, HasFileCell, birth_known, changes_known, file_changes_at}
 use Rattle.ufs_joint.proofs.Blocks.{or_cases}
@@ -34,7 +33,7 @@ use Rattle.ufs_joint.proofs.Reading.{as_long, content_read, picks_once, read_has
 use Rattle.ufs_file.specs.Hand.{FileState}
 use Rattle.ufs_model.specs.FileBytes.{bytes_of}
 use Rattle.ufs_promise_laws.specs.Fetches.{FetchesAreExplained, FetchesReadTheTree, PartsByFetches, SoundByFetches, with_read}
-use Rattle.ufs_joint.proofs.Disks.{among, drop_behind}
+use Rattle.ufs_joint.proofs.Passing.{each_passed}
 use Rattle.ufs_joint.proofs.Kept.{since_kept}
 use Rattle.ufs_joint.proofs.Forgetting.{less_is_kept}
 use Rattle.ufs_promise_laws.proofs.Known.{on_disk_of}
@@ -145,18 +144,15 @@ module _ (stays : FetchesStayKept) (reads_tree : FetchesReadTheTree) (by_parts :
       between : IsExplainedBetween keeps was.sectors start history old.moments new.moments
       between = explains sees keeps old new start history p cell.value.file read form (fetch.seen seen) fetch.fetched (on_disk_of old start history p known was_kept)
 
-      passes : Passes (Leaves (IsExplainedImage was.sectors start history)) old.moments new.moments
-      passes = between.between (fetch.left_so.keeps_all seen)
-
-      behind : passed ≡ map (cells_of was.sectors) passes.inside
-      behind = fetch.left_so.went seen ∙ (λ i. map (cells_of (fetch.left_so.sectors i)) (drop (length (all old.moments)) (passes.whole i))) ∙ ap (map (cells_of was.sectors)) (drop_behind (all old.moments) passes.inside)
+      passes : IsTrue keeps → Passes (Leaves (IsExplainedImage was.sectors start history)) old.moments new.moments
+      passes = between.between
 
       ends : EndsOnDisk was t go start history p known
       ends = record {
         kept = less_is_kept (store_of left) start history (go p) (known_by start history t known) known less
             (since_kept left fetch.later [] start history (go p) known (subst (λ (q : Parts). IsDiskKept new start history q known) same_go (stays sees keeps old new start history p known cell.value.file read (fetch.seen seen) here fetch.fetched was_kept)));
         picked = picked;
-        passed = λ cells has. among was.sectors start history passes.inside passes.each cells (subst (Has cells) behind has);
+        passed = each_passed keeps visible was left fetch.earlier fetch.later passed told fetch.left_so seen start history passes;
       }
 
     -- it has the blocks that it had
@@ -222,8 +218,8 @@ module _ (stays : FetchesStayKept) (reads_tree : FetchesReadTheTree) (by_parts :
       )
       by other c (inr is) = absurd is
 
-  pub went_on : visible ≡ true → (start : PosixTree) (history : List Entry) (p : Parts) (known : Known) → IsAsBegun v was start history p known → WentOn (store_since fetch.earlier was) (store_since fetch.later left)
-  went_on seen start history p known begun = (let is = passes p begun.cells seen start history known begun in (is.inside, is.whole))
+  pub went_on : visible ≡ true → IsTrue keeps → (start : PosixTree) (history : List Entry) (p : Parts) (known : Known) → IsAsBegun v was start history p known → WentOn (store_since fetch.earlier was) (store_since fetch.later left)
+  went_on seen kept start history p known begun = (let is = passes p begun.cells seen start history known begun kept in (is.inside, is.whole))
 
 pub file_fetches_may_end : FetchesStayKept → FetchesReadTheTree → PartsByFetches → SoundByFetches → (g : Geometry) → FetchesAreExplained g → FileFetchesMayEnd g
 file_fetches_may_end stays reads_tree by_parts by_sound g explains sees keeps visible v file cell read was left passed told form hand fetch = may_end stays reads_tree by_parts by_sound g explains sees keeps visible v file cell read was left passed told form hand fetch

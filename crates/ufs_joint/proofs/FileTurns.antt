@@ -1,6 +1,6 @@
 -- A turn of the store in which a file was committed may end.
-use Rattle.std.proofs.Common.{◌≡◌, ◌≢◌, ℕ, ◌≤◌, ◌⊎◌, inl, inr, Bool, true, false, cond, ◌||◌, eqb, ne_eqb, leb, List, [], ◌∷◌, length, map, Option, Some, None, sym, refl, ap, ◌∙◌, subst, arith}
-use Rattle.std.specs.Prelude.{◌==◌, drop, if◌then◌else◌}
+use Rattle.std.proofs.Common.{◌≡◌, ◌≢◌, ℕ, ◌≤◌, ◌⊎◌, inl, inr, Bool, true, false, cond, ◌||◌, eqb, ne_eqb, leb, List, [], ◌∷◌, length, Option, Some, None, sym, refl, ap, ◌∙◌, subst, arith}
+use Rattle.std.specs.Prelude.{IsTrue, ◌==◌, if◌then◌else◌}
 use Rattle.std.proofs.lemmas.Bool.Decides.{nat_tests}
 use Rattle.std.specs.FinMap as fin
 use Rattle.std.specs.List.{slice_get}
@@ -8,7 +8,7 @@ use Rattle.std.specs.FinSet as set
 use Rattle.ufs_bitmap.specs.Blocks.{BlockSet}
 use Rattle.ufs_bitmap.specs.Taking.{has, set_of}
 use Rattle.ufs_disk.specs.Disk.{Leaves}
-use Rattle.ufs_disk.specs.Moments.{Passes, all}
+use Rattle.ufs_disk.specs.Moments.{Passes}
 use Rattle.ufs_hand_laws.proofs.Keys.{itself}
 use Rattle.ufs_file_commits.specs.State.{DurableState, blocks_held, file_committed}
 use Rattle.ufs_files.specs.Files.{AreNumbered}
@@ -33,10 +33,9 @@ use Rattle.ufs_joint.specs.Cells.{FileCell, StoreCell, View, store_of, store_sin
 use Rattle.ufs_joint.specs.FileHands.{CommitsFile, FileCommitsGoOn, FileCommitsMayEnd, IsAsBegun, IsSyncHand, WentOn, committed_turn}
 use Rattle.ufs_promise_laws.specs.Known.{IsDiskKept, IsKeptGoing, IsMore, Known, with_file_known}
 use Rattle.ufs_joint.specs.Sound.{IsExplainedState}
-use Rattle.ufs_store_steps.specs.Cells.{cells_of}
 use Rattle.ufs_joint.specs.Turns.{EndsOnDisk, MayEndTurn, Turn, known_by}
 use Rattle.ufs_joint.specs.Whole.{HasCells, HasFileCell, birth_known, changes_known, file_changes_at}
-use Rattle.ufs_joint.proofs.Disks.{among, drop_behind}
+use Rattle.ufs_joint.proofs.Passing.{each_passed}
 use Rattle.ufs_joint.proofs.Kept.{kept_going, since_kept}
 use Rattle.ufs_joint.specs.Files.{FilesAreExplained, FilesAreKnown, IsBornHere}
 use Rattle.ufs_joint.proofs.Forgetting.{less_is_kept}
@@ -166,8 +165,8 @@ module _ (syncs : FilesAreKnown) (g : Geometry) (explains : FilesAreExplained g)
       between : IsExplainedBetween keeps was.sectors start history old.moments new.moments
       between = explains keeps old new start history p known cell.value.file form born commits.fits (subst (LeavesStages keeps old new) (sym durable) (commits.stages seen)) kept
 
-      passes : Passes (Leaves (IsExplainedImage was.sectors start history)) old.moments new.moments
-      passes = between.between (commits.left_so.keeps_all seen)
+      passes : IsTrue keeps → Passes (Leaves (IsExplainedImage was.sectors start history)) old.moments new.moments
+      passes = between.between
 
       ends : EndsOnDisk was t go start history p known
       ends = record {
@@ -176,11 +175,8 @@ module _ (syncs : FilesAreKnown) (g : Geometry) (explains : FilesAreExplained g)
         picked = λ pick none. absurd none;
       }
         where
-          behind : passed ≡ map (cells_of was.sectors) passes.inside
-          behind = commits.left_so.went seen ∙ (λ i. map (cells_of (commits.left_so.sectors i)) (drop (length (all old.moments)) (passes.whole i))) ∙ ap (map (cells_of was.sectors)) (drop_behind (all old.moments) passes.inside)
-
           passed_states : (cells : Cells) → Has cells passed → IsExplainedState was.sectors start history cells
-          passed_states cells has = among was.sectors start history passes.inside passes.each cells (subst (Has cells) behind has)
+          passed_states = each_passed keeps visible was left commits.earlier commits.later passed [] commits.left_so seen start history passes
 
   pub may_end : MayEndTurn g visible v t
   may_end = record {
@@ -222,8 +218,8 @@ module _ (syncs : FilesAreKnown) (g : Geometry) (explains : FilesAreExplained g)
       by other c (inl is) = (cell, subst (λ q. Has (q, cell) v.files) (sym (ap (λ (q : ℕ × FileCell). q.0) is)) has_file, ap (λ (q : ℕ × FileCell). q.1.changed) is, λ _. (let x = ap (λ (q : ℕ × FileCell). q.1.known) is in omega (arith, x)))
       by other c (inr is) = absurd is
 
-  pub went_on : visible ≡ true → (start : PosixTree) (history : List Entry) (p : Parts) (known : Known) → IsAsBegun v was start history p known → WentOn (store_since commits.earlier was) (store_since commits.later left)
-  went_on seen start history p known begun = (let is = passes p begun.cells seen start history known begun in (is.inside, is.whole))
+  pub went_on : visible ≡ true → IsTrue keeps → (start : PosixTree) (history : List Entry) (p : Parts) (known : Known) → IsAsBegun v was start history p known → WentOn (store_since commits.earlier was) (store_since commits.later left)
+  went_on seen kept start history p known begun = (let is = passes p begun.cells seen start history known begun kept in (is.inside, is.whole))
 
 pub file_commits_may_end : FilesAreKnown → (g : Geometry) → FilesAreExplained g → FileCommitsMayEnd g
 file_commits_may_end syncs g explains keeps visible v file cell was left passed form hand commits = may_end syncs g explains keeps visible v file cell was left passed form hand commits

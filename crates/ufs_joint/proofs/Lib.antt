@@ -10,6 +10,7 @@ pub mod NoneLost
 pub mod Served
 pub mod DrawSteps
 pub mod TurnEnding
+pub mod Passing
 pub mod OneFile
 pub mod FileDraws
 pub mod FileTurns

@@ -1,6 +1,6 @@
 -- A turn of the store in which the names were committed may end, and one in which that failed.
-use Rattle.std.proofs.Common.{◌≡◌, ℕ, ◌+◌, ◌≤◌, ◌⊎◌, inl, inr, ⊎_elim, Bool, true, false, cond, ◌||◌, eqb, leb, List, [], ◌∷◌, length, map, Option, Some, None, is_some, sym, refl, ap, ◌∙◌, subst, arith}
-use Rattle.std.specs.Prelude.{drop}
+use Rattle.std.proofs.Common.{◌≡◌, ℕ, ◌+◌, ◌≤◌, ◌⊎◌, inl, inr, ⊎_elim, Bool, true, false, cond, ◌||◌, eqb, leb, List, [], ◌∷◌, length, Option, Some, None, is_some, sym, refl, ap, ◌∙◌, subst, arith}
+use Rattle.std.specs.Prelude.{IsTrue}
 use Rattle.std.specs.Cmp.{nat_cmp_total}
 use Rattle.std.specs.Ordering.{nat_cmp}
 use Rattle.std.specs.FinMap as fin
@@ -22,7 +22,6 @@ use Rattle.ufs_crash_laws.specs.Changes.{name_changes}
 use Rattle.ufs_hand_laws.specs.Owned.{Has, count}
 use Rattle.ufs_hand_laws.specs.Parts.{Cells, only_one}
 use Rattle.ufs_store.specs.State.{StoreState, geometry_of_store}
-use Rattle.ufs_store_steps.specs.Cells.{cells_of}
 use Rattle.ufs_promise_laws.specs.Known.{IsDiskKept, IsKeptGoing, IsMore, Known, with_names_known}
 use Rattle.ufs_promise_laws.specs.Laws.{with_names_committed}
 use Rattle.ufs_promise_laws.specs.OnDisk.{IsExplainedBetween, IsExplainedImage}
@@ -30,6 +29,7 @@ use Rattle.ufs_promise_laws.specs.Parts.{Commits, Parts}
 use Rattle.ufs_promise_laws.specs.Sound.{IsSoundServer}
 use Rattle.ufs_promise_laws.specs.Stored.{ArePartsOf}
 use Rattle.ufs_promise_laws.proofs.Unfresh.{parts_committed, sound_committed}
+use Rattle.ufs_joint.proofs.Passing.{each_passed, none_passed}
 use Rattle.ufs_joint.proofs.Forgetting.{less_is_kept}
 use Rattle.ufs_joint.specs.Cells.{FileCell, NamesCell, StoreCell, View, store_of, store_since}
 use Rattle.ufs_joint.specs.FileHands.{IsAsBegun, WentOn}
@@ -39,7 +39,6 @@ use Rattle.ufs_joint.specs.Turns.{EndsOnDisk, MayEndTurn, Turn, known_by}
 use Rattle.ufs_joint.specs.Whole.{GoOnBy, HasCells, HasNamesCell}
 use Rattle.ufs_joint.proofs.Blocks.{or_cases, or_left, or_right}
 use Rattle.ufs_joint.proofs.Checkpointing.{by_files, same_le}
-use Rattle.ufs_joint.proofs.Disks.{among, drop_behind, nothing_behind}
 use Rattle.ufs_joint.proofs.FileTurns.{or_none}
 use Rattle.ufs_joint.proofs.Kept.{kept_going, since_kept}
 use Rattle.ufs_joint.proofs.Takes.{fewer_name_changes}
@@ -145,21 +144,18 @@ module _ (g : Geometry) (keeps visible : Bool) (v : View) (names : NamesCell) (w
     between : IsExplainedBetween keeps was.sectors start history old.moments new.moments
     between = commits.moments seen start history p told kept.going
 
-    passes : Passes (Leaves (IsExplainedImage was.sectors start history)) old.moments new.moments
-    passes = between.between (commits.left_so.keeps_all seen)
-
-    behind : passed ≡ map (cells_of was.sectors) passes.inside
-    behind = commits.left_so.went seen ∙ (λ i. map (cells_of (commits.left_so.sectors i)) (drop (length (all old.moments)) (passes.whole i))) ∙ ap (map (cells_of was.sectors)) (drop_behind (all old.moments) passes.inside)
+    passes : IsTrue keeps → Passes (Leaves (IsExplainedImage was.sectors start history)) old.moments new.moments
+    passes = between.between
 
     ends : EndsOnDisk was t with_names_committed start history p known
     ends = record {
       kept = since_kept left commits.later [] start history (with_names_committed p) (known_by start history t known) now_kept;
-      passed = λ cells has. among was.sectors start history passes.inside passes.each cells (subst (Has cells) behind has);
+      passed = each_passed keeps visible was left commits.earlier commits.later passed [] commits.left_so seen start history passes;
       picked = λ pick none. absurd none;
     }
 
-  pub commit_went_on : visible ≡ true → (start : PosixTree) (history : List Entry) (p : Parts) (known : Known) → IsAsBegun v was start history p known → WentOn (store_since commits.earlier was) (store_since commits.later left)
-  commit_went_on seen start history p known begun = (let is = passes seen start history p known begun in (is.inside, is.whole))
+  pub commit_went_on : visible ≡ true → IsTrue keeps → (start : PosixTree) (history : List Entry) (p : Parts) (known : Known) → IsAsBegun v was start history p known → WentOn (store_since commits.earlier was) (store_since commits.later left)
+  commit_went_on seen kept start history p known begun = (let is = passes seen start history p known begun kept in (is.inside, is.whole))
 
   pub commit_may_end : MayEndTurn g visible v t
   commit_may_end = record {
@@ -236,16 +232,13 @@ module _ (g : Geometry) (keeps visible : Bool) (v : View) (names : NamesCell) (w
       stretch : IsExplainedBetween keeps was.sectors start history before.moments after.moments
       stretch = fails.moments seen start history p its_notes still_going.going
 
-      states : Passes (Leaves (IsExplainedImage was.sectors start history)) before.moments after.moments
-      states = stretch.between (fails.left_so.keeps_all seen)
-
-      passed_so : passed ≡ map (cells_of was.sectors) states.inside
-      passed_so = fails.left_so.went seen ∙ (λ i. map (cells_of (fails.left_so.sectors i)) (drop (length (all before.moments)) (states.whole i))) ∙ ap (map (cells_of was.sectors)) (drop_behind (all before.moments) states.inside)
+      states : IsTrue keeps → Passes (Leaves (IsExplainedImage was.sectors start history)) before.moments after.moments
+      states = stretch.between
 
     failed_ends : (after ≡ before) ⊎ ((was.stop ≡ None) × HasFailedNames before after names.fresh names.value.tree.noted) → EndsOnDisk was kept_turn (λ q. q) start history p known
     failed_ends (inr x) = record {
       kept = less_is_kept (store_of left) start history p (known_by start history kept_turn known) known no_more (since_kept left fails.later [] start history p known (x.1 start history p known its_notes (still_going x.0)));
-      passed = λ cells has. among was.sectors start history (states x.0).inside (states x.0).each cells (subst (Has cells) (passed_so x.0) has);
+      passed = each_passed keeps visible was left fails.earlier fails.later passed faults fails.left_so seen start history (states x.0);
       picked = λ pick never. absurd never;
     }
     failed_ends (inl same) = record {
@@ -255,14 +248,14 @@ module _ (g : Geometry) (keeps visible : Bool) (v : View) (names : NamesCell) (w
     }
       where
         none : passed ≡ []
-        none = fails.left_so.went seen ∙ ap (λ (s : StoreState). map (cells_of s.sectors) (drop (length (all before.moments)) (all s.moments))) same ∙ ap (map (cells_of was.sectors)) (nothing_behind (all before.moments))
+        none = none_passed keeps visible was left fails.earlier fails.later passed faults fails.left_so seen same
 
-    went_by : (after ≡ before) ⊎ ((was.stop ≡ None) × HasFailedNames before after names.fresh names.value.tree.noted) → WentOn before after
-    went_by (inl same) = ([], ap (λ (q : StoreState). all q.moments) same ∙ sym (append-nil (all before.moments)))
-    went_by (inr x) = (let is = states x.0 in (is.inside, is.whole))
+    went_by : (after ≡ before) ⊎ ((was.stop ≡ None) × HasFailedNames before after names.fresh names.value.tree.noted) → IsTrue keeps → WentOn before after
+    went_by (inl same) keeping = ([], ap (λ (q : StoreState). all q.moments) same ∙ sym (append-nil (all before.moments)))
+    went_by (inr x) keeping = (let is = states x.0 keeping in (is.inside, is.whole))
 
-  pub failure_went_on : visible ≡ true → (start : PosixTree) (history : List Entry) (p : Parts) (known : Known) → IsAsBegun v was start history p known → WentOn (store_since fails.earlier was) (store_since fails.later left)
-  failure_went_on seen start history p known begun = went_by seen start history p known begun (fails.failed seen)
+  pub failure_went_on : visible ≡ true → IsTrue keeps → (start : PosixTree) (history : List Entry) (p : Parts) (known : Known) → IsAsBegun v was start history p known → WentOn (store_since fails.earlier was) (store_since fails.later left)
+  failure_went_on seen kept start history p known begun = went_by seen start history p known begun (fails.failed seen) kept
 
   pub failure_may_end : MayEndTurn g visible v kept_turn
   failure_may_end = record {

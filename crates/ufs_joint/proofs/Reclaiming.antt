@@ -1,13 +1,13 @@
 -- A turn of the store in which what the names dropped was given back may end, and one in which that failed.
-use Rattle.std.proofs.Common.{◌≡◌, ℕ, ◌≤◌, ◌⊎◌, inl, inr, ⊎_elim, Bool, true, false, cond, ◌||◌, eqb, leb, le-leb, List, [], ◌∷◌, length, map, Option, Some, None, is_some, sym, refl, ap, ◌∙◌, subst, arith}
-use Rattle.std.specs.Prelude.{IsSome, drop}
+use Rattle.std.proofs.Common.{◌≡◌, ℕ, ◌≤◌, ◌⊎◌, inl, inr, ⊎_elim, Bool, true, false, cond, ◌||◌, eqb, leb, le-leb, List, [], ◌∷◌, Option, Some, None, is_some, sym, refl, ap, ◌∙◌, subst, arith}
+use Rattle.std.specs.Prelude.{IsTrue, IsSome}
 use native.Mathlib.Decide.{dec_le}
 use Rattle.std.specs.FinMap as fin
 use Rattle.std.specs.FinSet as setof
 use Rattle.ufs_bitmap.specs.Blocks.{BlockSet}
 use Rattle.ufs_bitmap.specs.Space.{Space}
 use Rattle.ufs_disk.specs.Disk.{Leaves}
-use Rattle.ufs_disk.specs.Moments.{Passes, all}
+use Rattle.ufs_disk.specs.Moments.{Passes}
 use Rattle.ufs_file.specs.Hand.{FileState}
 use Rattle.ufs_files.specs.Files.{Files}
 use Rattle.ufs_layout.specs.declared.geometry.Geometry.{Geometry}
@@ -24,7 +24,6 @@ use Rattle.ufs_hand_laws.specs.Parts.{Cells, only_one}
 use Rattle.ufs_hand_laws.proofs.Keys.{alike, itself}
 use Rattle.ufs_hand_laws.proofs.Owning.{find_has, has_count, has_find}
 use Rattle.ufs_store.specs.State.{StoreState, geometry_of_store}
-use Rattle.ufs_store_steps.specs.Cells.{cells_of}
 use Rattle.ufs_promise_laws.specs.AlwaysLaws.{CheckpointsAreExplained}
 use Rattle.ufs_promise_laws.specs.Known.{IsDiskKept, IsKeptGoing, IsMore, Known}
 use Rattle.ufs_promise_laws.specs.Laws.{EmptiedIsStored, MovesBlocks}
@@ -33,6 +32,7 @@ use Rattle.ufs_promise_laws.specs.Parts.{Commits, Parts, TheNames, ThePool, Unas
 use Rattle.ufs_promise_laws.specs.Sound.{IsSoundServer}
 use Rattle.ufs_promise_laws.specs.Stored.{ArePartsOf}
 use Rattle.ufs_names_commit.specs.Laws.{DroppedIsReclaimedKept, HasNothingTaken, IsBeside, KeepsItsBlocks, ReclaimedIsSound, with_reclaimed}
+use Rattle.ufs_joint.proofs.Passing.{each_passed, none_passed}
 use Rattle.ufs_joint.proofs.Forgetting.{less_is_kept}
 use Rattle.ufs_joint.proofs.Pools.{pools_stay}
 use Rattle.ufs_joint.specs.Cells.{FileCell, NamesCell, StoreCell, View, store_of, store_since}
@@ -44,7 +44,6 @@ use Rattle.ufs_joint.specs.Turns.{AreFaultsTold, EndsOnDisk, MayEndTurn, Turn, k
 use Rattle.ufs_joint.specs.Whole.{GoOnBy, HasCells, HasNamesCell, KnowsCells, birth_known, changes_known, file_changes_at, no_blocks}
 use Rattle.ufs_joint.proofs.Blocks.{in_union, not_in, or_cases, union_left, union_right}
 use Rattle.ufs_joint.proofs.Checkpointing as checkpoints
-use Rattle.ufs_joint.proofs.Disks.{among, drop_behind, nothing_behind}
 use Rattle.ufs_joint.proofs.Kept.{kept_going, since_kept}
 use Rattle.ufs_joint.proofs.OneFile.{durable_is}
 use Rattle.ufs_joint.proofs.StillDraws.{still_goes}
@@ -184,11 +183,8 @@ module _ (g : Geometry) (reclaims : DroppedIsReclaimedKept g) (sounds : Reclaime
     between : IsExplainedBetween keeps was.sectors start history old.moments new.moments
     between = explains keeps old old.moments new.moments kept.going.ledger start history kept.going.counts (kept.going.formed ∙ form) kept.going.has.superblock_is kept.going.stored.kept (gives.crash seen kept.going.ledger kept.going.has)
 
-    passes : Passes (Leaves (IsExplainedImage was.sectors start history)) old.moments new.moments
-    passes = between.between (gives.left_so.keeps_all seen)
-
-    behind : passed ≡ map (cells_of was.sectors) passes.inside
-    behind = gives.left_so.went seen ∙ (λ i. map (cells_of (gives.left_so.sectors i)) (drop (length (all old.moments)) (passes.whole i))) ∙ ap (map (cells_of was.sectors)) (drop_behind (all old.moments) passes.inside)
+    passes : IsTrue keeps → Passes (Leaves (IsExplainedImage was.sectors start history)) old.moments new.moments
+    passes = between.between
 
     less : IsMore (known_by start history t known) known
     less = record {
@@ -211,12 +207,12 @@ module _ (g : Geometry) (reclaims : DroppedIsReclaimedKept g) (sounds : Reclaime
     ends : IsSoundServer g was.unassigned.free p → EndsOnDisk was t next start history p known
     ends sound = record {
       kept = less_is_kept (store_of t.store) start history (next p) (known_by start history t known) known less (since_kept t.store gives.later [] start history (next p) known (given_kept sound));
-      passed = λ cells has. among was.sectors start history passes.inside passes.each cells (subst (Has cells) behind has);
+      passed = each_passed keeps visible was mid gives.earlier gives.later passed [] gives.left_so seen start history passes;
       picked = λ pick none. absurd none;
     }
 
-  pub went_on : visible ≡ true → (start : PosixTree) (history : List Entry) (p : Parts) (known : Known) → IsAsBegun v was start history p known → WentOn (store_since gives.earlier was) (store_since gives.later mid)
-  went_on seen start history p known begun = (let is = passes seen start history p known begun in (is.inside, is.whole))
+  pub went_on : visible ≡ true → IsTrue keeps → (start : PosixTree) (history : List Entry) (p : Parts) (known : Known) → IsAsBegun v was start history p known → WentOn (store_since gives.earlier was) (store_since gives.later mid)
+  went_on seen kept start history p known begun = (let is = passes seen start history p known begun kept in (is.inside, is.whole))
 
   faults_told : AreFaultsTold was t.store []
   faults_told = (let told = gives.left_so.told_so in record { rise = told.rise; once = told.once; new = told.new; stopped = told.stopped; halts = told.halts })
@@ -295,17 +291,14 @@ module _ (g : Geometry) (begins : BeginningIsKept g) (empties : EmptiedIsStored 
       stretch = explains keeps before before.moments after.moments still_going.going.ledger start history still_going.going.counts (still_going.going.formed ∙ form) still_going.going.has.superblock_is still_going.going.stored.kept
           (makes.crash seen still_going.going.ledger still_going.going.has)
 
-      states : Passes (Leaves (IsExplainedImage was.sectors start history)) before.moments after.moments
-      states = stretch.between (makes.left_so.keeps_all seen)
-
-      passed_so : passed ≡ map (cells_of was.sectors) states.inside
-      passed_so = makes.left_so.went seen ∙ (λ i. map (cells_of (makes.left_so.sectors i)) (drop (length (all before.moments)) (states.whole i))) ∙ ap (map (cells_of was.sectors)) (drop_behind (all before.moments) states.inside)
+      states : IsTrue keeps → Passes (Leaves (IsExplainedImage was.sectors start history)) before.moments after.moments
+      states = stretch.between
 
     failed_ends : (after ≡ before) ⊎ ((was.stop ≡ None) × HasBegunAnew before after) → EndsOnDisk was kept_turn (λ q. q) start history p known
     failed_ends (inr x) = record {
       kept = less_is_kept (store_of left) start history p (known_by start history kept_turn known) known no_more
           (since_kept left makes.later [] start history p known (checkpoints.goes_on g begins empties before after start history p known form makes.left_so.geometry makes.unassigned (still_going x.0) x.1));
-      passed = λ cells has. among was.sectors start history (states x.0).inside (states x.0).each cells (subst (Has cells) (passed_so x.0) has);
+      passed = each_passed keeps visible was left makes.earlier makes.later passed told makes.left_so seen start history (states x.0);
       picked = λ pick never. absurd never;
     }
     failed_ends (inl same) = record {
@@ -315,7 +308,7 @@ module _ (g : Geometry) (begins : BeginningIsKept g) (empties : EmptiedIsStored 
     }
       where
         none : passed ≡ []
-        none = makes.left_so.went seen ∙ ap (λ (s : StoreState). map (cells_of s.sectors) (drop (length (all before.moments)) (all s.moments))) same ∙ ap (map (cells_of was.sectors)) (nothing_behind (all before.moments))
+        none = none_passed keeps visible was left makes.earlier makes.later passed told makes.left_so seen same
 
   pub failure_may_end : MayEndTurn g visible v kept_turn
   failure_may_end = record {

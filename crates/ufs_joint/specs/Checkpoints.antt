@@ -1,5 +1,5 @@
 -- The store makes a checkpoint in a turn, by a hand that has the store's cell and no file.
-use Rattle.std.specs.Prelude.{ℕ, ◌≡◌, ◌⊎◌, Bool, true, None, IsSome, List, [], ◌∷◌}
+use Rattle.std.specs.Prelude.{ℕ, ◌≡◌, ◌⊎◌, Bool, IsTrue, true, None, IsSome, List, [], ◌∷◌}
 use Rattle.ufs_disk.specs.Disk.{State}
 use Rattle.ufs_disk.specs.Moments.{LeavesOnly}
 use Rattle.ufs_layout.specs.declared.geometry.Geometry.{Geometry}
@@ -46,4 +46,4 @@ CheckpointsMayEnd g = (keeps visible : Bool) (v : View) (was left : StoreCell) (
 -- The disk went on by it.
 abbrev pub CheckpointsGoOn : Geometry → Type 0
 CheckpointsGoOn g = (keeps visible : Bool) (v : View) (was left : StoreCell) (passed : List Cells) (told : List ℕ) → geometry_of_store (store_of was) ≡ g → IsBareHand v was → (c : MakesCheckpoint keeps visible was left passed told)
-    → visible ≡ true → (start : PosixTree) (history : List Entry) (p : Parts) (known : Known) → IsAsBegun v was start history p known → WentOn (store_since c.earlier was) (store_since c.later left)
+    → visible ≡ true → IsTrue keeps → (start : PosixTree) (history : List Entry) (p : Parts) (known : Known) → IsAsBegun v was start history p known → WentOn (store_since c.earlier was) (store_since c.later left)

@@ -1,6 +1,6 @@
 -- A hand with a client, a file and a pool alone draws a request on the file, and one with the store and a file commits the file or reads
 -- blocks of it.
-use Rattle.std.specs.Prelude.{ℕ, suc, ◌≡◌, ◌≢◌, ◌<◌, ◌≤◌, ◌⊎◌, Bool, true, false, IsTrue, List, [], ◌∷◌, ◌++◌, length, Option, Some, None}
+use Rattle.std.specs.Prelude.{ℕ, suc, ◌≡◌, ◌≢◌, ◌<◌, ◌≤◌, ◌⊎◌, Bool, true, false, IsTrue, cond, List, [], ◌∷◌, ◌++◌, length, Option, Some, None}
 use Rattle.std.specs.FinMap as fin
 use Rattle.std.specs.List.{slice_get}
 use Rattle.std.specs.FinSet as set
@@ -150,10 +150,10 @@ pub record IsSyncHand (visible : Bool) (v : View) (file : ℕ) (cell : FileCell)
   pub known : visible ≡ true → cell.known ≤ was.stamp
   pub born : cell.born ≡ true
 
--- What `fsync` of the file tells of the store, whose disk was in other states before and passed these, and the faults that it told.
+-- What `fsync` of the file tells of the store, whose disk was in other states before and passed these, and the faults that it told. Of a
+-- disk that doesn't keep its moments no state is noted that it passed.
 pub record LeavesStore (keeps visible : Bool) (was left : StoreCell) (earlier later : List State) (passed : List Cells) (told : List ℕ) : Type 0 where
-  pub keeps_all : visible ≡ true → IsTrue keeps
-  pub went : visible ≡ true → passed ≡ states_behind (length (all (store_since earlier was).moments)) (store_since later left)
+  pub went : visible ≡ true → passed ≡ cond keeps (states_behind (length (all (store_since earlier was).moments)) (store_since later left)) []
   pub geometry : geometry_of_store (store_of left) ≡ geometry_of_store (store_of was)
   pub sectors : left.sectors ≡ was.sectors
   pub stamp : left.stamp ≡ was.stamp
@@ -255,16 +255,16 @@ WentOn old new = (inside : List State) × (all new.moments ≡ all old.moments +
 -- So it went on by the commit, and where that failed.
 abbrev pub FileCommitsGoOn : Geometry → Type 0
 FileCommitsGoOn g = (keeps visible : Bool) (v : View) (file : ℕ) (cell : FileCell) (was left : StoreCell) (passed : List Cells) → geometry_of_store (store_of was) ≡ g
-    → IsSyncHand visible v file cell was → (c : CommitsFile keeps visible was left cell.value passed) → visible ≡ true → (start : PosixTree) (history : List Entry) (p : Parts) (known : Known) → IsAsBegun v was start history p known
+    → IsSyncHand visible v file cell was → (c : CommitsFile keeps visible was left cell.value passed) → visible ≡ true → IsTrue keeps → (start : PosixTree) (history : List Entry) (p : Parts) (known : Known) → IsAsBegun v was start history p known
     → WentOn (store_since c.earlier was) (store_since c.later left)
 
 abbrev pub FileFailuresGoOn : Geometry → Type 0
 FileFailuresGoOn g = (keeps visible : Bool) (v : View) (file : ℕ) (cell : FileCell) (was left : StoreCell) (passed : List Cells) (told : List ℕ) → geometry_of_store (store_of was) ≡ g
-    → IsSyncHand visible v file cell was → (c : FailsFile keeps visible was left cell.value passed told) → visible ≡ true → (start : PosixTree) (history : List Entry) (p : Parts) (known : Known) → IsAsBegun v was start history p known
+    → IsSyncHand visible v file cell was → (c : FailsFile keeps visible was left cell.value passed told) → visible ≡ true → IsTrue keeps → (start : PosixTree) (history : List Entry) (p : Parts) (known : Known) → IsAsBegun v was start history p known
     → WentOn (store_since c.earlier was) (store_since c.later left)
 
 -- So it does by a fetch.
 abbrev pub FileFetchesGoOn : Geometry → Type 0
 FileFetchesGoOn g = (sees keeps visible : Bool) (v : View) (file : ℕ) (cell : FileCell) (read : FileState) (was left : StoreCell) (passed : List Cells) (told : List ℕ) → geometry_of_store (store_of was) ≡ g
-    → IsFetchHand visible v file cell was → (c : FetchesFile sees keeps visible was left cell.value.file read passed told) → visible ≡ true → (start : PosixTree) (history : List Entry) (p : Parts) (known : Known) → IsAsBegun v was start history p known
+    → IsFetchHand visible v file cell was → (c : FetchesFile sees keeps visible was left cell.value.file read passed told) → visible ≡ true → IsTrue keeps → (start : PosixTree) (history : List Entry) (p : Parts) (known : Known) → IsAsBegun v was start history p known
     → WentOn (store_since c.earlier was) (store_since c.later left)

@@ -1,5 +1,5 @@
 -- A commit of the names, with the zeros of the blocks that directories took, by a hand with the store and the names alone.
-use Rattle.std.specs.Prelude.{ℕ, ◌≡◌, ◌≤◌, ◌⊎◌, Bool, true, List, [], ◌∷◌, length, Option, Some, None}
+use Rattle.std.specs.Prelude.{ℕ, ◌≡◌, ◌≤◌, ◌⊎◌, Bool, IsTrue, true, List, [], ◌∷◌, length, Option, Some, None}
 use Rattle.std.specs.Ordering.{nat_cmp}
 use Rattle.std.specs.FinMap as fin
 use Rattle.std.specs.FinSet as set
@@ -102,10 +102,10 @@ NamesFailuresMayEnd = (g : Geometry) (keeps visible : Bool) (v : View) (names : 
 
 abbrev pub NamesCommitsGoOn : Type 0
 NamesCommitsGoOn = (g : Geometry) (keeps visible : Bool) (v : View) (names : NamesCell) (was left : StoreCell) (passed : List Cells) → geometry_of_store (store_of was) ≡ g
-    → IsNamesSyncHand visible v names was → (c : CommitsNames keeps visible was left names passed) → visible ≡ true → (start : PosixTree) (history : List Entry) (p : Parts) (known : Known) → IsAsBegun v was start history p known
+    → IsNamesSyncHand visible v names was → (c : CommitsNames keeps visible was left names passed) → visible ≡ true → IsTrue keeps → (start : PosixTree) (history : List Entry) (p : Parts) (known : Known) → IsAsBegun v was start history p known
     → WentOn (store_since c.earlier was) (store_since c.later left)
 
 abbrev pub NamesFailuresGoOn : Type 0
 NamesFailuresGoOn = (g : Geometry) (keeps visible : Bool) (v : View) (names : NamesCell) (was left : StoreCell) (passed : List Cells) (told : List ℕ) → geometry_of_store (store_of was) ≡ g
-    → IsNamesSyncHand visible v names was → (c : FailsNames keeps visible was left names passed told) → visible ≡ true → (start : PosixTree) (history : List Entry) (p : Parts) (known : Known) → IsAsBegun v was start history p known
+    → IsNamesSyncHand visible v names was → (c : FailsNames keeps visible was left names passed told) → visible ≡ true → IsTrue keeps → (start : PosixTree) (history : List Entry) (p : Parts) (known : Known) → IsAsBegun v was start history p known
     → WentOn (store_since c.earlier was) (store_since c.later left)

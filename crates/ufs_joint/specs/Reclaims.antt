@@ -1,5 +1,5 @@
 -- The store makes a checkpoint in a turn, by a hand that has the names and each live file too: what the names dropped is unassigned then.
-use Rattle.std.specs.Prelude.{ℕ, ◌≡◌, ◌≤◌, Bool, true, IsSome, List, [], ◌∷◌, Some, None}
+use Rattle.std.specs.Prelude.{ℕ, ◌≡◌, ◌≤◌, Bool, IsTrue, true, IsSome, List, [], ◌∷◌, Some, None}
 use Rattle.std.specs.FinMap as fin
 use Rattle.std.specs.FinSet as set
 use Rattle.ufs_bitmap.specs.Blocks.{BlockSet}
@@ -76,5 +76,5 @@ ReclaimFailuresMayEnd g = (keeps visible : Bool) (v : View) (names : NamesCell) 
 -- The disk went on by the checkpoint.
 abbrev pub ReclaimsGoOn : Geometry → Type 0
 ReclaimsGoOn g = (keeps visible : Bool) (v : View) (names : NamesCell) (was mid : StoreCell) (passed : List Cells) → geometry_of_store (store_of was) ≡ g
-    → IsReclaimHand visible v names was → (c : HasCheckpoint keeps visible was mid passed) → visible ≡ true → (start : PosixTree) (history : List Entry) (p : Parts) (known : Known) → IsAsBegun v was start history p known
+    → IsReclaimHand visible v names was → (c : HasCheckpoint keeps visible was mid passed) → visible ≡ true → IsTrue keeps → (start : PosixTree) (history : List Entry) (p : Parts) (known : Known) → IsAsBegun v was start history p known
     → WentOn (store_since c.earlier was) (store_since c.later mid)
