@@ -30,11 +30,11 @@ use Rattle.ufs_begin_hands.proofs.Clean.{clean_disk, told_clean}
 
 -- ---- what a session sees
 
-pub sees_it : (visible keeps : Bool) (sectors : ℕ) (state : State) → sees visible keeps sectors state ≡ true → (visible ≡ true) × (keeps ≡ true) × (is_clean sectors state ≡ true)
-sees_it visible keeps sectors state is = let a = and_parts _ _ is in let b = and_parts _ _ a.1 in (a.0, b.0, b.1)
+pub sees_it : (visible : Bool) (sectors : ℕ) (state : State) → sees visible sectors state ≡ true → (visible ≡ true) × (is_clean sectors state ≡ true)
+sees_it visible sectors state is = and_parts _ _ is
 
-pub it_sees : (visible keeps : Bool) (sectors : ℕ) (state : State) → visible ≡ true → keeps ≡ true → IsCleanDisk sectors state → sees visible keeps sectors state ≡ true
-it_sees visible keeps sectors state sight all clean = and_from _ _ sight (and_from _ _ all (told_clean sectors state clean))
+pub it_sees : (visible : Bool) (sectors : ℕ) (state : State) → visible ≡ true → IsCleanDisk sectors state → sees visible sectors state ≡ true
+it_sees visible sectors state sight clean = and_from _ _ sight (told_clean sectors state clean)
 
 -- ---- nothing is in memory
 
@@ -66,13 +66,13 @@ module _ (sectors : ℕ) (image : Image) (s : Start) (begun : IsBegun sectors im
 
 -- ---- the whole
 
-module _ (g : Geometry) (sectors : ℕ) (state : State) (image : Image) (s : Start) (store : StoreState) (clients workers : ℕ) (visible keeps : Bool)
+module _ (g : Geometry) (sectors : ℕ) (state : State) (image : Image) (s : Start) (store : StoreState) (clients workers : ℕ) (visible : Bool)
     (begun : IsBegun sectors image s) (few : workers ≤ 8) (table : IsNameTable s.names.tree) (is : s.superblock.geometry ≡ g)
     (formed : geometry_of_store store ≡ s.superblock.geometry) (free : store.unassigned ≡ s.free) (going : store.stop ≡ None)
     (read : visible ≡ true → image ≡ seen state) (whole : visible ≡ true → IsWhole sectors state) (left_whole : visible ≡ true → IsWhole store.sectors store.moments.state)
     (has : visible ≡ true → IsMountable sectors state s.superblock.superblock → HasLedger store (opening_ledger (in_use s.superblock.superblock) (seen state))) where
   abbrev b : Beginning
-  b = beginning_of s clients workers (sees visible keeps sectors state)
+  b = beginning_of s clients workers (sees visible sectors state)
 
   abbrev t : PosixTree
   t = s.parts.start.tree
@@ -80,8 +80,8 @@ module _ (g : Geometry) (sectors : ℕ) (state : State) (image : Image) (s : Sta
   -- what was read is of this disk, which is clean
   clean : b.is_visible ≡ true → IsReadClean g sectors state s
   clean sight =
-      let it = sees_it visible keeps sectors state sight in
-      record { whole = whole it.0; clean = clean_disk sectors state (whole it.0) it.2; begun = subst (λ (i : Image). IsBegun sectors i s) (read it.0) begun; geometry = is }
+      let it = sees_it visible sectors state sight in
+      record { whole = whole it.0; clean = clean_disk sectors state (whole it.0) it.1; begun = subst (λ (i : Image). IsBegun sectors i s) (read it.0) begun; geometry = is }
 
   pub ready : StartsMayBegin → StartsAreSound → CleanStartsMount g → StartsGoOn g → IsReady b store
   ready may sounds mounts goes =
@@ -95,9 +95,9 @@ module _ (g : Geometry) (sectors : ℕ) (state : State) (image : Image) (s : Sta
         formed = formed;
         server = subst (λ (u : Space). IsSoundServer s.superblock.geometry u.free (parts_of s)) (sym free) (sounds sectors image s begun);
         going = going;
-        whole = λ sight. left_whole (sees_it visible keeps sectors state sight).0;
+        whole = λ sight. left_whole (sees_it visible sectors state sight).0;
         on_disk = λ sight.
-            let it = sees_it visible keeps sectors state sight in
+            let it = sees_it visible sectors state sight in
             let c = clean sight in
             goes sectors state s t store (parts_of s) c (with_it sectors (seen state) s c.begun) refl (has it.0 (mounts sectors state s c)) formed free;
       }

@@ -39,6 +39,6 @@ is_clean_in image (Err refusal) = false
 abbrev pub is_clean : ℕ → State → Bool
 is_clean sectors state = is_settled sectors state && is_clean_in (seen state) (volume sectors (seen state))
 
--- Contracts see what the disk holds at each moment, and it is clean.
-abbrev pub sees : (visible keeps : Bool) → ℕ → State → Bool
-sees visible keeps sectors state = visible && (keeps && is_clean sectors state)
+-- Contracts see what the disk holds, and it is clean.
+abbrev pub sees : (visible : Bool) → ℕ → State → Bool
+sees visible sectors state = visible && is_clean sectors state

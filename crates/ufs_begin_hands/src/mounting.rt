@@ -56,9 +56,9 @@ pub fn mount<D: Disk>(
 ) -> Result<Ready<D>, Unbegun<D>>
     requires begun { (image : Image) × IsBegun (D.size disk) image start × (IsTrue D.visible → image ≡ reads (D.moments disk)) }
     requires few { workers ≤ 8 }
-    ensures start { IfOk result (λ r. r.opened.start ≡ start_first (beginning_of start clients workers (sees D.visible D.keeps (D.size disk) (D.moments disk).state)) (⟦<Store<D> as Door>⟧.store r.store)) }
+    ensures start { IfOk result (λ r. r.opened.start ≡ start_first (beginning_of start clients workers (sees D.visible (D.size disk) (D.moments disk).state)) (⟦<Store<D> as Door>⟧.store r.store)) }
     ensures session { IfOk result (λ r. CanBegin r.opened.start) }
-    ensures ready { IfOk result (λ r. IsReady (beginning_of start clients workers (sees D.visible D.keeps (D.size disk) (D.moments disk).state)) (⟦<Store<D> as Door>⟧.store r.store)) }
+    ensures ready { IfOk result (λ r. IsReady (beginning_of start clients workers (sees D.visible (D.size disk) (D.moments disk).state)) (⟦<Store<D> as Door>⟧.store r.store)) }
     ensures names { IfOk result (λ r. r.names ≡ record { names = with_notes (Some []) start.names; fresh = []; dropped = set.empty }) }
     ensures files { IfOk result (λ r. map value_of r.files.items ≡ values_first start.files) }
     ensures tree { (image : Image) (tree : PosixTree) → IsBegun (D.size disk) image start → BeginsWith (D.size disk) image tree → IfOk result (λ r. r.opened.start.tree ≡ tree) }
@@ -75,9 +75,9 @@ pub fn mount<D: Disk>(
         → IfOk result (λ r. IsExplainedBetween D.keeps (D.size disk) tree [] (D.moments disk) (⟦<Store<D> as Door>⟧.store r.store).moments) }
     ensures err_moments { IsTrue D.visible → IsCleanDisk (D.size disk) (D.moments disk).state → (tree : PosixTree) → BeginsWith (D.size disk) (reads (D.moments disk)) tree
         → IfErr result (λ u. IsExplainedBetween D.keeps (D.size disk) tree [] (D.moments disk) (D.moments u.disk)) }
-    // the session sees a disk whose every moment contracts see
-    ensures visible { IsTrue D.visible → IsTrue D.keeps → IsCleanDisk (D.size disk) (D.moments disk).state → IfOk result (λ r. r.opened.start.is_visible ≡ true) }
-    ensures seen { IfOk result (λ r. r.opened.start.is_visible ≡ true → IsTrue D.visible × IsTrue D.keeps) }
+    // the session sees a disk that is visible
+    ensures visible { IsTrue D.visible → IsCleanDisk (D.size disk) (D.moments disk).state → IfOk result (λ r. r.opened.start.is_visible ≡ true) }
+    ensures seen { IfOk result (λ r. r.opened.start.is_visible ≡ true → IsTrue D.visible) }
 {
     let superblock = start.superblock.superblock;
     a_request_keeps_the_tree();

@@ -19,8 +19,8 @@ pub(crate) fn parts_before<D: Disk, P: Opening>(
     clients: u8,
     workers: u8,
 ) -> Parts
-    requires { P.opened ≡ start_before (beginning_of start.now clients workers (sees D.visible D.keeps (D.size disk.now) (D.moments disk.now).state)) }
-    ensures { result.start ≡ start_before (beginning_of start.now clients workers (sees D.visible D.keeps (D.size disk.now) (D.moments disk.now).state)) }
+    requires { P.opened ≡ start_before (beginning_of start.now clients workers (sees D.visible (D.size disk.now) (D.moments disk.now).state)) }
+    ensures { result.start ≡ start_before (beginning_of start.now clients workers (sees D.visible (D.size disk.now) (D.moments disk.now).state)) }
 {
     let (_disk, _start, _clients, _workers) = (disk, start, clients, workers);
     Parts::picked::<P>()

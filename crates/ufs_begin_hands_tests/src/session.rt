@@ -65,7 +65,7 @@ pub fn deal_and_finish<D: Disk + Drop, R: Abort + AllocGlobal>(
 // The image of this disk is mounted.
 fn ready_on<D: Disk + Drop, R: Abort + AllocGlobal>(rt: &R, mut disk: D) -> Ready<D>
     ensures mounted { (b : Beginning) × IsMounted b result.opened.start (⟦<Store<D> as Door>⟧.store result.store) result.names (map value_of result.files.items) }
-    ensures sees { result.opened.start.is_visible ≡ true → IsTrue D.visible × IsTrue D.keeps }
+    ensures sees { result.opened.start.is_visible ≡ true → IsTrue D.visible }
 {
     let Ok(start) = start_of(rt.alloc(), &mut disk) else {
         panic!(rt; "no start");
@@ -86,7 +86,7 @@ fn close_all<N: Naming, D: Disk, L: Ledger, R: Abort + AllocGlobal>(
     requires parts { blank.parts ≡ L.parts }
     requires one { blank.parts ≡ 1 }
     requires mounted { (b : Beginning) × IsMounted b N.start (⟦<Store<D> as Door>⟧.store ready.store) ready.names (map value_of ready.files.items) }
-    requires sees { N.start.is_visible ≡ true → IsTrue D.visible × IsTrue D.keeps }
+    requires sees { N.start.is_visible ≡ true → IsTrue D.visible }
 {
     let AllDealt {
         table,
@@ -115,7 +115,7 @@ fn finish_all<N: Naming, D: Disk, L: Ledger, R: Abort + AllocGlobal>(
     requires parts { blank.parts ≡ L.parts }
     requires one { blank.parts ≡ 1 }
     requires mounted { (b : Beginning) × IsMounted b N.start (⟦<Store<D> as Door>⟧.store ready.store) ready.names (map value_of ready.files.items) }
-    requires sees { N.start.is_visible ≡ true → IsTrue D.visible × IsTrue D.keeps }
+    requires sees { N.start.is_visible ≡ true → IsTrue D.visible }
     requires formed { IsGeometry geometry.now }
     requires its { geometry.now ≡ N.start.geometry }
 {
@@ -174,7 +174,7 @@ fn deal_all<N: Naming, D: Disk, L: Ledger, R: Abort + AllocGlobal>(
     requires parts { blank.parts ≡ L.parts }
     requires one { blank.parts ≡ 1 }
     requires mounted { (b : Beginning) × IsMounted b N.start (⟦<Store<D> as Door>⟧.store ready.store) ready.names (map value_of ready.files.items) }
-    requires sees { N.start.is_visible ≡ true → IsTrue D.visible × IsTrue D.keeps }
+    requires sees { N.start.is_visible ≡ true → IsTrue D.visible }
     ensures dealt { IsDealt N.start result.actors.names result.actors.files.items result.actors.pools result.actors.clients.items }
     ensures share { 0 < result.share.parts }
 {

@@ -70,7 +70,7 @@ holds_names x names v alone value = record { cell = names; alone = alone; value 
 
 -- the store is at rest, and was in no state since
 pub holds_store : (k : Start) (visible keeps : Bool) (v : View) (s : StoreState) → k.view.store ≡ (tt, cell_of 0 [] s) ∷ [] → HasStoreAlone (cell_of 0 [] s) v → geometry_of_store s ≡ k.geometry
-    → (k.is_visible ≡ true → IsTrue visible × IsTrue keeps) → IsHeldStore k visible keeps v s
+    → (k.is_visible ≡ true → IsTrue visible) → IsHeldStore k visible keeps v s
 holds_store k visible keeps v s first alone formed sees = record {
   cell = cell_of 0 [] s;
   alone = alone;
@@ -81,9 +81,9 @@ holds_store k visible keeps v s first alone formed sees = record {
     sees = sees;
     formed = formed;
     size = sym (ap sectors_in first);
-    since = λ _. (let n = counted in omega (arith, n));
-    covers = λ _ x has. absurd (subst (Has x) none has);
-    passes = λ _. subst (λ (xs : List Cells). AreRepeated xs (cells_of s.sectors s.moments.state ∷ [])) (λ i. sym (ap state_in first) i ++ sym none i) (inl (refl, tt));
+    since = λ _ _. (let n = counted in omega (arith, n));
+    covers = λ _ _ x has. absurd (subst (Has x) none has);
+    passes = λ _ _. subst (λ (xs : List Cells). AreRepeated xs (cells_of s.sectors s.moments.state ∷ [])) (λ i. sym (ap state_in first) i ++ sym none i) (inl (refl, tt));
   };
 }
   where

@@ -47,7 +47,7 @@ pub fn deal<N: Naming, S: Door, L: Ledger>(
     requires names { (cell : NamesCell) × ((first_view N.start).names ≡ (tt, cell) ∷ []) × (noted_in cell ≡ names) × (cell.named ≡ live_files cell.value) }
     requires store { (first_view N.start).store ≡ (tt, cell_of 0 [] (S.store store)) ∷ [] }
     requires formed { geometry_of_store (S.store store) ≡ N.start.geometry }
-    requires sees { N.start.is_visible ≡ true → IsTrue S.visible × IsTrue S.keeps }
+    requires sees { N.start.is_visible ≡ true → IsTrue S.visible }
     ensures names { (cell : NamesCell) → (first_view N.start).names ≡ (tt, cell) ∷ [] → result.names ≡ cell }
     ensures store { HasStoreAlone (cell_of 0 [] (S.store store)) result.store }
     ensures hand { result.hand ≡ rest_of (first_view N.start) }

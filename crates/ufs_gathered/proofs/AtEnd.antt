@@ -126,7 +126,7 @@ module _ (k : Start) (visible keeps : Bool) (names : NamesCell) (files : List Fi
     e = whole.explained seen
 
     state_is : state_of (cells_of s.sectors s.moments.state) ≡ s.moments.state
-    state_is = whole_cells s.sectors s.moments.state (disk_whole (home.sees seen).0)
+    state_is = whole_cells s.sectors s.moments.state (disk_whole (home.sees seen))
 
     crash : Leaves (IsExplainedImage s.sectors whole.start whole.history) s.moments.state
     crash = subst (λ (x : State). Leaves (IsExplainedImage s.sectors whole.start whole.history) x) state_is
@@ -138,8 +138,8 @@ module _ (k : Start) (visible keeps : Bool) (names : NamesCell) (files : List Fi
         let b : e.upto ≤ m = e.within in
         omega (arith, a, b)
 
-    stamped : (state : Cells) → Has state (states_behind (counted_in k.view.store) s) → IsExplainedAtStamps s.sectors whole.start whole.history state
-    stamped state there = by (home.covers seen state there)
+    stamped : IsTrue keeps → (state : Cells) → Has state (states_behind (counted_in k.view.store) s) → IsExplainedAtStamps s.sectors whole.start whole.history state
+    stamped kept state there = by (home.covers seen kept state there)
       where
         by : (state ≡ cells_of s.sectors s.moments.state) ⊎ IsPassed state home.past → IsExplainedAtStamps s.sectors whole.start whole.history state
         by (inl is) = record {
@@ -157,15 +157,15 @@ module _ (k : Start) (visible keeps : Bool) (names : NamesCell) (files : List Fi
           each = λ i low high. e.past p.0 (inr p.1) i low high state p.2;
         }
 
-    throughout : AreExplainedAlong s.sectors whole.start whole.history 0 (state_in k.view.store ++ states_behind (counted_in k.view.store) s) (length whole.history)
-    throughout =
+    throughout : IsTrue keeps → AreExplainedAlong s.sectors whole.start whole.history 0 (state_in k.view.store ++ states_behind (counted_in k.view.store) s) (length whole.history)
+    throughout kept =
         let last = cells_of s.sectors s.moments.state in
         let before : AreExplainedAlong s.sectors whole.start whole.history 0 (states_in home.past ++ last ∷ []) e.upto =
         past_along s.sectors whole.start whole.history was.past e.upto e.joined (λ x has c of i low high. e.past x has i low high c of) in
         let each : AreExplainedAlong s.sectors whole.start whole.history 0 (states_in home.past ++ last ∷ []) m =
         more_along s.sectors whole.start whole.history 0 e.upto m (states_in home.past) last before e.within (λ i low high. e.now i (let a = e.stamped in omega (arith, a, low)) high) in
         subst (λ (q : ℕ). AreExplainedAlong s.sectors whole.start whole.history 0 (state_in k.view.store ++ states_behind (counted_in k.view.store) s) q) (sym whole.all_drawn)
-        (once_along s.sectors whole.start whole.history 0 m (state_in k.view.store ++ states_behind (counted_in k.view.store) s) (states_in home.past ++ last ∷ []) (home.passes seen) each)
+        (once_along s.sectors whole.start whole.history 0 m (state_in k.view.store ++ states_behind (counted_in k.view.store) s) (states_in home.past ++ last ∷ []) (home.passes seen kept) each)
 
     -- the history of which it is known what is committed is the whole one
     same : knows.history ≡ whole.history
@@ -237,7 +237,7 @@ module _ (k : Start) (visible keeps : Bool) (names : NamesCell) (files : List Fi
   -- ---- the whole
 
   pub has_ended : ((file : ℕ) → IsSome (fin.get names.value.held file) → (x : FileCell) × Has (file, x) v.files) → RestIsExplained k.geometry → AllAreThere k.geometry → AllIsLast k.geometry
-      → (IsTrue visible → IsDiskWhole s.sectors s.moments.state) → HasEnded k m lists names files s
+      → (IsTrue visible → IsDiskWhole s.sectors s.moments.state) → HasEnded k keeps m lists names files s
   has_ended held rest there is_last disk_whole = record {
     start = whole.start;
     picks = whole.picks;

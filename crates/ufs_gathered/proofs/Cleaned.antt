@@ -181,7 +181,7 @@ going_on was (Err e) halted ok = (let no : false ≡ true = ok in absurd cc)
 
 -- ---- the disk
 
-module _ (k : Start) (keeps : Bool) (tickets : ℕ) (lists : List (List Entry)) (names : NamesCell) (files : List FileCell) (s : StoreState) (session : HasEnded k tickets lists names files s) (seen : k.is_visible ≡ true) (now : Moments)
+module _ (k : Start) (keeps : Bool) (tickets : ℕ) (lists : List (List Entry)) (names : NamesCell) (files : List FileCell) (s : StoreState) (session : HasEnded k keeps tickets lists names files s) (seen : k.is_visible ≡ true) (now : Moments)
     (cleans : Leaves (IsProperImage s.sectors) s.moments.state → LeavesOnly keeps (OpensAsLeft s.sectors s.moments.state) s.moments now) where
   pub proper : Leaves (IsProperImage s.sectors) s.moments.state
   proper image left = (session.crash seen image left).proper

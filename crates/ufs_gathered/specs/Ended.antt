@@ -1,5 +1,5 @@
 -- What is known of a session on hands that has ended.
-use Rattle.std.specs.Prelude.{ℕ, ◌≡◌, ◌≤◌, ◌<◌, ◌-◌, ◌^◌, ◌⊎◌, ◌++◌, eqb, true, List, [], ◌∷◌, length, map, take, Some, None, IsSome}
+use Rattle.std.specs.Prelude.{ℕ, ◌≡◌, ◌≤◌, ◌<◌, ◌-◌, ◌^◌, ◌⊎◌, ◌++◌, eqb, Bool, IsTrue, true, List, [], ◌∷◌, length, map, take, Some, None, IsSome}
 use Rattle.std.specs.FinMap as fin
 use Rattle.ufs_client.specs.Played.{IsMerged, transcript}
 use Rattle.ufs_disk.specs.Disk.{Leaves}
@@ -77,7 +77,7 @@ pub record AreAllKnown (names : NamesCell) (files : List FileCell) : Type 0 wher
 -- entry is one of the session, and whoever is told that the store stopped is told where: by that, or where a request asks for a commit,
 -- by the fault itself. No other request is told a stop. It stopped at a fault of the session, if it hadn't before. The disk has as many
 -- sectors as at the beginning.
-pub record HasEnded (k : Start) (tickets : ℕ) (lists : List (List Entry)) (names : NamesCell) (files : List FileCell) (s : StoreState) : Type 0 where
+pub record HasEnded (k : Start) (keeps : Bool) (tickets : ℕ) (lists : List (List Entry)) (names : NamesCell) (files : List FileCell) (s : StoreState) : Type 0 where
   pub start : PosixTree
   pub picks : List Pick
   pub begun : MayHaveBegun k picks start
@@ -102,9 +102,9 @@ pub record HasEnded (k : Start) (tickets : ℕ) (lists : List (List Entry)) (nam
   pub once : (file : ℕ) → count eqb file (under_numbers files) ≤ 1
   -- over a visible disk: what a crash leaves now is explained by the whole history, and proper;
   pub crash : k.is_visible ≡ true → Leaves (IsExplainedImage s.sectors start history) s.moments.state
-  -- so it is with each state that the disk was in since the session began, by the first entries;
-  pub stamped : k.is_visible ≡ true → (state : Cells) → Has state (states_behind (counted_in k.view.store) s) → IsExplainedAtStamps s.sectors start history state
+  -- so it is with each state that the disk was in since the session began, by the first entries, where it keeps its moments;
+  pub stamped : k.is_visible ≡ true → IsTrue keeps → (state : Cells) → Has state (states_behind (counted_in k.view.store) s) → IsExplainedAtStamps s.sectors start history state
   -- they are so in the order of time, from the state at the beginning on, and by all entries at the end;
-  pub throughout : k.is_visible ≡ true → AreExplainedAlong s.sectors start history 0 (state_in k.view.store ++ states_behind (counted_in k.view.store) s) (length history)
+  pub throughout : k.is_visible ≡ true → IsTrue keeps → AreExplainedAlong s.sectors start history 0 (state_in k.view.store ++ states_behind (counted_in k.view.store) s) (length history)
   -- and once everything is committed, and the store goes on, it stands for the last tree.
   pub last : k.is_visible ≡ true → s.stop ≡ None → AreAllKnown names files → Leaves (StandsForTree s.sectors (tree_after start history)) s.moments.state

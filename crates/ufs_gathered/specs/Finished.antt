@@ -57,7 +57,7 @@ pub record HasFinished (k : Start) (keeps : Bool) (tickets : ℕ) (lists : List 
   pub names : NamesCell
   pub files : List FileCell
   pub store : StoreState
-  pub session : HasEnded k tickets lists names files store
+  pub session : HasEnded k keeps tickets lists names files store
   -- whether everything was committed
   pub all : Bool
   pub ends : EndsBy all store.stop store.faults faults ended

@@ -43,7 +43,7 @@ fn ready_on<D: Disk + Drop>(
 ) -> Option<Ready<D>>
     requires few { workers ≤ 8 }
     ensures mounted { IfSome result (λ r. (b : Beginning) × IsMounted b r.opened.start (⟦<Store<D> as Door>⟧.store r.store) r.names (map value_of r.files.items) clients workers) }
-    ensures sees { IfSome result (λ r. r.opened.start.is_visible ≡ true → IsTrue D.visible × IsTrue D.keeps) }
+    ensures sees { IfSome result (λ r. r.opened.start.is_visible ≡ true → IsTrue D.visible) }
 {
     let Ok(start) = start_of(alloc, &mut disk) else {
         return None;
@@ -67,7 +67,7 @@ fn session<N: Naming, D: Disk, L: Ledger, R: Abort + AllocGlobal>(
     requires parts { blank.parts ≡ L.parts }
     requires one { blank.parts ≡ 1 }
     requires mounted { (b : Beginning) × IsMounted b N.start (⟦<Store<D> as Door>⟧.store ready.store) ready.names (map value_of ready.files.items) (length scripts) workers }
-    requires sees { N.start.is_visible ≡ true → IsTrue D.visible × IsTrue D.keeps }
+    requires sees { N.start.is_visible ≡ true → IsTrue D.visible }
     requires some { 0 < length scripts }
 {
     let session = match Session::<N, D, L>::begin(rt.alloc(), ready, blank, scripts, workers) {

@@ -42,7 +42,7 @@ module _ (k : Start) (visible keeps : Bool) (n : ℕ) (v w : View) (s t : StoreS
   u = turn_begun n (cell_of home.stamp home.past s) v
 
   abbrev passed : List Cells
-  passed = states_behind (begun_at n (cell_of home.stamp home.past s)).counted t
+  passed = cond keeps (states_behind (begun_at n (cell_of home.stamp home.past s)).counted t) []
 
   begun_is : w ≡ u
   begun_is = turning.begun_is k visible keeps n v w s t knows home begun
@@ -62,7 +62,7 @@ module _ (k : Start) (visible keeps : Bool) (n : ℕ) (v w : View) (s t : StoreS
       both seen = λ i. (turning.before_is k visible keeps n v w s t knows home begun whole_before whole_behind tried.geometry tried.sectors seen i, turning.behind_is k visible keeps n v w s t knows home begun whole_before whole_behind tried.geometry tried.sectors seen i)
 
       moments : k.is_visible ≡ true → LeavesNames keeps (store_since s.moments.earlier was) (store_since t.moments.earlier left) cell.fresh cell.value.tree.noted
-      moments seen = subst (λ (q : StoreState × StoreState). LeavesNames keeps q.0 q.1 cell.fresh cell.value.tree.noted) (both seen) (tried.moments (home.sees seen).0)
+      moments seen = subst (λ (q : StoreState × StoreState). LeavesNames keeps q.0 q.1 cell.fresh cell.value.tree.noted) (both seen) (tried.moments (home.sees seen))
 
       left_so : LeavesStore keeps k.is_visible was left s.moments.earlier t.moments.earlier passed (told_list (fault_told told))
       left_so = turning.left_so k visible keeps n v w s t knows home begun whole_before whole_behind tried.geometry tried.sectors told tried.cause (λ n is. tried.stop ∙ ap (λ (q : Option ℕ). stop_after q told) is) (λ n is. turning.stop_from s.stop told n (sym tried.stop ∙ is))
@@ -75,26 +75,26 @@ module _ (k : Start) (visible keeps : Bool) (n : ℕ) (v w : View) (s t : StoreS
         later = t.moments.earlier;
         going = has.going;
         table = table;
-        committed = λ seen. subst (λ (q : StoreState × StoreState). HasCommittedNames q.0 q.1 cell.fresh cell.value.tree.noted) (both None has.tried seen) (has.committed (home.sees seen).0);
+        committed = λ seen. subst (λ (q : StoreState × StoreState). HasCommittedNames q.0 q.1 cell.fresh cell.value.tree.noted) (both None has.tried seen) (has.committed (home.sees seen));
         moments = moments None has.tried;
         unassigned = ap (λ (q : Space). q.free) has.tried.unassigned;
         left_so = left_so None has.tried;
       }
 
-      turn_is : committed_names_turn cell was left passed ≡ names_turn true None t u
+      turn_is : committed_names_turn cell was left passed ≡ names_turn keeps true None t u
       turn_is = λ i. record { files = []; names = each (λ _ x. cond true (names_kept n x) x) (sym names.names i); store = left; passed = passed; picks = []; told = [] }
 
-      pub commit_ends : NamesCommitsMayEnd → MayEndTurn k.geometry k.is_visible w (names_turn true None t w)
+      pub commit_ends : NamesCommitsMayEnd → MayEndTurn k.geometry k.is_visible w (names_turn keeps true None t w)
       commit_ends law =
-          subst (λ (q : View). MayEndTurn k.geometry k.is_visible q (names_turn true None t q)) (sym begun_is)
+          subst (λ (q : View). MayEndTurn k.geometry k.is_visible q (names_turn keeps true None t q)) (sym begun_is)
           (subst (MayEndTurn k.geometry k.is_visible u) turn_is (law k.geometry keeps k.is_visible u cell was left passed home.formed hand commits))
 
-      pub commit_went : NamesCommitsGoOn → k.is_visible ≡ true → WentOn s t
+      pub commit_went : NamesCommitsGoOn → k.is_visible ≡ true → IsTrue keeps → WentOn s t
       unfolding commits
-      commit_went law seen =
+      commit_went law seen kept =
           let b = turning.as_begun k visible keeps n v w s t knows home begun whole_before whole_behind has.tried.geometry has.tried.sectors seen in
           turning.went k visible keeps n v w s t knows home begun whole_before whole_behind has.tried.geometry has.tried.sectors seen
-          (law k.geometry keeps k.is_visible u cell was left passed home.formed hand commits seen k.tree b.0 b.1 b.2 b.3)
+          (law k.geometry keeps k.is_visible u cell was left passed home.formed hand commits seen kept k.tree b.0 b.1 b.2 b.3)
 
     -- where it didn't
     module _ (told : Option ℕ) (has : HaveNotPassed visible keeps s t cell.fresh cell.value.tree.noted told) where
@@ -103,32 +103,32 @@ module _ (k : Start) (visible keeps : Bool) (n : ℕ) (v w : View) (s t : StoreS
         earlier = s.moments.earlier;
         later = t.moments.earlier;
         table = table;
-        failed = λ seen. subst (λ (q : StoreState × StoreState). (q.1 ≡ q.0) ⊎ ((q.0.stop ≡ None) × HasFailedNames q.0 q.1 cell.fresh cell.value.tree.noted)) (both told has.tried seen) (has.failed (home.sees seen).0);
+        failed = λ seen. subst (λ (q : StoreState × StoreState). (q.1 ≡ q.0) ⊎ ((q.0.stop ≡ None) × HasFailedNames q.0 q.1 cell.fresh cell.value.tree.noted)) (both told has.tried seen) (has.failed (home.sees seen));
         moments = moments told has.tried;
         unassigned = ap (λ (q : Space). q.free) has.tried.unassigned;
         left_so = left_so told has.tried;
       }
 
-      turn_stays : failed_names_turn cell left passed (told_list (fault_told told)) ≡ names_turn false (fault_told told) t u
+      turn_stays : failed_names_turn cell left passed (told_list (fault_told told)) ≡ names_turn keeps false (fault_told told) t u
       turn_stays = λ i. record { files = []; names = each (λ _ x. cond false (names_kept n x) x) (sym names.names i); store = left; passed = passed; picks = []; told = told_list (fault_told told) }
 
-      pub failure_ends : NamesFailuresMayEnd → MayEndTurn k.geometry k.is_visible w (names_turn false (fault_told told) t w)
+      pub failure_ends : NamesFailuresMayEnd → MayEndTurn k.geometry k.is_visible w (names_turn keeps false (fault_told told) t w)
       failure_ends law =
-          subst (λ (q : View). MayEndTurn k.geometry k.is_visible q (names_turn false (fault_told told) t q)) (sym begun_is)
+          subst (λ (q : View). MayEndTurn k.geometry k.is_visible q (names_turn keeps false (fault_told told) t q)) (sym begun_is)
           (subst (MayEndTurn k.geometry k.is_visible u) turn_stays (law k.geometry keeps k.is_visible u cell was left passed (told_list (fault_told told)) home.formed hand fails))
 
-      pub failure_went : NamesFailuresGoOn → k.is_visible ≡ true → WentOn s t
+      pub failure_went : NamesFailuresGoOn → k.is_visible ≡ true → IsTrue keeps → WentOn s t
       unfolding fails
-      failure_went law seen =
+      failure_went law seen kept =
           let b = turning.as_begun k visible keeps n v w s t knows home begun whole_before whole_behind has.tried.geometry has.tried.sectors seen in
           turning.went k visible keeps n v w s t knows home begun whole_before whole_behind has.tried.geometry has.tried.sectors seen
-          (law k.geometry keeps k.is_visible u cell was left passed (told_list (fault_told told)) home.formed hand fails seen k.tree b.0 b.1 b.2 b.3)
+          (law k.geometry keeps k.is_visible u cell was left passed (told_list (fault_told told)) home.formed hand fails seen kept k.tree b.0 b.1 b.2 b.3)
 
   -- ---- what the hand has then
 
-  module _ (done : Bool) (told : Option ℕ) (m : ℕ) (z : View) (ended : z ≡ ended_view (names_turn done told t w) w m) where
-    ended_is : z ≡ ended_view (names_turn done told t u) u m
-    ended_is = ended ∙ ap (λ (q : View). ended_view (names_turn done told t q) q m) begun_is
+  module _ (done : Bool) (told : Option ℕ) (m : ℕ) (z : View) (ended : z ≡ ended_view (names_turn keeps done told t w) w m) where
+    ended_is : z ≡ ended_view (names_turn keeps done told t u) u m
+    ended_is = ended ∙ ap (λ (q : View). ended_view (names_turn keeps done told t q) q m) begun_is
 
     pub faults_then : z.faults ≡ told_list told ++ v.faults
     faults_then = ap (λ (q : View). q.faults) ended_is
@@ -136,7 +136,7 @@ module _ (k : Start) (visible keeps : Bool) (n : ℕ) (v w : View) (s t : StoreS
     pub stop_then : z.stop ≡ t.stop
     stop_then = ap (λ (q : View). q.stop) ended_is
 
-    pub store_then : geometry_of_store t ≡ geometry_of_store s → t.sectors ≡ s.sectors → (k.is_visible ≡ true → WentOn s t) → IsStoreIn k visible keeps z t
+    pub store_then : geometry_of_store t ≡ geometry_of_store s → t.sectors ≡ s.sectors → (k.is_visible ≡ true → IsTrue keeps → WentOn s t) → IsStoreIn k visible keeps z t
     store_then geometry sectors on = turning.store_then k visible keeps n v w s t knows home begun m z (ap (λ (q : View). q.store) ended_is) geometry sectors on
 
     pub beside_then : v.seen ≤ n → w.seen ≤ m → IsBeside v z
@@ -153,12 +153,12 @@ module _ (k : Start) (visible keeps : Bool) (n : ℕ) (v w : View) (s t : StoreS
     names_then : (cell : NamesCell) → v.names ≡ (tt, cell) ∷ [] → z.names ≡ (tt, cond done (names_kept n cell) cell) ∷ []
     names_then cell is = ap (λ (q : View). q.names) ended_is ∙ ap (each (λ _ x. cond done (names_kept n x) x)) is
 
-  pub committed_then : (cell : NamesCell) → AreNamesIn cell v → (m : ℕ) (z : View) → z ≡ ended_view (names_turn true None t w) w m → HaveCommitted k.is_visible cell z
+  pub committed_then : (cell : NamesCell) → AreNamesIn cell v → (m : ℕ) (z : View) → z ≡ ended_view (names_turn keeps true None t w) w m → HaveCommitted k.is_visible cell z
   committed_then cell names m z ended = record {
     known = n;
     names = record { files = files_then true None m z ended; names = names_then true None m z ended cell names.names };
     all = λ seen. knows.names_changed seen tt cell (here cell v names);
   }
 
-  pub failed_then : (told : Option ℕ) (cell : NamesCell) → AreNamesIn cell v → (m : ℕ) (z : View) → z ≡ ended_view (names_turn false told t w) w m → AreNamesIn cell z
+  pub failed_then : (told : Option ℕ) (cell : NamesCell) → AreNamesIn cell v → (m : ℕ) (z : View) → z ≡ ended_view (names_turn keeps false told t w) w m → AreNamesIn cell z
   failed_then told cell names m z ended = record { files = files_then false told m z ended; names = names_then false told m z ended cell names.names }

@@ -1,5 +1,5 @@
 -- A turn in which a checkpoint is made, or can't be.
-use Rattle.std.proofs.Common.{◌≡◌, ◌≤◌, ◌⊎◌, ◌++◌, ℕ, Bool, true, None, Option, List, [], ◌∷◌, sym, refl, ap, ◌∙◌, subst, arith}
+use Rattle.std.proofs.Common.{◌≡◌, ◌≤◌, ◌⊎◌, ◌++◌, ℕ, Bool, true, cond, None, Option, List, [], ◌∷◌, sym, refl, ap, ◌∙◌, subst, arith}
 use Rattle.std.specs.Prelude.{IsTrue}
 use Rattle.ufs_bitmap.specs.Space.{Space}
 use Rattle.ufs_disk.specs.Disk.{IsWhole}
@@ -32,7 +32,7 @@ module _ (k : Start) (visible keeps : Bool) (n : ℕ) (v w : View) (s t : StoreS
   u = turn_begun n (cell_of home.stamp home.past s) v
 
   abbrev passed : List Cells
-  passed = states_behind (begun_at n (cell_of home.stamp home.past s)).counted t
+  passed = cond keeps (states_behind (begun_at n (cell_of home.stamp home.past s)).counted t) []
 
   begun_is : w ≡ u
   begun_is = turning.begun_is k visible keeps n v w s t knows home begun
@@ -42,8 +42,8 @@ module _ (k : Start) (visible keeps : Bool) (n : ℕ) (v w : View) (s t : StoreS
     makes = record {
       earlier = s.moments.earlier;
       later = t.moments.earlier;
-      made = λ seen. subst (λ (q : StoreState × StoreState). (q.1 ≡ q.0) ⊎ ((q.0.stop ≡ None) × HasBegunAnew q.0 q.1)) (both seen) (has.made (home.sees seen).0);
-      crash = λ seen. subst (λ (q : StoreState × StoreState). (l : Ledger) → HasLedger q.0 l → LeavesOnly keeps (IsLeftByAny q.0.sectors (l ∷ beginning_next q.0 l ∷ [])) q.0.moments q.1.moments) (both seen) (has.crash (home.sees seen).0);
+      made = λ seen. subst (λ (q : StoreState × StoreState). (q.1 ≡ q.0) ⊎ ((q.0.stop ≡ None) × HasBegunAnew q.0 q.1)) (both seen) (has.made (home.sees seen));
+      crash = λ seen. subst (λ (q : StoreState × StoreState). (l : Ledger) → HasLedger q.0 l → LeavesOnly keeps (IsLeftByAny q.0.sectors (l ∷ beginning_next q.0 l ∷ [])) q.0.moments q.1.moments) (both seen) (has.crash (home.sees seen));
       unassigned = ap (λ (q : Space). q.free) has.unassigned;
       left_so = turning.left_so k visible keeps n v w s t knows home begun whole_before whole_behind has.geometry has.sectors told has.cause (λ n is. has.stop ∙ ap (λ (q : Option ℕ). stop_after q told) is) (λ n is. turning.stop_from s.stop told n (sym has.stop ∙ is));
     }
@@ -54,22 +54,22 @@ module _ (k : Start) (visible keeps : Bool) (n : ℕ) (v w : View) (s t : StoreS
     hand : IsBareHand u was
     hand = record { files = files; names = names; store = refl }
 
-    pub checkpoint_ends : CheckpointsMayEnd k.geometry → MayEndTurn k.geometry k.is_visible w (bare_turn (fault_told told) t w)
-    checkpoint_ends law = subst (λ (q : View). MayEndTurn k.geometry k.is_visible q (bare_turn (fault_told told) t q)) (sym begun_is)
+    pub checkpoint_ends : CheckpointsMayEnd k.geometry → MayEndTurn k.geometry k.is_visible w (bare_turn keeps (fault_told told) t w)
+    checkpoint_ends law = subst (λ (q : View). MayEndTurn k.geometry k.is_visible q (bare_turn keeps (fault_told told) t q)) (sym begun_is)
         (law keeps k.is_visible u was left passed (told_list (fault_told told)) home.formed hand makes)
 
-    pub checkpoint_went : CheckpointsGoOn k.geometry → k.is_visible ≡ true → WentOn s t
+    pub checkpoint_went : CheckpointsGoOn k.geometry → k.is_visible ≡ true → IsTrue keeps → WentOn s t
     unfolding makes
-    checkpoint_went law seen =
+    checkpoint_went law seen kept =
         let b = turning.as_begun k visible keeps n v w s t knows home begun whole_before whole_behind has.geometry has.sectors seen in
         turning.went k visible keeps n v w s t knows home begun whole_before whole_behind has.geometry has.sectors seen
-        (law keeps k.is_visible u was left passed (told_list (fault_told told)) home.formed hand makes seen k.tree b.0 b.1 b.2 b.3)
+        (law keeps k.is_visible u was left passed (told_list (fault_told told)) home.formed hand makes seen kept k.tree b.0 b.1 b.2 b.3)
 
   -- ---- what the hand has then
 
-  module _ (told : Option ℕ) (m : ℕ) (z : View) (ended : z ≡ ended_view (bare_turn told t w) w m) where
-    ended_is : z ≡ ended_view (bare_turn told t u) u m
-    ended_is = ended ∙ ap (λ (q : View). ended_view (bare_turn told t q) q m) begun_is
+  module _ (told : Option ℕ) (m : ℕ) (z : View) (ended : z ≡ ended_view (bare_turn keeps told t w) w m) where
+    ended_is : z ≡ ended_view (bare_turn keeps told t u) u m
+    ended_is = ended ∙ ap (λ (q : View). ended_view (bare_turn keeps told t q) q m) begun_is
 
     pub faults_then : z.faults ≡ told_list told ++ v.faults
     faults_then = ap (λ (q : View). q.faults) ended_is
@@ -83,7 +83,7 @@ module _ (k : Start) (visible keeps : Bool) (n : ℕ) (v w : View) (s t : StoreS
     pub names_then : z.names ≡ []
     names_then = ap (λ (q : View). q.names) ended_is
 
-    pub store_then : geometry_of_store t ≡ geometry_of_store s → t.sectors ≡ s.sectors → (k.is_visible ≡ true → WentOn s t) → IsStoreIn k visible keeps z t
+    pub store_then : geometry_of_store t ≡ geometry_of_store s → t.sectors ≡ s.sectors → (k.is_visible ≡ true → IsTrue keeps → WentOn s t) → IsStoreIn k visible keeps z t
     store_then geometry sectors on = turning.store_then k visible keeps n v w s t knows home begun m z (ap (λ (q : View). q.store) ended_is) geometry sectors on
 
     pub beside_then : v.seen ≤ n → w.seen ≤ m → IsBeside v z

@@ -140,7 +140,7 @@ module _ (k : Start) (visible keeps : Bool) (n : ℕ) (v w : View) (s t : StoreS
   u = turn_begun n (cell_of home.stamp home.past s) v
 
   abbrev passed : List Cells
-  passed = states_behind (begun_at n (cell_of home.stamp home.past s)).counted t
+  passed = cond keeps (states_behind (begun_at n (cell_of home.stamp home.past s)).counted t) []
 
   begun_is : w ≡ u
   begun_is = turning.begun_is k visible keeps n v w s t knows home begun
@@ -199,7 +199,7 @@ module _ (k : Start) (visible keeps : Bool) (n : ℕ) (v w : View) (s t : StoreS
       fetches = record {
         earlier = s.moments.earlier;
         later = t.moments.earlier;
-        seen = λ seen. (home.sees seen).0;
+        seen = λ seen. (home.sees seen);
         fetched = fetched;
         further = further;
         left_so = left_so told cause (λ n is. ap (λ (q : StoreState). q.stop) has.store ∙ is) (λ n is. inl (sym (ap (λ (q : StoreState). q.stop) has.store) ∙ is));
@@ -215,19 +215,19 @@ module _ (k : Start) (visible keeps : Bool) (n : ℕ) (v w : View) (s t : StoreS
         known = λ seen. (knows.changed seen name cell has_file).1;
       }
 
-      fetch_is : fetched_turn name cell y.file left passed (told_list (fault_told told)) ≡ sync_turn false (fault_told told) y t u
+      fetch_is : fetched_turn name cell y.file left passed (told_list (fault_told told)) ≡ sync_turn keeps false (fault_told told) y t u
       fetch_is =
           (λ i. record { files = (name, record cell { value = sym rest i }) ∷ []; names = []; store = left; passed = passed; picks = came_in ((name, cell) ∷ []) y; told = told_list (fault_told told) })
           ∙ (λ i. record { files = each (λ _ x. synced_cell false y n x) (sym file.files i); names = sym file.names i; store = left; passed = passed; picks = came_in (sym file.files i) y; told = told_list (fault_told told) })
 
-      pub fetch_ends : FileFetchesMayEnd k.geometry → MayEndTurn k.geometry k.is_visible w (sync_turn false (fault_told told) y t w)
+      pub fetch_ends : FileFetchesMayEnd k.geometry → MayEndTurn k.geometry k.is_visible w (sync_turn keeps false (fault_told told) y t w)
       fetch_ends law =
-          subst (λ (q : View). MayEndTurn k.geometry k.is_visible q (sync_turn false (fault_told told) y t q)) (sym begun_is)
+          subst (λ (q : View). MayEndTurn k.geometry k.is_visible q (sync_turn keeps false (fault_told told) y t q)) (sym begun_is)
           (subst (MayEndTurn k.geometry k.is_visible u) fetch_is (law visible keeps k.is_visible u name cell y.file was left passed (told_list (fault_told told)) home.formed fetch_hand fetches))
 
-      pub fetch_went : FileFetchesGoOn k.geometry → k.is_visible ≡ true → WentOn s t
+      pub fetch_went : FileFetchesGoOn k.geometry → k.is_visible ≡ true → IsTrue keeps → WentOn s t
       unfolding fetches
-      fetch_went law seen = (let b = as_begun seen in went seen (law visible keeps k.is_visible u name cell y.file was left passed (told_list (fault_told told)) home.formed fetch_hand fetches seen k.tree b.0 b.1 b.2 b.3))
+      fetch_went law seen kept = (let b = as_begun seen in went seen (law visible keeps k.is_visible u name cell y.file was left passed (told_list (fault_told told)) home.formed fetch_hand fetches seen kept k.tree b.0 b.1 b.2 b.3))
 
     -- where it passed
     module _ (y : DurableState) (has : HasPassed visible keeps s t cell.value y) where
@@ -237,24 +237,24 @@ module _ (k : Start) (visible keeps : Bool) (n : ℕ) (v w : View) (s t : StoreS
         later = t.moments.earlier;
         going = has.going;
         fits = has.fits;
-        synced = λ seen. (let is = has.synced (home.sees seen).0 in subst (λ (q : StoreState × StoreState). HasSynced q.0 q.1 cell.value) (λ i. (before_is seen i, behind_is seen i)) is);
-        stages = λ seen. (let is = has.stages (home.sees seen).0 in subst (λ (q : StoreState × StoreState). LeavesStages keeps q.0 q.1 cell.value) (λ i. (before_is seen i, behind_is seen i)) is);
+        synced = λ seen. (let is = has.synced home.sees seen in subst (λ (q : StoreState × StoreState). HasSynced q.0 q.1 cell.value) (λ i. (before_is seen i, behind_is seen i)) is);
+        stages = λ seen. (let is = has.stages home.sees seen in subst (λ (q : StoreState × StoreState). LeavesStages keeps q.0 q.1 cell.value) (λ i. (before_is seen i, behind_is seen i)) is);
         freed = has.freed;
         left_so = left_so None has.faults (λ n is. has.stop ∙ is) (λ n is. inl (sym has.stop ∙ is));
       }
 
-      pub commit_went : FileCommitsGoOn k.geometry → cell.born ≡ true → k.is_visible ≡ true → WentOn s t
+      pub commit_went : FileCommitsGoOn k.geometry → cell.born ≡ true → k.is_visible ≡ true → IsTrue keeps → WentOn s t
       unfolding commits
-      commit_went law born seen = (let b = as_begun seen in went seen (law keeps k.is_visible u name cell was left passed home.formed (hand born) commits seen k.tree b.0 b.1 b.2 b.3))
+      commit_went law born seen kept = (let b = as_begun seen in went seen (law keeps k.is_visible u name cell was left passed home.formed (hand born) commits seen kept k.tree b.0 b.1 b.2 b.3))
 
-      turn_is : committed_turn name cell was left passed ≡ sync_turn true None y t u
+      turn_is : committed_turn name cell was left passed ≡ sync_turn keeps true None y t u
       turn_is =
           (λ i. record { files = (name, synced_cell true (file_committed cell.value) n cell) ∷ []; names = []; store = left; passed = passed; picks = sym (none_read name cell (file_committed cell.value) refl) i; told = [] })
           ∙ (λ i. record { files = each (λ _ x. synced_cell true (sym has.committed i) n x) (sym file.files i); names = sym file.names i; store = left; passed = passed; picks = came_in (sym file.files i) (sym has.committed i); told = [] })
 
-      pub commit_ends : FileCommitsMayEnd k.geometry → cell.born ≡ true → MayEndTurn k.geometry k.is_visible w (sync_turn true None y t w)
+      pub commit_ends : FileCommitsMayEnd k.geometry → cell.born ≡ true → MayEndTurn k.geometry k.is_visible w (sync_turn keeps true None y t w)
       commit_ends law born =
-          subst (λ (q : View). MayEndTurn k.geometry k.is_visible q (sync_turn true None y t q)) (sym begun_is)
+          subst (λ (q : View). MayEndTurn k.geometry k.is_visible q (sync_turn keeps true None y t q)) (sym begun_is)
           (subst (MayEndTurn k.geometry k.is_visible u) turn_is (law keeps k.is_visible u name cell was left passed home.formed (hand born) commits))
 
     -- where it didn't
@@ -264,35 +264,35 @@ module _ (k : Start) (visible keeps : Bool) (n : ℕ) (v w : View) (s t : StoreS
         earlier = s.moments.earlier;
         later = t.moments.earlier;
         fits = has.fits;
-        failed = λ seen. (let is = has.failed (home.sees seen).0 in
+        failed = λ seen. (let is = has.failed home.sees seen in
             subst (λ (q : StoreState × StoreState). (q.1 ≡ q.0) ⊎ ((q.0.stop ≡ None) × (HasWritten q.0 q.1 cell.value ⊎ HasFailed q.0 q.1 cell.value))) (λ i. (before_is seen i, behind_is seen i)) is);
-        stages = λ seen. (let is = has.stages (home.sees seen).0 in subst (λ (q : StoreState × StoreState). LeavesStages keeps q.0 q.1 cell.value) (λ i. (before_is seen i, behind_is seen i)) is);
+        stages = λ seen. (let is = has.stages home.sees seen in subst (λ (q : StoreState × StoreState). LeavesStages keeps q.0 q.1 cell.value) (λ i. (before_is seen i, behind_is seen i)) is);
         unfreed = ap (λ (q : Rattle.ufs_bitmap.specs.Space.Space). q.free) has.unfreed;
         left_so = left_so told has.cause (λ n is. has.stop ∙ ap (λ (q : Option ℕ). stop_after q told) is) (λ n is. turning.stop_from s.stop told n (sym has.stop ∙ is));
       }
 
-      pub failure_went : FileFailuresGoOn k.geometry → cell.born ≡ true → k.is_visible ≡ true → WentOn s t
+      pub failure_went : FileFailuresGoOn k.geometry → cell.born ≡ true → k.is_visible ≡ true → IsTrue keeps → WentOn s t
       unfolding fails
-      failure_went law born seen = (let b = as_begun seen in went seen (law keeps k.is_visible u name cell was left passed (told_list (fault_told told)) home.formed (hand born) fails seen k.tree b.0 b.1 b.2 b.3))
+      failure_went law born seen kept = (let b = as_begun seen in went seen (law keeps k.is_visible u name cell was left passed (told_list (fault_told told)) home.formed (hand born) fails seen kept k.tree b.0 b.1 b.2 b.3))
 
       stays : synced_cell false y n cell ≡ cell
       stays = ap (λ (q : DurableState). record cell { value = q }) has.kept
 
-      turn_stays : failed_turn name cell left passed (told_list (fault_told told)) ≡ sync_turn false (fault_told told) y t u
+      turn_stays : failed_turn name cell left passed (told_list (fault_told told)) ≡ sync_turn keeps false (fault_told told) y t u
       turn_stays =
           (λ i. record { files = (name, sym stays i) ∷ []; names = []; store = left; passed = passed; picks = sym (none_read name cell y (ap (λ (q : DurableState). q.file.content.there) has.kept)) i; told = told_list (fault_told told) })
           ∙ (λ i. record { files = each (λ _ x. synced_cell false y n x) (sym file.files i); names = sym file.names i; store = left; passed = passed; picks = came_in (sym file.files i) y; told = told_list (fault_told told) })
 
-      pub failure_ends : FileFailuresMayEnd k.geometry → cell.born ≡ true → MayEndTurn k.geometry k.is_visible w (sync_turn false (fault_told told) y t w)
+      pub failure_ends : FileFailuresMayEnd k.geometry → cell.born ≡ true → MayEndTurn k.geometry k.is_visible w (sync_turn keeps false (fault_told told) y t w)
       failure_ends law born =
-          subst (λ (q : View). MayEndTurn k.geometry k.is_visible q (sync_turn false (fault_told told) y t q)) (sym begun_is)
+          subst (λ (q : View). MayEndTurn k.geometry k.is_visible q (sync_turn keeps false (fault_told told) y t q)) (sym begun_is)
           (subst (MayEndTurn k.geometry k.is_visible u) turn_stays (law keeps k.is_visible u name cell was left passed (told_list (fault_told told)) home.formed (hand born) fails))
 
   -- ---- what the hand has then
 
-  module _ (done : Bool) (told : Option ℕ) (y : DurableState) (m : ℕ) (z : View) (ended : z ≡ ended_view (sync_turn done told y t w) w m) where
-    ended_is : z ≡ ended_view (sync_turn done told y t u) u m
-    ended_is = ended ∙ ap (λ (q : View). ended_view (sync_turn done told y t q) q m) begun_is
+  module _ (done : Bool) (told : Option ℕ) (y : DurableState) (m : ℕ) (z : View) (ended : z ≡ ended_view (sync_turn keeps done told y t w) w m) where
+    ended_is : z ≡ ended_view (sync_turn keeps done told y t u) u m
+    ended_is = ended ∙ ap (λ (q : View). ended_view (sync_turn keeps done told y t q) q m) begun_is
 
     pub faults_then : z.faults ≡ told_list told ++ v.faults
     faults_then = ap (λ (q : View). q.faults) ended_is
@@ -306,7 +306,7 @@ module _ (k : Start) (visible keeps : Bool) (n : ℕ) (v w : View) (s t : StoreS
     pub names_are : z.names ≡ []
     names_are = ap (λ (q : View). q.names) ended_is ∙ file.names
 
-    pub store_then : geometry_of_store t ≡ geometry_of_store s → t.sectors ≡ s.sectors → (k.is_visible ≡ true → WentOn s t) → IsStoreIn k visible keeps z t
+    pub store_then : geometry_of_store t ≡ geometry_of_store s → t.sectors ≡ s.sectors → (k.is_visible ≡ true → IsTrue keeps → WentOn s t) → IsStoreIn k visible keeps z t
     store_then geometry sectors on = turning.store_then k visible keeps n v w s t knows home begun m z (ap (λ (q : View). q.store) ended_is) geometry sectors on
 
     pub beside_then : v.seen ≤ n → w.seen ≤ m → IsBeside v z
@@ -317,13 +317,13 @@ module _ (k : Start) (visible keeps : Bool) (n : ℕ) (v w : View) (s t : StoreS
       seen = (let e = ap (λ (q : View). q.seen) ended_is in let f = ap (λ (q : View). q.seen) begun_is in omega (arith, a, b, e, f));
     }
 
-  pub committed_then : (y : DurableState) (z : View) (m : ℕ) → z ≡ ended_view (sync_turn true None y t w) w m → y.file.file ≡ name → HasCommitted k.is_visible name cell y z
+  pub committed_then : (y : DurableState) (z : View) (m : ℕ) → z ≡ ended_view (sync_turn keeps true None y t w) w m → y.file.file ≡ name → HasCommitted k.is_visible name cell y z
   committed_then y z m ended number = record { known = n; file = record { files = files_are true None y m z ended; names = names_are true None y m z ended; number = number }; all = λ seen. (knows.changed seen name cell has_file).0 }
 
-  pub fetched_then : (told : Option ℕ) (y : DurableState) (z : View) (m : ℕ) → z ≡ ended_view (sync_turn false told y t w) w m → y.file.file ≡ name → IsFileIn name (record cell { value = y }) z
+  pub fetched_then : (told : Option ℕ) (y : DurableState) (z : View) (m : ℕ) → z ≡ ended_view (sync_turn keeps false told y t w) w m → y.file.file ≡ name → IsFileIn name (record cell { value = y }) z
   fetched_then told y z m ended number = record { files = files_are false told y m z ended; names = names_are false told y m z ended; number = number }
 
-  pub failed_then : (told : Option ℕ) (y : DurableState) (z : View) (m : ℕ) → z ≡ ended_view (sync_turn false told y t w) w m → y ≡ cell.value → IsFileIn name cell z
+  pub failed_then : (told : Option ℕ) (y : DurableState) (z : View) (m : ℕ) → z ≡ ended_view (sync_turn keeps false told y t w) w m → y ≡ cell.value → IsFileIn name cell z
   failed_then told y z m ended kept = record { files = files_are false told y m z ended ∙ ap (λ (q : DurableState). (name, record cell { value = q }) ∷ []) kept; names = names_are false told y m z ended; number = file.number }
 
 pub file_here : (name : ℕ) (cell : FileCell) (v : View) → IsFileIn name cell v → Has (name, cell) v.files

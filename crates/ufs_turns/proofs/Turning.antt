@@ -107,6 +107,10 @@ pub stop_told : {A : Type 0} (before behind : Option ℕ) (r : Result A StoreFau
 stop_told None behind r n halts halted told = halts ∙ told_in (fault_in r) n told
 stop_told {A} (Some fault) behind r n halts halted told = absurd (none_some n (sym (ap (λ (q : Result A StoreFault). fault_told (fault_in q)) (halted fault refl)) ∙ told))
 
+-- Of a disk that keeps its moments each state that it passed is noted.
+all_noted : (keeps : Bool) → IsTrue keeps → (xs : List Cells) → cond keeps xs [] ≡ xs
+all_noted keeps kept xs = ap (λ (b : Bool). cond b xs []) kept
+
 -- ---- between the marks
 
 module _ (k : Start) (visible keeps : Bool) (n : ℕ) (v w : View) (s t : StoreState) (knows : Knows k n v) (home : IsStoreIn k visible keeps v s) (begun : w ≡ begun_view v n) where
@@ -128,23 +132,22 @@ module _ (k : Start) (visible keeps : Bool) (n : ℕ) (v w : View) (s t : StoreS
   u = turn_begun n (cell_of home.stamp home.past s) v
 
   abbrev passed : List Cells
-  passed = states_behind (begun_at n (cell_of home.stamp home.past s)).counted t
+  passed = cond keeps (states_behind (begun_at n (cell_of home.stamp home.past s)).counted t) []
 
   pub begun_is : w ≡ u
   begun_is = begun ∙ ap (λ (cs : List (Unit {0} × StoreCell)). begun_in cs v n) home.has
 
   module _ (whole_before : IsTrue visible → IsWhole s.sectors s.moments.state) (whole_behind : IsTrue visible → IsWhole t.sectors t.moments.state) (geometry : geometry_of_store t ≡ geometry_of_store s) (sectors : t.sectors ≡ s.sectors) where
     pub before_is : k.is_visible ≡ true → s ≡ store_since s.moments.earlier was
-    before_is seen = sym (store_as_cell n past s (whole_before (home.sees seen).0))
+    before_is seen = sym (store_as_cell n past s (whole_before (home.sees seen)))
 
     pub behind_is : k.is_visible ≡ true → t ≡ store_since t.moments.earlier left
-    behind_is seen = sym (store_as_cell n past t (whole_behind (home.sees seen).0))
+    behind_is seen = sym (store_as_cell n past t (whole_behind (home.sees seen)))
 
     pub left_so : (told : Option ℕ) → IsTold s.faults t.faults told → ((n : ℕ) → s.stop ≡ Some n → t.stop ≡ Some n) → ((n : ℕ) → t.stop ≡ Some n → (s.stop ≡ Some n) ⊎ (told ≡ Some n)) → LeavesStore keeps k.is_visible was left s.moments.earlier t.moments.earlier passed (told_list (fault_told told))
     left_so told cause stops halts = record {
       told_so = faults_told was left told cause stops halts;
-      keeps_all = λ seen. (home.sees seen).1;
-      went = λ seen. (λ i. states_behind (length (all (before_is seen i).moments)) (behind_is seen i));
+      went = λ seen. (λ i. cond keeps (states_behind (length (all (before_is seen i).moments)) (behind_is seen i)) []);
       geometry = geometry;
       sectors = sectors;
       stamp = refl;
@@ -173,10 +176,10 @@ module _ (k : Start) (visible keeps : Bool) (n : ℕ) (v w : View) (s t : StoreS
   first = counted_in k.view.store
 
   abbrev ran : ℕ → Stretch
-  ran m = record { states = states_behind (length (all s.moments)) t; from = n; to = m }
+  ran m = record { states = cond keeps (states_behind (length (all s.moments)) t) []; from = n; to = m }
 
   -- the store's cell is the store again, behind what the turn passed
-  pub store_then : (m : ℕ) (z : View) → z.store ≡ (tt, cell_of n (record { states = states_behind (length (all s.moments)) t; from = n; to = m } ∷ rested n (cell_of home.stamp home.past s) ∷ home.past) t) ∷ [] → geometry_of_store t ≡ geometry_of_store s → t.sectors ≡ s.sectors → (k.is_visible ≡ true → WentOn s t)
+  pub store_then : (m : ℕ) (z : View) → z.store ≡ (tt, cell_of n (record { states = cond keeps (states_behind (length (all s.moments)) t) []; from = n; to = m } ∷ rested n (cell_of home.stamp home.past s) ∷ home.past) t) ∷ [] → geometry_of_store t ≡ geometry_of_store s → t.sectors ≡ s.sectors → (k.is_visible ≡ true → IsTrue keeps → WentOn s t)
       → IsStoreIn k visible keeps z t
   store_then m z has_store geometry sectors on = record {
     stamp = n;
@@ -185,40 +188,40 @@ module _ (k : Start) (visible keeps : Bool) (n : ℕ) (v w : View) (s t : StoreS
     sees = home.sees;
     formed = geometry ∙ home.formed;
     size = sectors ∙ home.size;
-    since = λ seen. (let a = home.since seen in let b = ap length (on seen).1 in let d = length-append (all s.moments) (on seen).0 in omega (arith, a, b, d));
+    since = λ seen kept. (let a = home.since seen kept in let b = ap length (on seen kept).1 in let d = length-append (all s.moments) (on seen kept).0 in omega (arith, a, b, d));
     covers = covers;
     passes = passes;
   }
     where
-      parts : (seen : k.is_visible ≡ true) → states_behind first t ≡ map (cells_of s.sectors) (drop first (all s.moments)) ++ map (cells_of s.sectors) (on seen).0
-      parts seen =
-          (λ i. map (cells_of (sectors i)) (drop first ((on seen).1 i))) ∙ ap (map (cells_of s.sectors)) (drop_within first (all s.moments) (on seen).0 (home.since seen))
-          ∙ map-append (cells_of s.sectors) (drop first (all s.moments)) (on seen).0
+      parts : (seen : k.is_visible ≡ true) (kept : IsTrue keeps) → states_behind first t ≡ map (cells_of s.sectors) (drop first (all s.moments)) ++ map (cells_of s.sectors) (on seen kept).0
+      parts seen kept =
+          (λ i. map (cells_of (sectors i)) (drop first ((on seen kept).1 i))) ∙ ap (map (cells_of s.sectors)) (drop_within first (all s.moments) (on seen kept).0 (home.since seen kept))
+          ∙ map-append (cells_of s.sectors) (drop first (all s.moments)) (on seen kept).0
 
-      ran_has : (seen : k.is_visible ≡ true) → map (cells_of s.sectors) (on seen).0 ≡ states_behind (length (all s.moments)) t
-      ran_has seen = sym ((λ i. map (cells_of (sectors i)) (drop (length (all s.moments)) ((on seen).1 i))) ∙ ap (map (cells_of s.sectors)) (drop_behind (all s.moments) (on seen).0))
+      ran_has : (seen : k.is_visible ≡ true) (kept : IsTrue keeps) → map (cells_of s.sectors) (on seen kept).0 ≡ cond keeps (states_behind (length (all s.moments)) t) []
+      ran_has seen kept = sym (all_noted keeps kept (states_behind (length (all s.moments)) t) ∙ (λ i. map (cells_of (sectors i)) (drop (length (all s.moments)) ((on seen kept).1 i))) ∙ ap (map (cells_of s.sectors)) (drop_behind (all s.moments) (on seen kept).0))
 
-      passes : k.is_visible ≡ true → AreRepeated (state_in k.view.store ++ states_behind (counted_in k.view.store) t) (states_in (ran m ∷ past) ++ cells_of t.sectors t.moments.state ∷ [])
-      passes seen =
-          let new = map (cells_of s.sectors) (on seen).0 in
-          let ends = ends_mapped (cells_of s.sectors) (on seen).0 s.moments.state t.moments.state (ends_so s.moments.earlier t.moments.earlier (on seen).0 s.moments.state t.moments.state (on seen).1) in
+      passes : k.is_visible ≡ true → IsTrue keeps → AreRepeated (state_in k.view.store ++ states_behind (counted_in k.view.store) t) (states_in (ran m ∷ past) ++ cells_of t.sectors t.moments.state ∷ [])
+      passes seen kept =
+          let new = map (cells_of s.sectors) (on seen kept).0 in
+          let ends = ends_mapped (cells_of s.sectors) (on seen kept).0 s.moments.state t.moments.state (ends_so s.moments.earlier t.moments.earlier (on seen kept).0 s.moments.state t.moments.state (on seen kept).1) in
           let its : AreRepeated ((state_in k.view.store ++ states_behind first s) ++ new) (((states_in home.past ++ cells_of s.sectors s.moments.state ∷ []) ++ new) ++ cells_of s.sectors t.moments.state ∷ []) =
-          goes_on_so (state_in k.view.store ++ states_behind first s) (states_in home.past) new (cells_of s.sectors s.moments.state) (cells_of s.sectors t.moments.state) (home.passes seen) ends in
+          goes_on_so (state_in k.view.store ++ states_behind first s) (states_in home.past) new (cells_of s.sectors s.moments.state) (cells_of s.sectors t.moments.state) (home.passes seen kept) ends in
           let ran_so : ((states_in home.past ++ cells_of s.sectors s.moments.state ∷ []) ++ new) ++ cells_of s.sectors t.moments.state ∷ [] ≡ states_in (ran m ∷ past) ++ cells_of t.sectors t.moments.state ∷ [] =
-          λ i. ((states_in home.past ++ cells_of s.sectors s.moments.state ∷ []) ++ ran_has seen i) ++ cells_of (sym sectors i) t.moments.state ∷ [] in
+          λ i. ((states_in home.past ++ cells_of s.sectors s.moments.state ∷ []) ++ ran_has seen kept i) ++ cells_of (sym sectors i) t.moments.state ∷ [] in
           let parts_so : (state_in k.view.store ++ states_behind first s) ++ new ≡ state_in k.view.store ++ states_behind first t =
-          append_assoc (state_in k.view.store) (states_behind first s) new ∙ ap (λ (q : List Cells). state_in k.view.store ++ q) (sym (parts seen)) in
+          append_assoc (state_in k.view.store) (states_behind first s) new ∙ ap (λ (q : List Cells). state_in k.view.store ++ q) (sym (parts seen kept)) in
           subst (λ (x : List Cells × List Cells). AreRepeated x.0 x.1) (λ i. (parts_so i, ran_so i)) its
 
-      covers : k.is_visible ≡ true → (x : Cells) → Has x (states_behind (counted_in k.view.store) t) → (x ≡ cells_of t.sectors t.moments.state) ⊎ IsPassed x (ran m ∷ past)
-      covers seen x has = inr (⊎_elim old_ones new_ones (has_append x (map (cells_of s.sectors) (drop first (all s.moments))) (map (cells_of s.sectors) (on seen).0) (subst (Has x) (parts seen) has)))
+      covers : k.is_visible ≡ true → IsTrue keeps → (x : Cells) → Has x (states_behind (counted_in k.view.store) t) → (x ≡ cells_of t.sectors t.moments.state) ⊎ IsPassed x (ran m ∷ past)
+      covers seen kept x has = inr (⊎_elim old_ones new_ones (has_append x (map (cells_of s.sectors) (drop first (all s.moments))) (map (cells_of s.sectors) (on seen kept).0) (subst (Has x) (parts seen kept) has)))
         where
-          new_ones : Has x (map (cells_of s.sectors) (on seen).0) → IsPassed x (ran m ∷ past)
-          new_ones h = (ran m, inl refl, subst (Has x) (ran_has seen) h)
+          new_ones : Has x (map (cells_of s.sectors) (on seen kept).0) → IsPassed x (ran m ∷ past)
+          new_ones h = (ran m, inl refl, subst (Has x) (ran_has seen kept) h)
 
           old_of : (x ≡ cells_of s.sectors s.moments.state) ⊎ IsPassed x home.past → IsPassed x (ran m ∷ past)
           old_of (inl is) = (rested n (cell_of home.stamp home.past s), inr (inl refl), inl is)
           old_of (inr p) = (p.0, inr (inr p.1), p.2)
 
           old_ones : Has x (map (cells_of s.sectors) (drop first (all s.moments))) → IsPassed x (ran m ∷ past)
-          old_ones h = old_of (home.covers seen x h)
+          old_ones h = old_of (home.covers seen kept x h)

@@ -64,19 +64,18 @@ abbrev pub states_in : List Stretch → List Cells
 states_in [] = []
 states_in (y ∷ past) = states_in past ++ y.states
 
--- The store's cell, which the hand has, is this store. Of a visible disk contracts see each moment, and the stretches have each state
--- that it was in since the session began, but for the one that it is in, in the order of time: one stands more than once where turns
--- began in it.
+-- The store's cell, which the hand has, is this store. Of a visible disk that keeps its moments the stretches have each state that it was
+-- in since the session began, but for the one that it is in, in the order of time: one stands more than once where turns began in it.
 pub record IsStoreIn (k : Start) (visible keeps : Bool) (v : View) (s : StoreState) : Type 0 where
   pub stamp : ℕ
   pub past : List Stretch
   pub has : v.store ≡ (tt, cell_of stamp past s) ∷ []
-  pub sees : k.is_visible ≡ true → IsTrue visible × IsTrue keeps
+  pub sees : k.is_visible ≡ true → IsTrue visible
   pub formed : geometry_of_store s ≡ k.geometry
   pub size : s.sectors ≡ sectors_in k.view.store
-  pub since : k.is_visible ≡ true → counted_in k.view.store ≤ length (all s.moments)
-  pub covers : k.is_visible ≡ true → (x : Cells) → Has x (states_behind (counted_in k.view.store) s) → (x ≡ cells_of s.sectors s.moments.state) ⊎ IsPassed x past
-  pub passes : k.is_visible ≡ true → AreRepeated (state_in k.view.store ++ states_behind (counted_in k.view.store) s) (states_in past ++ cells_of s.sectors s.moments.state ∷ [])
+  pub since : k.is_visible ≡ true → IsTrue keeps → counted_in k.view.store ≤ length (all s.moments)
+  pub covers : k.is_visible ≡ true → IsTrue keeps → (x : Cells) → Has x (states_behind (counted_in k.view.store) s) → (x ≡ cells_of s.sectors s.moments.state) ⊎ IsPassed x past
+  pub passes : k.is_visible ≡ true → IsTrue keeps → AreRepeated (state_in k.view.store ++ states_behind (counted_in k.view.store) s) (states_in past ++ cells_of s.sectors s.moments.state ∷ [])
 
 -- What is known each time that the lock is taken: the hand has the store's cell alone.
 pub record IsHeldStore (k : Start) (visible keeps : Bool) (v : View) (s : StoreState) : Type 0 where
@@ -106,30 +105,31 @@ abbrev pub came_in : List (ℕ × FileCell) → DurableState → List Pick
 came_in [] value = []
 came_in (c ∷ cs) value = picks_from c.0 value.file.content.bytes c.1.value.file.content.there value.file.content.there 0
 
-abbrev pub turn_in : Bool → Option ℕ → DurableState → StoreState → View → List (Unit {0} × StoreCell) → Turn
-turn_in done told value s v [] = record { files = v.files; names = v.names; store = cell_of 0 [] s; passed = []; picks = []; told = [] }
-turn_in done told value s v (c ∷ cs) = record {
+abbrev pub turn_in : (keeps done : Bool) → Option ℕ → DurableState → StoreState → View → List (Unit {0} × StoreCell) → Turn
+turn_in keeps done told value s v [] = record { files = v.files; names = v.names; store = cell_of 0 [] s; passed = []; picks = []; told = [] }
+turn_in keeps done told value s v (c ∷ cs) = record {
   files = each (λ _ x. synced_cell done value c.1.stamp x) v.files;
   names = v.names;
   store = cell_of c.1.stamp c.1.past s;
-  passed = states_behind c.1.counted s;
+  passed = cond keeps (states_behind c.1.counted s) [];
   picks = came_in v.files value;
   told = told_list told;
 }
 
--- The file has this value then, the store is this, and that fault was told.
-abbrev pub sync_turn : Bool → Option ℕ → DurableState → StoreState → View → Turn
-sync_turn done told value s v = turn_in done told value s v v.store
+-- The file has this value then, the store is this, and that fault was told. The states that the disk passed are noted where it keeps its
+-- moments.
+abbrev pub sync_turn : (keeps done : Bool) → Option ℕ → DurableState → StoreState → View → Turn
+sync_turn keeps done told value s v = turn_in keeps done told value s v v.store
 
 -- ---- where a turn is about no file
 
-abbrev pub bare_in : Option ℕ → StoreState → List (Unit {0} × StoreCell) → Turn
-bare_in told s [] = checkpoint_turn (cell_of 0 [] s) [] []
-bare_in told s (c ∷ cs) = checkpoint_turn (cell_of c.1.stamp c.1.past s) (states_behind c.1.counted s) (told_list told)
+abbrev pub bare_in : (keeps : Bool) → Option ℕ → StoreState → List (Unit {0} × StoreCell) → Turn
+bare_in keeps told s [] = checkpoint_turn (cell_of 0 [] s) [] []
+bare_in keeps told s (c ∷ cs) = checkpoint_turn (cell_of c.1.stamp c.1.past s) (cond keeps (states_behind c.1.counted s) []) (told_list told)
 
 -- The store is this then, and that fault was told.
-abbrev pub bare_turn : Option ℕ → StoreState → View → Turn
-bare_turn told s v = bare_in told s v.store
+abbrev pub bare_turn : (keeps : Bool) → Option ℕ → StoreState → View → Turn
+bare_turn keeps told s v = bare_in keeps told s v.store
 
 abbrev pub moved_in : BlockSet → StoreState → View → List (Unit {0} × StoreCell) → View
 moved_in pool s v [] = v

@@ -54,17 +54,18 @@ pub record HaveNotPassed (visible keeps : Bool) (old new : StoreState) (fresh : 
 
 -- ---- the turn
 
-abbrev pub names_in : Bool → Option ℕ → StoreState → View → List (Unit {0} × StoreCell) → Turn
-names_in done told s v [] = record { files = []; names = v.names; store = cell_of 0 [] s; passed = []; picks = []; told = [] }
-names_in done told s v (c ∷ cs) = record {
+abbrev pub names_in : (keeps done : Bool) → Option ℕ → StoreState → View → List (Unit {0} × StoreCell) → Turn
+names_in keeps done told s v [] = record { files = []; names = v.names; store = cell_of 0 [] s; passed = []; picks = []; told = [] }
+names_in keeps done told s v (c ∷ cs) = record {
   files = [];
   names = each (λ _ x. cond done (names_kept c.1.stamp x) x) v.names;
   store = cell_of c.1.stamp c.1.past s;
-  passed = states_behind c.1.counted s;
+  passed = cond keeps (states_behind c.1.counted s) [];
   picks = [];
   told = told_list told;
 }
 
--- The names are committed then or as they were, the store is this, and that fault was told.
-abbrev pub names_turn : Bool → Option ℕ → StoreState → View → Turn
-names_turn done told s v = names_in done told s v v.store
+-- The names are committed then or as they were, the store is this, and that fault was told. The states that the disk passed are noted
+-- where it keeps its moments.
+abbrev pub names_turn : (keeps done : Bool) → Option ℕ → StoreState → View → Turn
+names_turn keeps done told s v = names_in keeps done told s v v.store

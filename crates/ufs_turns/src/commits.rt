@@ -142,11 +142,11 @@ fn end_names<N: Naming, D: Door, E: Event>(
     done: bool,
     told: Option<u64>,
 ) -> u64
-    requires leaves { E.leaves ≡ ended_view (names_turn done told (D.store store.now) hand.old) hand.old }
+    requires leaves { E.leaves ≡ ended_view (names_turn D.keeps done told (D.store store.now) hand.old) hand.old }
     requires formed { IsGeometry geometry.now }
     requires its { geometry.now ≡ N.start.geometry }
-    requires may { MayEndTurn N.start.geometry N.start.is_visible hand.old (names_turn done told (D.store store.now) hand.old) }
-    ensures ended { hand.new ≡ ended_view (names_turn done told (D.store store.now) hand.old) hand.old result }
+    requires may { MayEndTurn N.start.geometry N.start.is_visible hand.old (names_turn D.keeps done told (D.store store.now) hand.old) }
+    ensures ended { hand.new ≡ ended_view (names_turn D.keeps done told (D.store store.now) hand.old) hand.old result }
     ensures later { hand.old.seen ≤ result }
 {
     // For the prover alone.

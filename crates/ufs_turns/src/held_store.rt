@@ -446,11 +446,11 @@ fn end_turn<N: Naming, D: Door, E: Event>(
     done: bool,
     told: Option<u64>,
 ) -> u64
-    requires leaves { E.leaves ≡ ended_view (sync_turn done told (state_of file.now commits.now) (D.store store.now) hand.old) hand.old }
+    requires leaves { E.leaves ≡ ended_view (sync_turn D.keeps done told (state_of file.now commits.now) (D.store store.now) hand.old) hand.old }
     requires formed { IsGeometry geometry.now }
     requires its { geometry.now ≡ N.start.geometry }
-    requires may { MayEndTurn N.start.geometry N.start.is_visible hand.old (sync_turn done told (state_of file.now commits.now) (D.store store.now) hand.old) }
-    ensures ended { hand.new ≡ ended_view (sync_turn done told (state_of file.now commits.now) (D.store store.now) hand.old) hand.old result }
+    requires may { MayEndTurn N.start.geometry N.start.is_visible hand.old (sync_turn D.keeps done told (state_of file.now commits.now) (D.store store.now) hand.old) }
+    ensures ended { hand.new ≡ ended_view (sync_turn D.keeps done told (state_of file.now commits.now) (D.store store.now) hand.old) hand.old result }
     ensures later { hand.old.seen ≤ result }
 {
     // For the prover alone.

@@ -61,11 +61,11 @@ fn end_bare<N: Naming, D: Door, E: Event>(
     store: &D,
     told: Option<u64>,
 ) -> u64
-    requires leaves { E.leaves ≡ ended_view (bare_turn told (D.store store.now) hand.old) hand.old }
+    requires leaves { E.leaves ≡ ended_view (bare_turn D.keeps told (D.store store.now) hand.old) hand.old }
     requires formed { IsGeometry geometry.now }
     requires its { geometry.now ≡ N.start.geometry }
-    requires may { MayEndTurn N.start.geometry N.start.is_visible hand.old (bare_turn told (D.store store.now) hand.old) }
-    ensures ended { hand.new ≡ ended_view (bare_turn told (D.store store.now) hand.old) hand.old result }
+    requires may { MayEndTurn N.start.geometry N.start.is_visible hand.old (bare_turn D.keeps told (D.store store.now) hand.old) }
+    ensures ended { hand.new ≡ ended_view (bare_turn D.keeps told (D.store store.now) hand.old) hand.old result }
     ensures later { hand.old.seen ≤ result }
 {
     // For the prover alone.

@@ -90,8 +90,8 @@ open_over-requires g c =
     let old = g.D.Disk.moments c.args.disk in
     let left = c.in-Ok-mount.store in
     let store : StoreState = state_of (g.D.Disk.size left.disk) (g.D.Disk.moments left.disk) (g.D.Disk.faults left.disk) left.tables in
-    let first : Beginning = beginning_of s c.args.clients c.args.workers (sees g.D.Disk.visible g.D.Disk.keeps size old.state) in
-    let is : IsReady first store = ready s.superblock.geometry size old.state b.0 s store c.args.clients c.args.workers g.D.Disk.visible g.D.Disk.keeps b.1 c.requires.few c.is_table.ensures refl
+    let first : Beginning = beginning_of s c.args.clients c.args.workers (sees g.D.Disk.visible size old.state) in
+    let is : IsReady first store = ready s.superblock.geometry size old.state b.0 s store c.args.clients c.args.workers g.D.Disk.visible b.1 c.requires.few c.is_table.ensures refl
     (m.geometry ∙ sym s.superblock.same) m.unassigned m.going (λ sight. b.2 sight) (λ sight. g.met.D.Disk.whole sight c.args.disk) (λ sight. g.met.D.Disk.whole sight left.disk) (λ sight able. m.ok sight able)
     c.beginning_law.ensures.may c.beginning_law.ensures.sound c.mounted_law.ensures.mountable c.mounted_law.ensures.going in
     subst (λ (k : joint.Start). CanBegin (with_store store k)) (sym c.parts_before-before.ensures) (c.first_hand_law.ensures first store refl is)
@@ -105,8 +105,8 @@ returns-in-Ok-open_over-clause-session g c =
     let old = g.D.Disk.moments c.args.disk in
     let left = c.in-Ok-mount.store in
     let store : StoreState = state_of (g.D.Disk.size left.disk) (g.D.Disk.moments left.disk) (g.D.Disk.faults left.disk) left.tables in
-    let first : Beginning = beginning_of s c.args.clients c.args.workers (sees g.D.Disk.visible g.D.Disk.keeps size old.state) in
-    let is : IsReady first store = ready s.superblock.geometry size old.state b.0 s store c.args.clients c.args.workers g.D.Disk.visible g.D.Disk.keeps b.1 c.requires.few c.is_table.ensures refl
+    let first : Beginning = beginning_of s c.args.clients c.args.workers (sees g.D.Disk.visible size old.state) in
+    let is : IsReady first store = ready s.superblock.geometry size old.state b.0 s store c.args.clients c.args.workers g.D.Disk.visible b.1 c.requires.few c.is_table.ensures refl
     (m.geometry ∙ sym s.superblock.same) m.unassigned m.going (λ sight. b.2 sight) (λ sight. g.met.D.Disk.whole sight c.args.disk) (λ sight. g.met.D.Disk.whole sight left.disk) (λ sight able. m.ok sight able)
     c.beginning_law.ensures.may c.beginning_law.ensures.sound c.mounted_law.ensures.mountable c.mounted_law.ensures.going in
     let from = c.in-Ok-open_over.ensures ∙ ap (with_store store) c.parts_before-before.ensures in
@@ -121,8 +121,8 @@ returns-in-Ok-open_over-clause-ready g c =
     let old = g.D.Disk.moments c.args.disk in
     let left = c.in-Ok-mount.store in
     let store : StoreState = state_of (g.D.Disk.size left.disk) (g.D.Disk.moments left.disk) (g.D.Disk.faults left.disk) left.tables in
-    let first : Beginning = beginning_of s c.args.clients c.args.workers (sees g.D.Disk.visible g.D.Disk.keeps size old.state) in
-    let is : IsReady first store = ready s.superblock.geometry size old.state b.0 s store c.args.clients c.args.workers g.D.Disk.visible g.D.Disk.keeps b.1 c.requires.few c.is_table.ensures refl
+    let first : Beginning = beginning_of s c.args.clients c.args.workers (sees g.D.Disk.visible size old.state) in
+    let is : IsReady first store = ready s.superblock.geometry size old.state b.0 s store c.args.clients c.args.workers g.D.Disk.visible b.1 c.requires.few c.is_table.ensures refl
     (m.geometry ∙ sym s.superblock.same) m.unassigned m.going (λ sight. b.2 sight) (λ sight. g.met.D.Disk.whole sight c.args.disk) (λ sight. g.met.D.Disk.whole sight left.disk) (λ sight able. m.ok sight able)
     c.beginning_law.ensures.may c.beginning_law.ensures.sound c.mounted_law.ensures.mountable c.mounted_law.ensures.going in
     is
@@ -185,7 +185,7 @@ returns-in-Err-open_over-clause-err_moments g c visible clean tree with_tree =
     old (g.D.Disk.moments left.disk) (m.crash visible (law.mountable size old.state s is)))
 
 pub returns-in-Ok-open_over-clause-visible : goal.returns-in-Ok-open_over-clause-visible
-returns-in-Ok-open_over-clause-visible g c visible keeps clean =
+returns-in-Ok-open_over-clause-visible g c visible clean =
     let b = c.requires.begun in
     let s = c.args.start in
     let m = c.in-Ok-mount.ensures in
@@ -194,7 +194,7 @@ returns-in-Ok-open_over-clause-visible g c visible keeps clean =
     let left = c.in-Ok-mount.store in
     let store : StoreState = state_of (g.D.Disk.size left.disk) (g.D.Disk.moments left.disk) (g.D.Disk.faults left.disk) left.tables in
     let from = c.in-Ok-open_over.ensures ∙ ap (with_store store) c.parts_before-before.ensures in
-    ap (λ (k : joint.Start). k.is_visible) from ∙ it_sees g.D.Disk.visible g.D.Disk.keeps size old.state visible keeps clean
+    ap (λ (k : joint.Start). k.is_visible) from ∙ it_sees g.D.Disk.visible size old.state visible clean
 
 pub returns-in-Ok-open_over-clause-seen : goal.returns-in-Ok-open_over-clause-seen
 returns-in-Ok-open_over-clause-seen g c it =
@@ -206,5 +206,5 @@ returns-in-Ok-open_over-clause-seen g c it =
     let left = c.in-Ok-mount.store in
     let store : StoreState = state_of (g.D.Disk.size left.disk) (g.D.Disk.moments left.disk) (g.D.Disk.faults left.disk) left.tables in
     let from = c.in-Ok-open_over.ensures ∙ ap (with_store store) c.parts_before-before.ensures in
-    let told = sees_it g.D.Disk.visible g.D.Disk.keeps size old.state (sym (ap (λ (k : joint.Start). k.is_visible) from) ∙ it) in
-    (told.0, told.1)
+    let told = sees_it g.D.Disk.visible size old.state (sym (ap (λ (k : joint.Start). k.is_visible) from) ∙ it) in
+    told.0

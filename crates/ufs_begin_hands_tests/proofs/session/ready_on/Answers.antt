@@ -15,7 +15,7 @@ returns-clause-mounted g c =
     let m = c.in-Ok-mount.ensures in
     let low : c.in-Ok.start.names.next ≤ 1073741824 = c.in-Ok.ensures.begun.1.few in
     let disk = c.start_of.new.disk in (
-      beginning_of c.in-Ok.start 2 1 (sees g.D.Disk.visible g.D.Disk.keeps (g.D.Disk.size disk) (g.D.Disk.moments disk).state),
+      beginning_of c.in-Ok.start 2 1 (sees g.D.Disk.visible (g.D.Disk.size disk) (g.D.Disk.moments disk).state),
       record {
         start = m.start;
         ready = m.ready;

@@ -40,7 +40,7 @@ returns-clause-finished g c lists at_home =
     let last = c.end-tickets.result.store in
     let s : StoreState = state_of (g.D.Disk.size last.disk) (g.D.Disk.moments last.disk) (g.D.Disk.faults last.disk) last.tables in
     let whole = with_items_is c.args.actors.files d.new.files (d.auto.files ∙ c.as_mut_slice.ensures.len) in
-    let session : HasEnded k tickets lists d.new.names d.new.files s = subst (λ (files : List FileCell). HasEnded k tickets lists d.new.names files s) whole (c.end-tickets.ensures.ended lists at_home) in
+    let session : HasEnded k keeps tickets lists d.new.names d.new.files s = subst (λ (files : List FileCell). HasEnded k keeps tickets lists d.new.names files s) whole (c.end-tickets.ensures.ended lists at_home) in
     let into = c.into_disk-disk.ensures in
     let closed = c.clean_if-ended in
     let now = g.D.Disk.moments closed.new.disk in
@@ -49,7 +49,7 @@ returns-clause-finished g c lists at_home =
     let ends : EndsBehind d.result.0 s.faults count closed.result = subst (λ (before : ℕ). EndsBehind d.result.0 before count closed.result) into.faults closed.ensures.ends in
     let ends_so : EndsBy (is_ok d.result.0) s.stop s.faults count closed.result =
     subst (λ (stop : Option ℕ). EndsBy (is_ok d.result.0) stop s.faults count closed.result) (sym halts) (ends_by s.faults count was d.result.0 closed.result (of_commits was d.result.0 (stop_in d.result.1.store) d.ensures.halts d.ensures.halted d.ensures.stopped d.ensures.refused) ends) in
-    let sight = λ (seen : k.is_visible ≡ true). (c.end-tickets.ensures.store.store.sees seen).0 in
+    let sight = λ (seen : k.is_visible ≡ true). c.end-tickets.ensures.store.store.sees seen in
     let same : ◌≡◌ {A = ℕ × Moments} (g.D.Disk.size c.into_disk-disk.result, g.D.Disk.moments c.into_disk-disk.result) (s.sectors, s.moments) = λ i. (into.size i, into.moments i) in
     let cleans : (seen : k.is_visible ≡ true) → Leaves (IsProperImage s.sectors) s.moments.state → LeavesOnly keeps (OpensAsLeft s.sectors s.moments.state) s.moments now =
     λ seen. subst (λ (x : ℕ × Moments). Leaves (IsProperImage x.0) x.1.state → LeavesOnly keeps (OpensAsLeft x.0 x.1.state) x.1 now) same (closed.ensures.tree (sight seen)) in

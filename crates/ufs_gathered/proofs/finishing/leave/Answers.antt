@@ -32,7 +32,7 @@ returns-clause-finished g c lists at_home =
     let tickets = c.close_gathered-tickets.result.tickets in
     let last = c.close_gathered-tickets.result.store in
     let s : StoreState = state_of (g.D.Disk.size last.disk) (g.D.Disk.moments last.disk) (g.D.Disk.faults last.disk) last.tables in
-    let session : HasEnded k tickets lists a.names back.0 s =
+    let session : HasEnded k keeps tickets lists a.names back.0 s =
     c.close_gathered-tickets.ensures.ended a.names back.0 a.rest a.clients.items (c.gather_remains-gathered.ensures.all back.0 back.1) back.2 lists at_home in
     let into = c.into_disk.ensures in
     let is : c.cause_of.result ≡ left_by s.stop c.args.memory = c.cause_of.ensures ∙ ap (λ (stop : Option ℕ). left_by stop c.args.memory) c.stopped-stop.ensures in

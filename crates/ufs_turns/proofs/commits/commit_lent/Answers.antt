@@ -38,7 +38,7 @@ end_names-requires-in-Err-clause-may g c =
     let t = g.D.Door.store c.commit_store.new.store in
     let table = subst (λ (q : NamesPart). IsNameTable q.tree) (sym f.2) c.commit_store.ensures.table in
     let has = subst (λ (q : List ℕ × NamesPart). HaveNotPassed g.D.Door.visible g.D.Door.keeps s t q.0 q.1.tree.noted (fault_of c.in-Err.fault)) (λ i. (sym f.3 i, sym f.2 i)) (c.commit_store.ensures.err c.in-Err.fault c.in-Err.is) in
-    subst (λ (q : Option ℕ). MayEndTurn g.N.Naming.start.geometry g.N.Naming.start.is_visible c.begin_turn.new.hand (names_turn false q t c.begin_turn.new.hand)) (sym (told_is_same c.told_of-told.result (fault_of c.in-Err.fault) c.told_of-told.ensures.some c.told_of-told.ensures.none))
+    subst (λ (q : Option ℕ). MayEndTurn g.N.Naming.start.geometry g.N.Naming.start.is_visible c.begin_turn.new.hand (names_turn g.D.Door.keeps false q t c.begin_turn.new.hand)) (sym (told_is_same c.told_of-told.result (fault_of c.in-Err.fault) c.told_of-told.ensures.some c.told_of-told.ensures.none))
     (failure_ends g.N.Naming.start g.D.Door.visible g.D.Door.keeps c.begin_turn.result c.args.hand.now c.begin_turn.new.hand s t c.begin_turn.ensures.knows c.requires.store c.begin_turn.ensures.begun f.0 f.1 table (λ visible. g.met.D.Door.whole visible c.args.store.now) (λ visible. g.met.D.Door.whole visible c.commit_store.new.store) (fault_of c.in-Err.fault) has
     c.a_commit_of_names_ends.ensures.failed)
 

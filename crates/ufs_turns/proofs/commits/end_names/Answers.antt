@@ -4,4 +4,4 @@ use Rattle.ufs_turns.proofs.commits.end_names.Goals as goal
 
 pub mark-requires-clause-may : goal.mark-requires-clause-may
 mark-requires-clause-may g c =
-    inr (inr (inl (record { turn = names_turn c.args.done c.args.told (g.D.Door.store c.args.store.now) c.args.hand.now; may = c.requires.may; is = c.requires.leaves })))
+    inr (inr (inl (record { turn = names_turn g.D.Door.keeps c.args.done c.args.told (g.D.Door.store c.args.store.now) c.args.hand.now; may = c.requires.may; is = c.requires.leaves })))

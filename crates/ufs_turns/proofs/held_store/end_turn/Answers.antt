@@ -5,4 +5,4 @@ use Rattle.ufs_turns.proofs.held_store.end_turn.Goals as goal
 
 pub mark-requires-clause-may : goal.mark-requires-clause-may
 mark-requires-clause-may g c =
-    inr (inr (inl (record { turn = sync_turn c.args.done c.args.told (state_of c.args.file.now c.args.commits.now) (g.D.Door.store c.args.store.now) c.args.hand.now; may = c.requires.may; is = c.requires.leaves })))
+    inr (inr (inl (record { turn = sync_turn g.D.Door.keeps c.args.done c.args.told (state_of c.args.file.now c.args.commits.now) (g.D.Door.store c.args.store.now) c.args.hand.now; may = c.requires.may; is = c.requires.leaves })))

@@ -48,7 +48,7 @@ end_turn-requires-clause-may g c =
     (subst (λ (q : DurableState). (place : ℕ) → slice_get q.file.content.there place ≡ Some true → slice_get y.file.content.there place ≡ Some true) (sym f.3) e.kept)
     (subst (λ (q : DurableState). (bytes : List ℕ) → IsContentOf y.file.content bytes → IsContentOf q.file.content bytes) (sym f.3) e.fewer) in
     let same : y ≡ record (f.1.value) { file = y.file } = ap (λ (q : DurableState). record q { file = y.file }) (sym f.3) in
-    subst (λ (q : Option ℕ). MayEndTurn g.N.Naming.start.geometry g.N.Naming.start.is_visible c.begin_turn.new.hand (sync_turn false q y t c.begin_turn.new.hand)) (sym (told_is_same c.told_by-told.result (fault_in c.fetch-read.result) c.told_by-told.ensures.some c.told_by-told.ensures.none))
+    subst (λ (q : Option ℕ). MayEndTurn g.N.Naming.start.geometry g.N.Naming.start.is_visible c.begin_turn.new.hand (sync_turn g.D.Door.keeps false q y t c.begin_turn.new.hand)) (sym (told_is_same c.told_by-told.result (fault_in c.fetch-read.result) c.told_by-told.ensures.some c.told_by-told.ensures.none))
     (fetch_ends g.N.Naming.start g.D.Door.visible g.D.Door.keeps c.begin_turn.result c.args.hand.now c.begin_turn.new.hand s t c.begin_turn.ensures.knows f.0 f.1 f.2 c.requires.store c.begin_turn.ensures.begun (λ visible. g.met.D.Door.whole visible c.args.store.now) (λ visible. g.met.D.Door.whole visible c.fetch-read.new.door)
     (ap geometry_of_store e.store) (ap (λ (q : StoreState). q.sectors) e.store) y (fault_in c.fetch-read.result) e.cause has more same (subst FileFetchesMayEnd (c.geometry-geometry.ensures.is ∙ c.requires.store.formed) c.a_file_is_fetched.ensures.may))
 

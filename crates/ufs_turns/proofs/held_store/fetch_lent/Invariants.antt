@@ -6,4 +6,4 @@ abbrev pub ghosts-begin_turn : goal.ghosts-begin_turn
 ghosts-begin_turn g a = record { leaves = begun_view a.hand.now }
 
 abbrev pub ghosts-end_turn : goal.ghosts-end_turn
-ghosts-end_turn g a = record { leaves = ended_view (sync_turn a.done a.told (state_of a.file.now a.commits.now) (g.D.Door.store a.store.now) a.hand.now) a.hand.now }
+ghosts-end_turn g a = record { leaves = ended_view (sync_turn g.D.Door.keeps a.done a.told (state_of a.file.now a.commits.now) (g.D.Door.store a.store.now) a.hand.now) a.hand.now }

@@ -74,7 +74,7 @@ end_turn-requires-in-Err-clause-may g c =
     let t = g.D.Door.store c.sync_store.new.store in
     let y = state_of c.sync_store.new.file c.sync_store.new.commits in
     let has = subst (λ (x : DurableState). HasNotPassed g.D.Door.visible g.D.Door.keeps s t x y (fault_of c.in-Err.fault)) (sym f.3) (c.sync_store.ensures.err c.in-Err.fault c.in-Err.is) in
-    subst (λ (q : Option ℕ). MayEndTurn g.N.Naming.start.geometry g.N.Naming.start.is_visible c.begin_turn.new.hand (sync_turn false q y t c.begin_turn.new.hand)) (sym (told_is_same c.told_of-told.result (fault_of c.in-Err.fault) c.told_of-told.ensures.some c.told_of-told.ensures.none))
+    subst (λ (q : Option ℕ). MayEndTurn g.N.Naming.start.geometry g.N.Naming.start.is_visible c.begin_turn.new.hand (sync_turn g.D.Door.keeps false q y t c.begin_turn.new.hand)) (sym (told_is_same c.told_of-told.result (fault_of c.in-Err.fault) c.told_of-told.ensures.some c.told_of-told.ensures.none))
     (failure_ends g.N.Naming.start g.D.Door.visible g.D.Door.keeps c.begin_turn.result c.args.hand.now c.begin_turn.new.hand s t c.begin_turn.ensures.knows f.0 f.1 f.2 c.requires.store c.begin_turn.ensures.begun (λ visible. g.met.D.Door.whole visible c.args.store.now) (λ visible. g.met.D.Door.whole visible c.sync_store.new.store) has.geometry has.sectors y (fault_of c.in-Err.fault) has
     (subst FileFailuresMayEnd (c.geometry-geometry.ensures.is ∙ c.requires.store.formed) c.a_failed_commit_ends.ensures.may) f.4)
 

@@ -13,7 +13,7 @@ pub end_bare-requires-clause-may : goal.end_bare-requires-clause-may
 end_bare-requires-clause-may g c =
     let s = g.D.Door.store c.args.store.now in
     let t = g.D.Door.store c.checkpoint_store-made.new.store in
-    subst (λ (q : Option ℕ). MayEndTurn g.N.Naming.start.geometry g.N.Naming.start.is_visible c.begin_turn.new.hand (bare_turn q t c.begin_turn.new.hand)) (sym (told_is_same c.told_by-told.result (fault_in c.checkpoint_store-made.result) c.told_by-told.ensures.some c.told_by-told.ensures.none))
+    subst (λ (q : Option ℕ). MayEndTurn g.N.Naming.start.geometry g.N.Naming.start.is_visible c.begin_turn.new.hand (bare_turn g.D.Door.keeps q t c.begin_turn.new.hand)) (sym (told_is_same c.told_by-told.result (fault_in c.checkpoint_store-made.result) c.told_by-told.ensures.some c.told_by-told.ensures.none))
     (checkpoint_ends g.N.Naming.start g.D.Door.visible g.D.Door.keeps c.begin_turn.result c.args.hand.now c.begin_turn.new.hand s t c.begin_turn.ensures.knows c.requires.store c.begin_turn.ensures.begun c.requires.files c.requires.names (λ visible. g.met.D.Door.whole visible c.args.store.now) (λ visible. g.met.D.Door.whole visible c.checkpoint_store-made.new.store) (fault_in c.checkpoint_store-made.result) c.checkpoint_store-made.ensures.made
     (subst CheckpointsMayEnd (c.geometry-geometry.ensures.is ∙ c.requires.store.formed) c.a_checkpoint_ends.ensures.may))
 

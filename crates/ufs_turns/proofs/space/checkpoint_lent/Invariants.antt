@@ -5,4 +5,4 @@ abbrev pub ghosts-begin_turn : goal.ghosts-begin_turn
 ghosts-begin_turn g a = record { leaves = begun_view a.hand.now }
 
 abbrev pub ghosts-end_bare : goal.ghosts-end_bare
-ghosts-end_bare g a = record { leaves = ended_view (bare_turn a.told (g.D.Door.store a.store.now) a.hand.now) a.hand.now }
+ghosts-end_bare g a = record { leaves = ended_view (bare_turn g.D.Door.keeps a.told (g.D.Door.store a.store.now) a.hand.now) a.hand.now }
