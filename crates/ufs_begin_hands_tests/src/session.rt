@@ -86,6 +86,7 @@ fn close_all<N: Naming, D: Disk, L: Ledger, R: Abort + AllocGlobal>(
     requires parts { blank.parts ≡ L.parts }
     requires one { blank.parts ≡ 1 }
     requires mounted { (b : Beginning) × IsMounted b N.start (⟦<Store<D> as Door>⟧.store ready.store) ready.names (map value_of ready.files.items) }
+    requires origin { N.origin ≡ (⟦<Store<D> as Door>⟧.store ready.store).moments }
     requires sees { N.start.is_visible ≡ true → IsTrue D.visible }
 {
     let AllDealt {
@@ -115,6 +116,7 @@ fn finish_all<N: Naming, D: Disk, L: Ledger, R: Abort + AllocGlobal>(
     requires parts { blank.parts ≡ L.parts }
     requires one { blank.parts ≡ 1 }
     requires mounted { (b : Beginning) × IsMounted b N.start (⟦<Store<D> as Door>⟧.store ready.store) ready.names (map value_of ready.files.items) }
+    requires origin { N.origin ≡ (⟦<Store<D> as Door>⟧.store ready.store).moments }
     requires sees { N.start.is_visible ≡ true → IsTrue D.visible }
     requires formed { IsGeometry geometry.now }
     requires its { geometry.now ≡ N.start.geometry }
@@ -174,6 +176,7 @@ fn deal_all<N: Naming, D: Disk, L: Ledger, R: Abort + AllocGlobal>(
     requires parts { blank.parts ≡ L.parts }
     requires one { blank.parts ≡ 1 }
     requires mounted { (b : Beginning) × IsMounted b N.start (⟦<Store<D> as Door>⟧.store ready.store) ready.names (map value_of ready.files.items) }
+    requires origin { N.origin ≡ (⟦<Store<D> as Door>⟧.store ready.store).moments }
     requires sees { N.start.is_visible ≡ true → IsTrue D.visible }
     ensures dealt { IsDealt N.start result.actors.names result.actors.files.items result.actors.pools result.actors.clients.items }
     ensures share { 0 < result.share.parts }

@@ -1,8 +1,9 @@
 -- The hands of names, store, files, pools and clients, and the one that is left.
 use Rattle.std.proofs.Common.{◌≡◌, ◌≤◌, ℕ, Bool, true, eqb, inl, List, [], ◌∷◌, ◌++◌, length, map, ap, refl, sym, ◌∙◌, subst, arith}
 use Rattle.std.specs.Prelude.{IsTrue}
+use Rattle.std.proofs.lemmas.List.{append-nil}
 use Rattle.ufs_bitmap.specs.Blocks.{BlockSet}
-use Rattle.ufs_disk.specs.Moments.{all}
+use Rattle.ufs_disk.specs.Moments.{Moments, all}
 use Rattle.ufs_file_commits.specs.State.{DurableState}
 use Rattle.ufs_held.specs.Held.{IsHeld}
 use Rattle.ufs_held_names.specs.HeldNames.{HasNamesAlone, HoldsNames, noted_in}
@@ -69,9 +70,9 @@ pub holds_names : (x : Noted) (names : NamesCell) (v : View) → HasNamesAlone n
 holds_names x names v alone value = record { cell = names; alone = alone; value = value }
 
 -- the store is at rest, and was in no state since
-pub holds_store : (k : Start) (visible keeps : Bool) (v : View) (s : StoreState) → k.view.store ≡ (tt, cell_of 0 [] s) ∷ [] → HasStoreAlone (cell_of 0 [] s) v → geometry_of_store s ≡ k.geometry
-    → (k.is_visible ≡ true → IsTrue visible) → IsHeldStore k visible keeps v s
-holds_store k visible keeps v s first alone formed sees = record {
+pub holds_store : (k : Start) (origin : Moments) (visible keeps : Bool) (v : View) (s : StoreState) → k.view.store ≡ (tt, cell_of 0 [] s) ∷ [] → HasStoreAlone (cell_of 0 [] s) v → geometry_of_store s ≡ k.geometry
+    → origin ≡ s.moments → (k.is_visible ≡ true → IsTrue visible) → IsHeldStore k origin visible keeps v s
+holds_store k origin visible keeps v s first alone formed from sees = record {
   cell = cell_of 0 [] s;
   alone = alone;
   store = record {
@@ -81,6 +82,7 @@ holds_store k visible keeps v s first alone formed sees = record {
     sees = sees;
     formed = formed;
     size = sym (ap sectors_in first);
+    grown = λ _ _. ([], ap (λ (m : Moments). all m) (sym from) ∙ sym (append-nil (all origin)));
     since = λ _ _. (let n = counted in omega (arith, n));
     covers = λ _ _ x has. absurd (subst (Has x) none has);
     passes = λ _ _. subst (λ (xs : List Cells). AreRepeated xs (cells_of s.sectors s.moments.state ∷ [])) (λ i. sym (ap state_in first) i ++ sym none i) (inl (refl, tt));

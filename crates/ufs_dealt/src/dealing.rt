@@ -47,6 +47,7 @@ pub fn deal<N: Naming, S: Door, L: Ledger>(
     requires names { (cell : NamesCell) × ((first_view N.start).names ≡ (tt, cell) ∷ []) × (noted_in cell ≡ names) × (cell.named ≡ live_files cell.value) }
     requires store { (first_view N.start).store ≡ (tt, cell_of 0 [] (S.store store)) ∷ [] }
     requires formed { geometry_of_store (S.store store) ≡ N.start.geometry }
+    requires origin { N.origin ≡ (S.store store).moments }
     requires sees { N.start.is_visible ≡ true → IsTrue S.visible }
     ensures names { (cell : NamesCell) → (first_view N.start).names ≡ (tt, cell) ∷ [] → result.names ≡ cell }
     ensures store { HasStoreAlone (cell_of 0 [] (S.store store)) result.store }

@@ -2,6 +2,7 @@
 use Rattle.std.proofs.Common.{◌≡◌, ◌≤◌, ℕ, Bool, eqb, List, [], ◌∷◌, ◌++◌, sym, refl, ◌∙◌, subst}
 use Rattle.std.proofs.lemmas.List.{append-nil}
 use Rattle.ufs_bitmap.specs.Blocks.{BlockSet}
+use Rattle.ufs_disk.specs.Moments.{Moments}
 use Rattle.ufs_held.specs.Together.{HasThemToo, under_numbers}
 use Rattle.ufs_held_names.specs.HeldNames.{HasNamesAlone}
 use Rattle.ufs_joint.specs.Cells.{FileCell, NamesCell, Start, StoreCell, View, both_of}
@@ -16,7 +17,7 @@ use Rattle.ufs_gathered.specs.Gathered.{AreAllBack, AreHome, HasAllOf, HasPoolsA
 use Rattle.ufs_gathered.proofs.Homes.{none_else}
 use Rattle.ufs_gathered.proofs.Joined.{all_joined}
 
-module _ (names : NamesCell) (right : View) (named : HasNamesAlone names right) (k : Start) (visible keeps : Bool) (own : View) (s : StoreState) (home : IsHeldStore k visible keeps own s)
+module _ (names : NamesCell) (right : View) (named : HasNamesAlone names right) (k : Start) (origin : Moments) (visible keeps : Bool) (own : View) (s : StoreState) (home : IsHeldStore k origin visible keeps own s)
     (files : List FileCell) (v : View) (them : HasThemToo files (both_of right own) v) (pools : View) (pooled : HasPoolsAlone pools)
     (clients : List View) (lists : List (List Entry)) (at_home : AreHome lists clients) where
   abbrev with_pools : View
@@ -69,7 +70,7 @@ module _ (names : NamesCell) (right : View) (named : HasNamesAlone names right) 
   pub has_all : HasAllOf names files pools clients whole
   has_all = record { clients_are = clients_are; files_are = files_are; pools_are = pools_are; names_are = names_are }
 
-  pub store_there : IsStoreIn k visible keeps whole s
+  pub store_there : IsStoreIn k origin visible keeps whole s
   store_there = let h = home.store in record {
     stamp = h.stamp;
     past = h.past;

@@ -22,6 +22,7 @@ use Rattle.ufs_model.specs.declared.data.Op.{Op}
 use Rattle.ufs_names.specs.NamesPart.{NamesPart}
 use Rattle.ufs_promise_laws.specs.FileRequests.{with_free}
 use Rattle.ufs_crash_laws.specs.Changes.{changes_of, name_changes}
+use Rattle.ufs_disk.specs.Moments.{Moments}
 use Rattle.ufs_hand_laws.specs.DiskBytes.{state_of}
 use Rattle.ufs_hand_laws.specs.Owned.{Has, count}
 use Rattle.ufs_hand_laws.specs.Parts.{Cells}
@@ -54,7 +55,7 @@ use Rattle.ufs_gathered.proofs.Throughout.{more_along, once_along, past_along}
 live_is : (n : NamesPart) (file : ℕ) → set.contains (live_files n) file ≡ is_some (fin.get n.held file)
 live_is n file = contains-from_list nat_cmp_total (fin.keys n.held) file ∙ sym (contains_key-keys n.held file)
 
-module _ (k : Start) (visible keeps : Bool) (names : NamesCell) (files : List FileCell) (pools : View) (clients : List View) (v : View) (s : StoreState) (all : HasAllOf names files pools clients v) (home : IsStoreIn k visible keeps v s)
+module _ (k : Start) (origin : Moments) (visible keeps : Bool) (names : NamesCell) (files : List FileCell) (pools : View) (clients : List View) (v : View) (s : StoreState) (all : HasAllOf names files pools clients v) (home : IsStoreIn k origin visible keeps v s)
     (n : ℕ) (knows : Knows k n v) (m : ℕ) (w : View) (begun : w ≡ begun_view v n) (known_all : KnowsAll k m w) (lists : List (List Entry)) (at_home : AreHome lists clients) where
   -- the store's cell before the last turn, and in it
   abbrev c : StoreCell
@@ -237,7 +238,7 @@ module _ (k : Start) (visible keeps : Bool) (names : NamesCell) (files : List Fi
   -- ---- the whole
 
   pub has_ended : ((file : ℕ) → IsSome (fin.get names.value.held file) → (x : FileCell) × Has (file, x) v.files) → RestIsExplained k.geometry → AllAreThere k.geometry → AllIsLast k.geometry
-      → (IsTrue visible → IsDiskWhole s.sectors s.moments.state) → HasEnded k keeps m lists names files s
+      → (IsTrue visible → IsDiskWhole s.sectors s.moments.state) → HasEnded k origin keeps m lists names files s
   has_ended held rest there is_last disk_whole = record {
     start = whole.start;
     picks = whole.picks;
@@ -255,6 +256,7 @@ module _ (k : Start) (visible keeps : Bool) (names : NamesCell) (files : List Fi
     committed = whole.committed;
     asked = whole.asked;
     size = home.size;
+    grown = home.grown;
     parts = whole.parts;
     are = whole.are;
     has_names = whole.cells.names tt names has_names;

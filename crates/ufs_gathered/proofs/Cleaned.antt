@@ -106,8 +106,8 @@ known_by visible (Ok x) old new olds nows names files = λ seen. record {
 
 -- ---- how it ends
 
-pub stop_is : (k : Start) (visible keeps : Bool) (v : View) (s : StoreState) → IsHeldStore k visible keeps v s → stop_in v.store ≡ s.stop
-stop_is k visible keeps v s home = ap stop_in home.store.has
+pub stop_is : (k : Start) (origin : Moments) (visible keeps : Bool) (v : View) (s : StoreState) → IsHeldStore k origin visible keeps v s → stop_in v.store ≡ s.stop
+stop_is k origin visible keeps v s home = ap stop_in home.store.has
 
 -- where everything was committed
 pub of_done : {P : Type 0} (done : Result (Unit {0}) StoreFault) → is_ok done ≡ true → OnOk done P → P
@@ -181,7 +181,7 @@ going_on was (Err e) halted ok = (let no : false ≡ true = ok in absurd cc)
 
 -- ---- the disk
 
-module _ (k : Start) (keeps : Bool) (tickets : ℕ) (lists : List (List Entry)) (names : NamesCell) (files : List FileCell) (s : StoreState) (session : HasEnded k keeps tickets lists names files s) (seen : k.is_visible ≡ true) (now : Moments)
+module _ (k : Start) (origin : Moments) (keeps : Bool) (tickets : ℕ) (lists : List (List Entry)) (names : NamesCell) (files : List FileCell) (s : StoreState) (session : HasEnded k origin keeps tickets lists names files s) (seen : k.is_visible ≡ true) (now : Moments)
     (cleans : Leaves (IsProperImage s.sectors) s.moments.state → LeavesOnly keeps (OpensAsLeft s.sectors s.moments.state) s.moments now) where
   pub proper : Leaves (IsProperImage s.sectors) s.moments.state
   proper image left = (session.crash seen image left).proper

@@ -33,11 +33,11 @@ pub none_left : (stop : Option ℕ) (memory : Memory) → closing_fault (Err (le
 none_left None memory = refl
 none_left (Some n) memory = refl
 
-module _ (k : Start) (keeps : Bool) (tickets : ℕ) (lists : List (List Entry)) (names : NamesCell) (files : List FileCell) (s : StoreState) (session : HasEnded k keeps tickets lists names files s) (memory : Memory) where
+module _ (k : Start) (origin : Moments) (keeps : Bool) (tickets : ℕ) (lists : List (List Entry)) (names : NamesCell) (files : List FileCell) (s : StoreState) (session : HasEnded k origin keeps tickets lists names files s) (memory : Memory) where
   uncommitted : {P : Type 0} → false ≡ true → P
   uncommitted all = absurd cc
 
-  pub left_open : HasFinished k keeps tickets lists s.sectors s.faults s.moments (Err (left_by s.stop memory))
+  pub left_open : HasFinished k origin keeps tickets lists s.sectors s.faults s.moments (Err (left_by s.stop memory))
   left_open = record {
     names = names;
     files = files;

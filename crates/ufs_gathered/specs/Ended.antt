@@ -2,7 +2,8 @@
 use Rattle.std.specs.Prelude.{ℕ, ◌≡◌, ◌≤◌, ◌<◌, ◌-◌, ◌^◌, ◌⊎◌, ◌++◌, eqb, Bool, IsTrue, true, List, [], ◌∷◌, length, map, take, Some, None, IsSome}
 use Rattle.std.specs.FinMap as fin
 use Rattle.ufs_client.specs.Played.{IsMerged, transcript}
-use Rattle.ufs_disk.specs.Disk.{Leaves}
+use Rattle.ufs_disk.specs.Disk.{Leaves, State}
+use Rattle.ufs_disk.specs.Moments.{Moments, all}
 use Rattle.ufs_promise_laws.specs.Last.{StandsForTree}
 use Rattle.ufs_model.specs.History.{IsComplete, IsInOrder, IsLegal, requests_of, tree_after}
 use Rattle.ufs_model.specs.PosixTree.{PosixTree}
@@ -77,7 +78,7 @@ pub record AreAllKnown (names : NamesCell) (files : List FileCell) : Type 0 wher
 -- entry is one of the session, and whoever is told that the store stopped is told where: by that, or where a request asks for a commit,
 -- by the fault itself. No other request is told a stop. It stopped at a fault of the session, if it hadn't before. The disk has as many
 -- sectors as at the beginning.
-pub record HasEnded (k : Start) (keeps : Bool) (tickets : ℕ) (lists : List (List Entry)) (names : NamesCell) (files : List FileCell) (s : StoreState) : Type 0 where
+pub record HasEnded (k : Start) (origin : Moments) (keeps : Bool) (tickets : ℕ) (lists : List (List Entry)) (names : NamesCell) (files : List FileCell) (s : StoreState) : Type 0 where
   pub start : PosixTree
   pub picks : List Pick
   pub begun : MayHaveBegun k picks start
@@ -94,6 +95,8 @@ pub record HasEnded (k : Start) (keeps : Bool) (tickets : ℕ) (lists : List (Li
   pub committed : (e : Entry) (fault : ℕ) → Has e history → asks_commit e.op ≡ true → e.reply ≡ reply.Excused (excuse.Device fault) → s.stop ≡ Some fault
   pub asked : (e : Entry) (fault : ℕ) → Has e history → e.reply ≡ reply.Excused (excuse.Stopped fault) → asks_commit e.op ≡ true
   pub size : s.sectors ≡ sectors_in k.view.store
+  -- a visible disk that keeps its moments went on from the states in which it had been as the session began
+  pub grown : k.is_visible ≡ true → IsTrue keeps → (inside : List State) × (all s.moments ≡ all origin ++ inside)
   pub parts : Parts
   pub are : ArePartsOf parts (tree_after start history)
   pub has_names : HasNamesCell parts names

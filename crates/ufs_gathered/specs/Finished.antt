@@ -53,11 +53,11 @@ EndsBy all stop before now (Err (cause.Lack why)) = (stop ≡ None) × (now ≡ 
 -- ---- the whole
 
 -- The session ended so, with names, files and store as they were behind the commits, and so the disk was left.
-pub record HasFinished (k : Start) (keeps : Bool) (tickets : ℕ) (lists : List (List Entry)) (sectors faults : ℕ) (now : Moments) (ended : Result (Unit {0}) CloseFault) : Type 0 where
+pub record HasFinished (k : Start) (origin : Moments) (keeps : Bool) (tickets : ℕ) (lists : List (List Entry)) (sectors faults : ℕ) (now : Moments) (ended : Result (Unit {0}) CloseFault) : Type 0 where
   pub names : NamesCell
   pub files : List FileCell
   pub store : StoreState
-  pub session : HasEnded k keeps tickets lists names files store
+  pub session : HasEnded k origin keeps tickets lists names files store
   -- whether everything was committed
   pub all : Bool
   pub ends : EndsBy all store.stop store.faults faults ended

@@ -30,8 +30,8 @@ pub fn end<N: Naming, S: Door, L: Ledger>(table: HandTable<N>, actors: Actors<N,
     requires home { (lists : List (List Entry)) × AreHome lists actors.clients.items }
     requires pools { HasPoolsAlone actors.pools }
     requires back { AreAllBack N.start actors.names actors.files.items actors.pools actors.clients.items }
-    ensures ended { (lists : List (List Entry)) → AreHome lists actors.clients.items → HasEnded N.start S.keeps result.tickets lists actors.names actors.files.items (S.store result.store) }
-    ensures store { IsHeldStore N.start S.visible S.keeps actors.store (S.store result.store) }
+    ensures ended { (lists : List (List Entry)) → AreHome lists actors.clients.items → HasEnded N.start N.origin S.keeps result.tickets lists actors.names actors.files.items (S.store result.store) }
+    ensures store { IsHeldStore N.start N.origin S.visible S.keeps actors.store (S.store result.store) }
 {
     let gathered = gather(&table, actors);
     close_gathered(table, gathered)
@@ -42,10 +42,10 @@ pub(crate) fn close_gathered<N: Naming, S: Door>(
     table: HandTable<N>,
     gathered: Gathered<N, S>,
 ) -> Ended<S>
-    requires store { IsStoreIn N.start S.visible S.keeps gathered.hand (S.store gathered.store) }
+    requires store { IsStoreIn N.start N.origin S.visible S.keeps gathered.hand (S.store gathered.store) }
     requires back { (names : NamesCell) × (files : List FileCell) × (pools : View) × (clients : List View) × HasAllOf names files pools clients gathered.hand × AreAllBack N.start names files pools clients }
     ensures ended { (names : NamesCell) (files : List FileCell) (pools : View) (clients : List View) → HasAllOf names files pools clients gathered.hand → AreAllBack N.start names files pools clients
-        → (lists : List (List Entry)) → AreHome lists clients → HasEnded N.start S.keeps result.tickets lists names files (S.store result.store) }
+        → (lists : List (List Entry)) → AreHome lists clients → HasEnded N.start N.origin S.keeps result.tickets lists names files (S.store result.store) }
     ensures same { S.store result.store ≡ S.store gathered.store }
 {
     let Gathered { mut hand, store } = gathered;

@@ -62,7 +62,7 @@ pub fn finish<N: Naming, D: Disk, L: Ledger>(
     requires pools { HasPoolsAlone actors.pools }
     requires back { AreAllBack N.start actors.names actors.files.items actors.pools actors.clients.items }
     ensures finished { (lists : List (List Entry)) → AreHome lists actors.clients.items
-        → HasFinished N.start D.keeps result.tickets lists (D.size result.disk) (D.faults result.disk) (D.moments result.disk) result.ended }
+        → HasFinished N.start N.origin D.keeps result.tickets lists (D.size result.disk) (D.faults result.disk) (D.moments result.disk) result.ended }
     ensures stopped { (fault : ℕ) → (result.ended ≡ Err (cause.Stopped fault)) ↔ (stop_in actors.store.store ≡ Some fault) }
     ensures counted { IsTold (tally_in actors.store.store).faults (D.faults result.disk) (closing_fault result.ended) }
 {
@@ -111,7 +111,7 @@ pub fn leave<N: Naming, D: Disk, L: Ledger>(
     requires home { (lists : List (List Entry)) × AreHome lists remains.clients.items }
     requires back { (files : List FileCell) × HasFilesToo files remains.rest × AreAllBack N.start remains.names files remains.rest remains.clients.items }
     ensures finished { (lists : List (List Entry)) → AreHome lists remains.clients.items
-        → HasFinished N.start D.keeps result.tickets lists (D.size result.disk) (D.faults result.disk) (D.moments result.disk) result.ended }
+        → HasFinished N.start N.origin D.keeps result.tickets lists (D.size result.disk) (D.faults result.disk) (D.moments result.disk) result.ended }
     ensures stopped { (fault : ℕ) → (result.ended ≡ Err (cause.Stopped fault)) ↔ (stop_in remains.store.store ≡ Some fault) }
     ensures counted { IsTold (tally_in remains.store.store).faults (D.faults result.disk) (closing_fault result.ended) }
     ensures lack { stop_in remains.store.store ≡ None → result.ended ≡ Err (cause.Lack (lack.Memory memory)) }

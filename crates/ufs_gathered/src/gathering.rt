@@ -73,8 +73,8 @@ pub(crate) fn gather<N: Naming, S: Door, L: Ledger>(
     requires home { (lists : List (List Entry)) × AreHome lists actors.clients.items }
     requires pools { HasPoolsAlone actors.pools }
     ensures all { HasAllOf actors.names actors.files.items actors.pools actors.clients.items result.hand }
-    ensures store { IsStoreIn N.start S.visible S.keeps result.hand (S.store result.store) }
-    ensures its { IsHeldStore N.start S.visible S.keeps actors.store (S.store result.store) }
+    ensures store { IsStoreIn N.start N.origin S.visible S.keeps result.hand (S.store result.store) }
+    ensures its { IsHeldStore N.start N.origin S.visible S.keeps actors.store (S.store result.store) }
 {
     let Actors {
         names,
@@ -101,8 +101,8 @@ pub(crate) fn gather_remains<N: Naming, S: Door, L: Ledger>(
     requires home { (lists : List (List Entry)) × AreHome lists remains.clients.items }
     requires rest { (files : List FileCell) × HasFilesToo files remains.rest }
     ensures all { (files : List FileCell) → HasFilesToo files remains.rest → HasAllOf remains.names files remains.rest remains.clients.items result.hand }
-    ensures store { IsStoreIn N.start S.visible S.keeps result.hand (S.store result.store) }
-    ensures its { IsHeldStore N.start S.visible S.keeps remains.store (S.store result.store) }
+    ensures store { IsStoreIn N.start N.origin S.visible S.keeps result.hand (S.store result.store) }
+    ensures its { IsHeldStore N.start N.origin S.visible S.keeps remains.store (S.store result.store) }
 {
     let Remains {
         names,

@@ -7,6 +7,7 @@ use Rattle.std.specs.FinMap as fin
 use Rattle.std.specs.FinMap.{contains_key-keys}
 use Rattle.std.specs.FinSet.{contains-from_list}
 use Rattle.std.specs.FinSet as set
+use Rattle.ufs_disk.specs.Moments.{Moments}
 use Rattle.ufs_model.specs.PosixTree.{root_alone}
 use Rattle.ufs_model.specs.History.{is_excused}
 use Rattle.ufs_model.specs.declared.data.Op.TheVariants.{Sync}
@@ -86,11 +87,11 @@ module _ (n : NamesPart) (s : StoreState) (r : ℕ) where
   abbrev pub syncing : ClientPart
   syncing = record idle_client { asked = Some Sync }
 
-  pub home : (visible keeps : Bool) → geometry_of_store s ≡ small → IsHeldStore (small_start n s) visible keeps (given_of Store v) s
-  home visible keeps formed = record {
+  pub home : (origin : Moments) (visible keeps : Bool) → geometry_of_store s ≡ small → IsHeldStore (small_start n s) origin visible keeps (given_of Store v) s
+  home origin visible keeps formed = record {
     cell = cell_of 0 [] s;
     alone = record { clients = refl; asked = refl; files = refl; pools = refl; names = refl; store = refl };
-    store = record { stamp = 0; past = []; has = refl; sees = λ seen. absurd (blind seen); formed = formed; size = refl; since = λ seen. absurd (blind seen); covers = λ seen. absurd (blind seen); passes = λ seen. absurd (blind seen) };
+    store = record { stamp = 0; past = []; has = refl; sees = λ seen. absurd (blind seen); formed = formed; size = refl; grown = λ seen. absurd (blind seen); since = λ seen. absurd (blind seen); covers = λ seen. absurd (blind seen); passes = λ seen. absurd (blind seen) };
   }
 
   pub names_there : (x : Noted) → x ≡ record { names = n; fresh = []; dropped = set.empty } → HoldsNames x (given_of Names without_store)
@@ -110,8 +111,8 @@ module _ (n : NamesPart) (s : StoreState) (r : ℕ) where
   pub no_file : IsNamesPart n root_alone → (file : ℕ) → IsSome (fin.get n.held file) → ⊥
   no_file part file is = blind (sym (sym is ∙ part.told file ∙ ap is_some (fin.get-empty nat_cmp file)))
 
-  module _ (part : IsNamesPart n root_alone) (visible keeps : Bool) (left back right own : View) (client : ClientPart) (t : StoreState) (cell : NamesCell) (bare : IsBare left) (came : IsGuest 0 client 3 no_blocks back) (alone : HasNamesAlone cell right)
-      (same : cell.value.held ≡ n.held) (clients : left.clients ≡ []) (pools : left.pools ≡ (0, no_blocks) ∷ (1, no_blocks) ∷ (2, no_blocks) ∷ []) (stored : IsHeldStore (small_start n s) visible keeps own t) where
+  module _ (part : IsNamesPart n root_alone) (origin : Moments) (visible keeps : Bool) (left back right own : View) (client : ClientPart) (t : StoreState) (cell : NamesCell) (bare : IsBare left) (came : IsGuest 0 client 3 no_blocks back) (alone : HasNamesAlone cell right)
+      (same : cell.value.held ≡ n.held) (clients : left.clients ≡ []) (pools : left.pools ≡ (0, no_blocks) ∷ (1, no_blocks) ∷ (2, no_blocks) ∷ []) (stored : IsHeldStore (small_start n s) origin visible keeps own t) where
     abbrev pub whole : View
     whole = both_of (both_of (both_of left back) right) own
 

@@ -47,19 +47,26 @@ impl Parts {
 /// Which session it is.
 pub trait Naming {
     ghost use Rattle.atomic_table.specs.Seated.{TableId};
+    ghost use Rattle.ufs_disk.specs.Moments.{Moments};
     ghost use Rattle.ufs_joint.specs.Cells.{Start};
 
     ghost table: { TableId };
 
     ghost start: { Start };
+
+    // The states that the disk had been in as the session began. They are no part of the start, since a state is a function.
+    ghost origin: { Moments };
 }
 
 impl Naming for Brand {
+    ghost use Rattle.ufs_disk.specs.Moments.{unseen};
     ghost use Rattle.ufs_joint.specs.Rule.{no_start, no_table};
 
     ghost table = { no_table };
 
     ghost start = { no_start };
+
+    ghost origin = { unseen };
 }
 
 /// What a draw leaves, by its ticket: the client's descriptors, and the files, pools and names that the hand has then. Its caller picks

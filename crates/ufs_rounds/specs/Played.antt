@@ -15,8 +15,8 @@ use Rattle.ufs_rounds.specs.Turns.{GlobalState}
 
 -- The session was finished so, with these transcripts: each answers the requests of its client's script, in order, and so does the one
 -- history of which they are.
-pub record HasPlayed (k : Start) (keeps : Bool) (scripts : List (List Op)) (tickets : ℕ) (lists : List (List Entry)) (sectors faults : ℕ) (now : Moments) (ended : Result (Unit {0}) CloseFault) : Type 0 where
-  pub finished : HasFinished k keeps tickets lists sectors faults now ended
+pub record HasPlayed (k : Start) (origin : Moments) (keeps : Bool) (scripts : List (List Op)) (tickets : ℕ) (lists : List (List Entry)) (sectors faults : ℕ) (now : Moments) (ended : Result (Unit {0}) CloseFault) : Type 0 where
+  pub finished : HasFinished k origin keeps tickets lists sectors faults now ended
   pub first : AnswerFirst scripts lists
   pub ordered : IsInOrder scripts finished.session.history
   pub all : AnswerAll scripts lists

@@ -48,6 +48,7 @@ impl<N: Naming, D: Disk, L: Ledger> Session<N, D, L> {
         requires parts { blank.parts ≡ L.parts }
         requires one { blank.parts ≡ 1 }
         requires mounted { (b : Beginning) × IsMounted b N.start (⟦<Store<D> as Door>⟧.store ready.store) ready.names (map value_of ready.files.items) (length scripts) workers }
+        requires origin { N.origin ≡ (⟦<Store<D> as Door>⟧.store ready.store).moments }
         requires sees { N.start.is_visible ≡ true → IsTrue D.visible }
         requires some { 0 < length scripts }
         ensures scripts { IfOk result (λ s. scripts_of s.participants.clients.items ≡ scripts) }
@@ -77,6 +78,7 @@ fn deal_all<N: Naming, D: Disk, L: Ledger>(
     requires parts { blank.parts ≡ L.parts }
     requires one { blank.parts ≡ 1 }
     requires mounted { (b : Beginning) × IsMounted b N.start (⟦<Store<D> as Door>⟧.store ready.store) ready.names (map value_of ready.files.items) (length room.rooms.items) (length room.pools.items) }
+    requires origin { N.origin ≡ (⟦<Store<D> as Door>⟧.store ready.store).moments }
     requires sees { N.start.is_visible ≡ true → IsTrue D.visible }
     requires few { length room.rooms.items ≤ 16 }
     requires places { (k : KnownFile) → Has k ready.files.items → fin.get room.home.places k.hand.file ≡ Some None }

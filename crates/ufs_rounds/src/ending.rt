@@ -67,7 +67,7 @@ fn finish_rest<N: Naming, D: Disk, L: Ledger>(
     requires back { AreBackHere N.start rest.names rest.home rest.pools rest.clients.items }
     ensures told { result.0 ≡ rest.told }
     ensures finished { (lists : List (List Entry)) → AreHome lists rest.clients.items
-        → HasFinished N.start D.keeps result.1.tickets lists (D.size result.1.disk) (D.faults result.1.disk) (D.moments result.1.disk) result.1.ended }
+        → HasFinished N.start N.origin D.keeps result.1.tickets lists (D.size result.1.disk) (D.faults result.1.disk) (D.moments result.1.disk) result.1.ended }
     ensures stopped { (fault : ℕ) → (result.1.ended ≡ Err (cause.Stopped fault)) ↔ (stop_in store.store ≡ Some fault) }
 {
     let AtRest {
@@ -106,7 +106,7 @@ impl<N: Naming, D: Disk, L: Ledger> Session<N, D, L> {
     fn end(self, alloc: Global) -> Played<D>
         requires start { (b : Beginning) × (s : StoreState) × (N.start ≡ start_first b s) }
         requires rest { IsAtRest self.participants.clients.items self.participants.primary }
-        ensures finished { HasFinished N.start D.keeps result.tickets (lists_of self.participants.clients.items) (D.size result.disk) (D.faults result.disk) (D.moments result.disk) result.ended }
+        ensures finished { HasFinished N.start N.origin D.keeps result.tickets (lists_of self.participants.clients.items) (D.size result.disk) (D.faults result.disk) (D.moments result.disk) result.ended }
         ensures told { map (λ t. entries_in t.items) result.told.items ≡ lists_of self.participants.clients.items }
         ensures stopped { (fault : ℕ) → (result.ended ≡ Err (cause.Stopped fault)) ↔ (stop_in self.store.store ≡ Some fault) }
     {
@@ -137,7 +137,7 @@ impl<N: Naming, D: Disk, L: Ledger> Session<N, D, L> {
     /// transcripts are those of one history, of which the disk keeps its promise. Else the session comes back, and may go on.
     pub fn finish(self, alloc: Global) -> Result<Played<D>, Session<N, D, L>>
         requires start { (b : Beginning) × (s : StoreState) × (N.start ≡ start_first b s) }
-        ensures finished { IfOk result (λ p. HasFinished N.start D.keeps p.tickets (lists_of self.participants.clients.items) (D.size p.disk) (D.faults p.disk) (D.moments p.disk) p.ended) }
+        ensures finished { IfOk result (λ p. HasFinished N.start N.origin D.keeps p.tickets (lists_of self.participants.clients.items) (D.size p.disk) (D.faults p.disk) (D.moments p.disk) p.ended) }
         ensures told { IfOk result (λ p. map (λ t. entries_in t.items) p.told.items ≡ lists_of self.participants.clients.items) }
         ensures stopped { IfOk result (λ p. (fault : ℕ) → (p.ended ≡ Err (cause.Stopped fault)) ↔ (stop_in self.store.store ≡ Some fault)) }
         ensures under_way { OnErr result (IsAtRest self.participants.clients.items self.participants.primary → ⊥) }
@@ -155,7 +155,7 @@ impl<N: Naming, D: Disk, L: Ledger> Session<N, D, L> {
     pub fn play(self, alloc: Global, schedule: &[Actor]) -> Result<Played<D>, Unended<N, D, L>>
         requires start { (b : Beginning) × (s : StoreState) × (N.start ≡ start_first b s) }
         requires there { AllByRecursion (IsThere N.start) schedule.now }
-        ensures played { IfOk result (λ p. HasPlayed N.start D.keeps (scripts_of self.participants.clients.items) p.tickets (map (λ t. entries_in t.items) p.told.items) (D.size p.disk) (D.faults p.disk) (D.moments p.disk) p.ended) }
+        ensures played { IfOk result (λ p. HasPlayed N.start N.origin D.keeps (scripts_of self.participants.clients.items) p.tickets (map (λ t. entries_in t.items) p.told.items) (D.size p.disk) (D.faults p.disk) (D.moments p.disk) p.ended) }
         ensures turns { IfOk result (λ p. IsPlayedOut N.start schedule.now (global_of self.participants (Some self.store)) (map (λ t. entries_in t.items) p.told.items)) }
         ensures under_way { IfErr result (λ u. IsAtRest u.session.participants.clients.items u.session.participants.primary → ⊥) }
         ensures so_far { IfErr result (λ u. IsPlayed N.start schedule.now (global_of self.participants (Some self.store)) (global_of u.session.participants (Some u.session.store)) (Err u.why)) }

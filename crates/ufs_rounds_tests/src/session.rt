@@ -67,6 +67,7 @@ fn session<N: Naming, D: Disk, L: Ledger, R: Abort + AllocGlobal>(
     requires parts { blank.parts ≡ L.parts }
     requires one { blank.parts ≡ 1 }
     requires mounted { (b : Beginning) × IsMounted b N.start (⟦<Store<D> as Door>⟧.store ready.store) ready.names (map value_of ready.files.items) (length scripts) workers }
+    requires origin { N.origin ≡ (⟦<Store<D> as Door>⟧.store ready.store).moments }
     requires sees { N.start.is_visible ≡ true → IsTrue D.visible }
     requires some { 0 < length scripts }
 {

@@ -4,6 +4,7 @@ use Rattle.std.specs.Prelude.{IsTrue}
 use Rattle.ufs_bitmap.specs.Space.{Space}
 use Rattle.ufs_bitmap.specs.Taking.{has}
 use Rattle.ufs_disk.specs.Disk.{IsWhole}
+use Rattle.ufs_disk.specs.Moments.{Moments}
 use Rattle.ufs_ledger.specs.Ledger.{IsDataBlock}
 use Rattle.ufs_name_tree.specs.NameTable.{IsNameTable}
 use Rattle.ufs_hand_laws.specs.Owned.{Has, each}
@@ -31,7 +32,7 @@ pub fresh_there : (k : Start) (n : ℕ) (v : View) (knows : Knows k n v) (cell :
 fresh_there k n v knows cell names block is =
     knows.around.server.inside TheNames block (inl (ap (λ (l : List ℕ). has l block) (knows.around.cells.names tt cell (here cell v names)).fresh ∙ is))
 
-module _ (k : Start) (visible keeps : Bool) (n : ℕ) (v w : View) (s t : StoreState) (knows : Knows k n v) (home : IsStoreIn k visible keeps v s) (begun : w ≡ begun_view v n) where
+module _ (k : Start) (origin : Moments) (visible keeps : Bool) (n : ℕ) (v w : View) (s t : StoreState) (knows : Knows k n v) (home : IsStoreIn k origin visible keeps v s) (begun : w ≡ begun_view v n) where
   abbrev was : StoreCell
   was = begun_at n (cell_of home.stamp home.past s)
 
@@ -45,7 +46,7 @@ module _ (k : Start) (visible keeps : Bool) (n : ℕ) (v w : View) (s t : StoreS
   passed = cond keeps (states_behind (begun_at n (cell_of home.stamp home.past s)).counted t) []
 
   begun_is : w ≡ u
-  begun_is = turning.begun_is k visible keeps n v w s t knows home begun
+  begun_is = turning.begun_is k origin visible keeps n v w s t knows home begun
 
   module _ (cell : NamesCell) (names : AreNamesIn cell v) (table : IsNameTable cell.value.tree) (whole_before : IsTrue visible → IsWhole s.sectors s.moments.state) (whole_behind : IsTrue visible → IsWhole t.sectors t.moments.state) where
     hand : IsNamesSyncHand k.is_visible u cell was
@@ -59,13 +60,13 @@ module _ (k : Start) (visible keeps : Bool) (n : ℕ) (v w : View) (s t : StoreS
 
     module _ (told : Option ℕ) (tried : HaveTried visible keeps s t cell.fresh cell.value.tree.noted told) where
       both : (seen : k.is_visible ≡ true) → ◌≡◌ {A = StoreState × StoreState} (s, t) (store_since s.moments.earlier was, store_since t.moments.earlier left)
-      both seen = λ i. (turning.before_is k visible keeps n v w s t knows home begun whole_before whole_behind tried.geometry tried.sectors seen i, turning.behind_is k visible keeps n v w s t knows home begun whole_before whole_behind tried.geometry tried.sectors seen i)
+      both seen = λ i. (turning.before_is k origin visible keeps n v w s t knows home begun whole_before whole_behind tried.geometry tried.sectors seen i, turning.behind_is k origin visible keeps n v w s t knows home begun whole_before whole_behind tried.geometry tried.sectors seen i)
 
       moments : k.is_visible ≡ true → LeavesNames keeps (store_since s.moments.earlier was) (store_since t.moments.earlier left) cell.fresh cell.value.tree.noted
       moments seen = subst (λ (q : StoreState × StoreState). LeavesNames keeps q.0 q.1 cell.fresh cell.value.tree.noted) (both seen) (tried.moments (home.sees seen))
 
       left_so : LeavesStore keeps k.is_visible was left s.moments.earlier t.moments.earlier passed (told_list (fault_told told))
-      left_so = turning.left_so k visible keeps n v w s t knows home begun whole_before whole_behind tried.geometry tried.sectors told tried.cause (λ n is. tried.stop ∙ ap (λ (q : Option ℕ). stop_after q told) is) (λ n is. turning.stop_from s.stop told n (sym tried.stop ∙ is))
+      left_so = turning.left_so k origin visible keeps n v w s t knows home begun whole_before whole_behind tried.geometry tried.sectors told tried.cause (λ n is. tried.stop ∙ ap (λ (q : Option ℕ). stop_after q told) is) (λ n is. turning.stop_from s.stop told n (sym tried.stop ∙ is))
 
     -- where it passed
     module _ (has : HavePassed visible keeps s t cell.fresh cell.value.tree.noted) where
@@ -92,8 +93,8 @@ module _ (k : Start) (visible keeps : Bool) (n : ℕ) (v w : View) (s t : StoreS
       pub commit_went : NamesCommitsGoOn → k.is_visible ≡ true → IsTrue keeps → WentOn s t
       unfolding commits
       commit_went law seen kept =
-          let b = turning.as_begun k visible keeps n v w s t knows home begun whole_before whole_behind has.tried.geometry has.tried.sectors seen in
-          turning.went k visible keeps n v w s t knows home begun whole_before whole_behind has.tried.geometry has.tried.sectors seen
+          let b = turning.as_begun k origin visible keeps n v w s t knows home begun whole_before whole_behind has.tried.geometry has.tried.sectors seen in
+          turning.went k origin visible keeps n v w s t knows home begun whole_before whole_behind has.tried.geometry has.tried.sectors seen
           (law k.geometry keeps k.is_visible u cell was left passed home.formed hand commits seen kept k.tree b.0 b.1 b.2 b.3)
 
     -- where it didn't
@@ -120,8 +121,8 @@ module _ (k : Start) (visible keeps : Bool) (n : ℕ) (v w : View) (s t : StoreS
       pub failure_went : NamesFailuresGoOn → k.is_visible ≡ true → IsTrue keeps → WentOn s t
       unfolding fails
       failure_went law seen kept =
-          let b = turning.as_begun k visible keeps n v w s t knows home begun whole_before whole_behind has.tried.geometry has.tried.sectors seen in
-          turning.went k visible keeps n v w s t knows home begun whole_before whole_behind has.tried.geometry has.tried.sectors seen
+          let b = turning.as_begun k origin visible keeps n v w s t knows home begun whole_before whole_behind has.tried.geometry has.tried.sectors seen in
+          turning.went k origin visible keeps n v w s t knows home begun whole_before whole_behind has.tried.geometry has.tried.sectors seen
           (law k.geometry keeps k.is_visible u cell was left passed (told_list (fault_told told)) home.formed hand fails seen kept k.tree b.0 b.1 b.2 b.3)
 
   -- ---- what the hand has then
@@ -136,8 +137,8 @@ module _ (k : Start) (visible keeps : Bool) (n : ℕ) (v w : View) (s t : StoreS
     pub stop_then : z.stop ≡ t.stop
     stop_then = ap (λ (q : View). q.stop) ended_is
 
-    pub store_then : geometry_of_store t ≡ geometry_of_store s → t.sectors ≡ s.sectors → (k.is_visible ≡ true → IsTrue keeps → WentOn s t) → IsStoreIn k visible keeps z t
-    store_then geometry sectors on = turning.store_then k visible keeps n v w s t knows home begun m z (ap (λ (q : View). q.store) ended_is) geometry sectors on
+    pub store_then : geometry_of_store t ≡ geometry_of_store s → t.sectors ≡ s.sectors → (k.is_visible ≡ true → IsTrue keeps → WentOn s t) → IsStoreIn k origin visible keeps z t
+    store_then geometry sectors on = turning.store_then k origin visible keeps n v w s t knows home begun m z (ap (λ (q : View). q.store) ended_is) geometry sectors on
 
     pub beside_then : v.seen ≤ n → w.seen ≤ m → IsBeside v z
     beside_then a b = record {

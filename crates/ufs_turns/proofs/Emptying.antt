@@ -3,7 +3,7 @@ use Rattle.std.proofs.Common.{◌≡◌, ◌≤◌, ◌⊎◌, ◌++◌, ℕ, Bo
 use Rattle.std.specs.Prelude.{IsTrue}
 use Rattle.ufs_bitmap.specs.Space.{Space}
 use Rattle.ufs_disk.specs.Disk.{IsWhole}
-use Rattle.ufs_disk.specs.Moments.{LeavesOnly}
+use Rattle.ufs_disk.specs.Moments.{LeavesOnly, Moments}
 use Rattle.ufs_ledger.specs.Ledger.{Ledger}
 use Rattle.ufs_hand_laws.specs.Parts.{Cells, Stretch}
 use Rattle.ufs_store.specs.Ledgers.{HasLedger, IsLeftByAny, beginning_next}
@@ -21,7 +21,7 @@ use Rattle.ufs_turns.specs.Syncs.{HasMade}
 use Rattle.ufs_turns.specs.Told.{fault_told, told_list}
 use Rattle.ufs_turns.proofs.Turning as turning
 
-module _ (k : Start) (visible keeps : Bool) (n : ℕ) (v w : View) (s t : StoreState) (knows : Knows k n v) (home : IsStoreIn k visible keeps v s) (begun : w ≡ begun_view v n) where
+module _ (k : Start) (origin : Moments) (visible keeps : Bool) (n : ℕ) (v w : View) (s t : StoreState) (knows : Knows k n v) (home : IsStoreIn k origin visible keeps v s) (begun : w ≡ begun_view v n) where
   abbrev was : StoreCell
   was = begun_at n (cell_of home.stamp home.past s)
 
@@ -35,7 +35,7 @@ module _ (k : Start) (visible keeps : Bool) (n : ℕ) (v w : View) (s t : StoreS
   passed = cond keeps (states_behind (begun_at n (cell_of home.stamp home.past s)).counted t) []
 
   begun_is : w ≡ u
-  begun_is = turning.begun_is k visible keeps n v w s t knows home begun
+  begun_is = turning.begun_is k origin visible keeps n v w s t knows home begun
 
   module _ (files : v.files ≡ []) (names : v.names ≡ []) (whole_before : IsTrue visible → IsWhole s.sectors s.moments.state) (whole_behind : IsTrue visible → IsWhole t.sectors t.moments.state) (told : Option ℕ) (has : HasMade visible keeps s t told) where
     makes : MakesCheckpoint keeps k.is_visible was left passed (told_list (fault_told told))
@@ -45,11 +45,11 @@ module _ (k : Start) (visible keeps : Bool) (n : ℕ) (v w : View) (s t : StoreS
       made = λ seen. subst (λ (q : StoreState × StoreState). (q.1 ≡ q.0) ⊎ ((q.0.stop ≡ None) × HasBegunAnew q.0 q.1)) (both seen) (has.made (home.sees seen));
       crash = λ seen. subst (λ (q : StoreState × StoreState). (l : Ledger) → HasLedger q.0 l → LeavesOnly keeps (IsLeftByAny q.0.sectors (l ∷ beginning_next q.0 l ∷ [])) q.0.moments q.1.moments) (both seen) (has.crash (home.sees seen));
       unassigned = ap (λ (q : Space). q.free) has.unassigned;
-      left_so = turning.left_so k visible keeps n v w s t knows home begun whole_before whole_behind has.geometry has.sectors told has.cause (λ n is. has.stop ∙ ap (λ (q : Option ℕ). stop_after q told) is) (λ n is. turning.stop_from s.stop told n (sym has.stop ∙ is));
+      left_so = turning.left_so k origin visible keeps n v w s t knows home begun whole_before whole_behind has.geometry has.sectors told has.cause (λ n is. has.stop ∙ ap (λ (q : Option ℕ). stop_after q told) is) (λ n is. turning.stop_from s.stop told n (sym has.stop ∙ is));
     }
       where
         both : (seen : k.is_visible ≡ true) → ◌≡◌ {A = StoreState × StoreState} (s, t) (store_since s.moments.earlier was, store_since t.moments.earlier left)
-        both seen = λ i. (turning.before_is k visible keeps n v w s t knows home begun whole_before whole_behind has.geometry has.sectors seen i, turning.behind_is k visible keeps n v w s t knows home begun whole_before whole_behind has.geometry has.sectors seen i)
+        both seen = λ i. (turning.before_is k origin visible keeps n v w s t knows home begun whole_before whole_behind has.geometry has.sectors seen i, turning.behind_is k origin visible keeps n v w s t knows home begun whole_before whole_behind has.geometry has.sectors seen i)
 
     hand : IsBareHand u was
     hand = record { files = files; names = names; store = refl }
@@ -61,8 +61,8 @@ module _ (k : Start) (visible keeps : Bool) (n : ℕ) (v w : View) (s t : StoreS
     pub checkpoint_went : CheckpointsGoOn k.geometry → k.is_visible ≡ true → IsTrue keeps → WentOn s t
     unfolding makes
     checkpoint_went law seen kept =
-        let b = turning.as_begun k visible keeps n v w s t knows home begun whole_before whole_behind has.geometry has.sectors seen in
-        turning.went k visible keeps n v w s t knows home begun whole_before whole_behind has.geometry has.sectors seen
+        let b = turning.as_begun k origin visible keeps n v w s t knows home begun whole_before whole_behind has.geometry has.sectors seen in
+        turning.went k origin visible keeps n v w s t knows home begun whole_before whole_behind has.geometry has.sectors seen
         (law keeps k.is_visible u was left passed (told_list (fault_told told)) home.formed hand makes seen kept k.tree b.0 b.1 b.2 b.3)
 
   -- ---- what the hand has then
@@ -83,8 +83,8 @@ module _ (k : Start) (visible keeps : Bool) (n : ℕ) (v w : View) (s t : StoreS
     pub names_then : z.names ≡ []
     names_then = ap (λ (q : View). q.names) ended_is
 
-    pub store_then : geometry_of_store t ≡ geometry_of_store s → t.sectors ≡ s.sectors → (k.is_visible ≡ true → IsTrue keeps → WentOn s t) → IsStoreIn k visible keeps z t
-    store_then geometry sectors on = turning.store_then k visible keeps n v w s t knows home begun m z (ap (λ (q : View). q.store) ended_is) geometry sectors on
+    pub store_then : geometry_of_store t ≡ geometry_of_store s → t.sectors ≡ s.sectors → (k.is_visible ≡ true → IsTrue keeps → WentOn s t) → IsStoreIn k origin visible keeps z t
+    store_then geometry sectors on = turning.store_then k origin visible keeps n v w s t knows home begun m z (ap (λ (q : View). q.store) ended_is) geometry sectors on
 
     pub beside_then : v.seen ≤ n → w.seen ≤ m → IsBeside v z
     beside_then a b = record {

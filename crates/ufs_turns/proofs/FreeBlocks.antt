@@ -2,6 +2,7 @@
 use Rattle.std.proofs.Common.{◌≡◌, ◌≤◌, ℕ, Bool, List, Option, None, Some, Result, Ok, Err, sym, ap, ◌∙◌, subst, arith}
 use Rattle.std.specs.Prelude.{OnOk}
 use Rattle.ufs_bitmap.specs.Blocks.{BlockSet}
+use Rattle.ufs_disk.specs.Moments.{Moments}
 use Rattle.ufs_hand_laws.specs.Parts.{Stretch}
 use Rattle.ufs_joint.specs.Cells.{Start, StoreCell, View}
 use Rattle.ufs_joint.specs.Disks.{cell_of}
@@ -14,11 +15,11 @@ use Rattle.ufs_store.specs.declared.fault.StoreFault.{StoreFault}
 use Rattle.ufs_turns.specs.HeldStore.{HasStoreAlone, IsHeldStore}
 use Rattle.ufs_turns.specs.Lent.{GainsBlocks, HasRun, RunIn, free_in, stop_in}
 
-module _ (k : Start) (visible keeps : Bool) (v w u : View) (s : StoreState) (home : IsHeldStore k visible keeps v s) (seen : v ≡ u) (cell : StoreCell) (back : HasStoreAlone cell w) (so : BlockSet → BlockSet → Type 0) where
+module _ (k : Start) (origin : Moments) (visible keeps : Bool) (v w u : View) (s : StoreState) (home : IsHeldStore k origin visible keeps v s) (seen : v ≡ u) (cell : StoreCell) (back : HasStoreAlone cell w) (so : BlockSet → BlockSet → Type 0) where
   pub in_cells : so s.unassigned.free cell.unassigned.free → so (free_in u.store) (free_in w.store)
   in_cells is = subst (λ (x : BlockSet × BlockSet). so x.0 x.1) (λ i. (sym (ap (λ (q : View). free_in q.store) (sym seen) ∙ ap free_in home.store.has) i, sym (ap free_in back.store) i)) is
 
-module _ (k : Start) (visible keeps : Bool) (v w u : View) (s : StoreState) (home : IsHeldStore k visible keeps v s) (seen : v ≡ u) where
+module _ (k : Start) (origin : Moments) (visible keeps : Bool) (v w u : View) (s : StoreState) (home : IsHeldStore k origin visible keeps v s) (seen : v ≡ u) where
   pub stop_before : stop_in u.store ≡ s.stop
   stop_before = ap (λ (q : View). stop_in q.store) (sym seen) ∙ ap stop_in home.store.has
 

@@ -4,6 +4,7 @@ use Rattle.std.specs.FinSet as set
 use Rattle.ufs_bitmap.specs.Blocks.{BlockSet}
 use Rattle.ufs_bitmap.specs.Space.{Space}
 use Rattle.ufs_bitmap.proofs.SetLemmas.{has-difference, has-empty, has-union}
+use Rattle.ufs_disk.specs.Moments.{Moments}
 use Rattle.ufs_layout.specs.Areas.{first_of_data}
 use Rattle.ufs_layout.specs.declared.geometry.Geometry.{Geometry}
 use Rattle.ufs_hand_laws.specs.Owned.{Has, count, each}
@@ -109,7 +110,7 @@ none_there b c is = (let clash : true ≡ false = sym is ∙ has-empty b in absu
 
 -- ---- once they have moved
 
-module _ (k : Start) (visible keeps : Bool) (m : ℕ) (v w z : View) (s t : StoreState) (home : IsStoreIn k visible keeps v s) (looked : w ≡ looked_at v m) (name : ℕ) (had pool : BlockSet) (pools : v.pools ≡ (name, had) ∷ [])
+module _ (k : Start) (origin : Moments) (visible keeps : Bool) (m : ℕ) (v w z : View) (s t : StoreState) (home : IsStoreIn k origin visible keeps v s) (looked : w ≡ looked_at v m) (name : ℕ) (had pool : BlockSet) (pools : v.pools ≡ (name, had) ∷ [])
     (rest : t ≡ record s { unassigned = record (s.unassigned) { free = t.unassigned.free } }) (moved : z ≡ moved_view pool t w) where
   abbrev was : StoreCell
   was = cell_of home.stamp home.past s
@@ -126,14 +127,15 @@ module _ (k : Start) (visible keeps : Bool) (m : ℕ) (v w z : View) (s t : Stor
   pub pools_then : z.pools ≡ (name, pool) ∷ []
   pools_then = ap (λ (q : View). q.pools) moved_is
 
-  pub store_then : IsStoreIn k visible keeps z t
-  store_then = subst (IsStoreIn k visible keeps z) (sym rest) (record {
+  pub store_then : IsStoreIn k origin visible keeps z t
+  store_then = subst (IsStoreIn k origin visible keeps z) (sym rest) (record {
     stamp = home.stamp;
     past = home.past;
     has = ap (λ (q : View). q.store) moved_is;
     sees = home.sees;
     formed = home.formed;
     size = home.size;
+    grown = home.grown;
     since = home.since;
     covers = home.covers;
     passes = home.passes;

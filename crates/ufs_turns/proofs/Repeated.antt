@@ -57,7 +57,7 @@ ends_mapped f more y z (inr e) = inr (map f e.0, ap (map f) e.1 ∙ map-append f
 
 -- ---- what stands behind
 
-behind : {A : Type 0} → List A → List A
+abbrev behind : {A : Type 0} → List A → List A
 behind [] = []
 behind (x ∷ xs) = xs
 

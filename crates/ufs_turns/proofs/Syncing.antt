@@ -22,7 +22,7 @@ use Rattle.ufs_joint.specs.Whole.{HasFileCell}
 use Rattle.ufs_joint.proofs.Disks.{drop_behind, store_as_cell}
 use Rattle.ufs_joint.proofs.OneFile.{durable_is}
 use Rattle.ufs_disk.specs.Disk.{IsWhole}
-use Rattle.ufs_disk.specs.Moments.{all}
+use Rattle.ufs_disk.specs.Moments.{Moments, all}
 use Rattle.ufs_promise_laws.specs.Fetches.{IsFetched, IsNotedOn}
 use Rattle.ufs_promise_laws.specs.Syncs.{HasFailed, HasSynced, HasWritten, LeavesStages}
 use Rattle.ufs_hand_laws.specs.Owned.{each}
@@ -121,7 +121,7 @@ told_is_same None o some none = ⊎_elim (λ is. sym (ap fault_told is)) (λ is.
 
 -- ---- the turn's end
 
-module _ (k : Start) (visible keeps : Bool) (n : ℕ) (v w : View) (s t : StoreState) (knows : Knows k n v) (name : ℕ) (cell : FileCell) (file : IsFileIn name cell v) (home : IsStoreIn k visible keeps v s) (begun : w ≡ begun_view v n) where
+module _ (k : Start) (origin : Moments) (visible keeps : Bool) (n : ℕ) (v w : View) (s t : StoreState) (knows : Knows k n v) (name : ℕ) (cell : FileCell) (file : IsFileIn name cell v) (home : IsStoreIn k origin visible keeps v s) (begun : w ≡ begun_view v n) where
   -- the store's cell before the turn
   abbrev c : StoreCell
   c = cell_of home.stamp home.past s
@@ -143,7 +143,7 @@ module _ (k : Start) (visible keeps : Bool) (n : ℕ) (v w : View) (s t : StoreS
   passed = cond keeps (states_behind (begun_at n (cell_of home.stamp home.past s)).counted t) []
 
   begun_is : w ≡ u
-  begun_is = turning.begun_is k visible keeps n v w s t knows home begun
+  begun_is = turning.begun_is k origin visible keeps n v w s t knows home begun
 
   has_file : Has (name, cell) v.files
   has_file = subst (Has (name, cell)) (sym file.files) (inl refl)
@@ -161,20 +161,20 @@ module _ (k : Start) (visible keeps : Bool) (n : ℕ) (v w : View) (s t : StoreS
 
   module _ (whole_before : IsTrue visible → IsWhole s.sectors s.moments.state) (whole_behind : IsTrue visible → IsWhole t.sectors t.moments.state) (geometry : geometry_of_store t ≡ geometry_of_store s) (sectors : t.sectors ≡ s.sectors) where
     before_is : k.is_visible ≡ true → s ≡ store_since s.moments.earlier was
-    before_is = turning.before_is k visible keeps n v w s t knows home begun whole_before whole_behind geometry sectors
+    before_is = turning.before_is k origin visible keeps n v w s t knows home begun whole_before whole_behind geometry sectors
 
     behind_is : k.is_visible ≡ true → t ≡ store_since t.moments.earlier left
-    behind_is = turning.behind_is k visible keeps n v w s t knows home begun whole_before whole_behind geometry sectors
+    behind_is = turning.behind_is k origin visible keeps n v w s t knows home begun whole_before whole_behind geometry sectors
 
     left_so : (told : Option ℕ) → IsTold s.faults t.faults told → ((n : ℕ) → s.stop ≡ Some n → t.stop ≡ Some n) → ((n : ℕ) → t.stop ≡ Some n → (s.stop ≡ Some n) ⊎ (told ≡ Some n)) → LeavesStore keeps k.is_visible was left s.moments.earlier t.moments.earlier passed (told_list (fault_told told))
-    left_so = turning.left_so k visible keeps n v w s t knows home begun whole_before whole_behind geometry sectors
+    left_so = turning.left_so k origin visible keeps n v w s t knows home begun whole_before whole_behind geometry sectors
 
     -- as the turn begins, of a visible disk
     as_begun : (seen : k.is_visible ≡ true) → (history : List Entry) × (p : Parts) × (known : Known) × IsAsBegun u was k.tree history p known
-    as_begun = turning.as_begun k visible keeps n v w s t knows home begun whole_before whole_behind geometry sectors
+    as_begun = turning.as_begun k origin visible keeps n v w s t knows home begun whole_before whole_behind geometry sectors
 
     went : k.is_visible ≡ true → WentOn (store_since s.moments.earlier was) (store_since t.moments.earlier left) → WentOn s t
-    went = turning.went k visible keeps n v w s t knows home begun whole_before whole_behind geometry sectors
+    went = turning.went k origin visible keeps n v w s t knows home begun whole_before whole_behind geometry sectors
 
     -- where blocks of the file were read
     module _ (y : DurableState) (told : Option ℕ) (cause : IsTold s.faults t.faults told) (has : IsFetched visible keeps s t cell.value.file y.file) (further : IsFurther cell.value.file y.file) (rest : y ≡ record (cell.value) { file = y.file }) where
@@ -306,8 +306,8 @@ module _ (k : Start) (visible keeps : Bool) (n : ℕ) (v w : View) (s t : StoreS
     pub names_are : z.names ≡ []
     names_are = ap (λ (q : View). q.names) ended_is ∙ file.names
 
-    pub store_then : geometry_of_store t ≡ geometry_of_store s → t.sectors ≡ s.sectors → (k.is_visible ≡ true → IsTrue keeps → WentOn s t) → IsStoreIn k visible keeps z t
-    store_then geometry sectors on = turning.store_then k visible keeps n v w s t knows home begun m z (ap (λ (q : View). q.store) ended_is) geometry sectors on
+    pub store_then : geometry_of_store t ≡ geometry_of_store s → t.sectors ≡ s.sectors → (k.is_visible ≡ true → IsTrue keeps → WentOn s t) → IsStoreIn k origin visible keeps z t
+    store_then geometry sectors on = turning.store_then k origin visible keeps n v w s t knows home begun m z (ap (λ (q : View). q.store) ended_is) geometry sectors on
 
     pub beside_then : v.seen ≤ n → w.seen ≤ m → IsBeside v z
     beside_then a b = record {

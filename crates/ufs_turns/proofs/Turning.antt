@@ -4,8 +4,8 @@ use Rattle.std.specs.Prelude.{Err, IsTrue, Result, drop}
 use native.Mathlib.Decide.{dec_le}
 use Rattle.std.proofs.lemmas.Bool.{leb-false}
 use Rattle.std.proofs.lemmas.List.{append_assoc, length-append, map-append}
-use Rattle.ufs_disk.specs.Disk.{IsWhole}
-use Rattle.ufs_disk.specs.Moments.{all}
+use Rattle.ufs_disk.specs.Disk.{IsWhole, State}
+use Rattle.ufs_disk.specs.Moments.{Moments, all}
 use Rattle.ufs_model.specs.declared.data.Entry.{Entry}
 use Rattle.ufs_hand_laws.specs.Owned.{Has, one, times}
 use Rattle.ufs_hand_laws.specs.Parts.{Cells, Stretch}
@@ -113,7 +113,7 @@ all_noted keeps kept xs = ap (λ (b : Bool). cond b xs []) kept
 
 -- ---- between the marks
 
-module _ (k : Start) (visible keeps : Bool) (n : ℕ) (v w : View) (s t : StoreState) (knows : Knows k n v) (home : IsStoreIn k visible keeps v s) (begun : w ≡ begun_view v n) where
+module _ (k : Start) (origin : Moments) (visible keeps : Bool) (n : ℕ) (v w : View) (s t : StoreState) (knows : Knows k n v) (home : IsStoreIn k origin visible keeps v s) (begun : w ≡ begun_view v n) where
   -- the store's cell before the turn
   abbrev c : StoreCell
   c = cell_of home.stamp home.past s
@@ -180,7 +180,7 @@ module _ (k : Start) (visible keeps : Bool) (n : ℕ) (v w : View) (s t : StoreS
 
   -- the store's cell is the store again, behind what the turn passed
   pub store_then : (m : ℕ) (z : View) → z.store ≡ (tt, cell_of n (record { states = cond keeps (states_behind (length (all s.moments)) t) []; from = n; to = m } ∷ rested n (cell_of home.stamp home.past s) ∷ home.past) t) ∷ [] → geometry_of_store t ≡ geometry_of_store s → t.sectors ≡ s.sectors → (k.is_visible ≡ true → IsTrue keeps → WentOn s t)
-      → IsStoreIn k visible keeps z t
+      → IsStoreIn k origin visible keeps z t
   store_then m z has_store geometry sectors on = record {
     stamp = n;
     past = ran m ∷ past;
@@ -188,6 +188,7 @@ module _ (k : Start) (visible keeps : Bool) (n : ℕ) (v w : View) (s t : StoreS
     sees = home.sees;
     formed = geometry ∙ home.formed;
     size = sectors ∙ home.size;
+    grown = λ seen kept. (let a = home.grown seen kept in let b = on seen kept in (a.0 ++ b.0, b.1 ∙ ap (λ (q : List State). q ++ b.0) a.1 ∙ append_assoc (all origin) a.0 b.0));
     since = λ seen kept. (let a = home.since seen kept in let b = ap length (on seen kept).1 in let d = length-append (all s.moments) (on seen kept).0 in omega (arith, a, b, d));
     covers = covers;
     passes = passes;

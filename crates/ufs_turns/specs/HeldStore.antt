@@ -1,7 +1,8 @@
 -- What lies under the lock: the store, and the hand of the store's cell, which goes with it.
 use Rattle.std.specs.Prelude.{ℕ, ◌≡◌, ◌≤◌, ◌⊎◌, ◌++◌, Bool, IsTrue, true, cond, List, [], ◌∷◌, length, Option}
 use Rattle.ufs_bitmap.specs.Blocks.{BlockSet}
-use Rattle.ufs_disk.specs.Moments.{all}
+use Rattle.ufs_disk.specs.Disk.{State}
+use Rattle.ufs_disk.specs.Moments.{Moments, all}
 use Rattle.ufs_file_commits.specs.State.{DurableState}
 use Rattle.ufs_joint.specs.Cells.{FileCell, Start, StoreCell, View}
 use Rattle.ufs_joint.specs.Checkpoints.{checkpoint_turn}
@@ -64,24 +65,25 @@ abbrev pub states_in : List Stretch → List Cells
 states_in [] = []
 states_in (y ∷ past) = states_in past ++ y.states
 
--- The store's cell, which the hand has, is this store. Of a visible disk that keeps its moments the stretches have each state that it was
+-- The store's cell, which the hand has, is this store, whose disk went on from the states of the beginning. Of a visible disk that keeps its moments the stretches have each state that it was
 -- in since the session began, but for the one that it is in, in the order of time: one stands more than once where turns began in it.
-pub record IsStoreIn (k : Start) (visible keeps : Bool) (v : View) (s : StoreState) : Type 0 where
+pub record IsStoreIn (k : Start) (origin : Moments) (visible keeps : Bool) (v : View) (s : StoreState) : Type 0 where
   pub stamp : ℕ
   pub past : List Stretch
   pub has : v.store ≡ (tt, cell_of stamp past s) ∷ []
   pub sees : k.is_visible ≡ true → IsTrue visible
   pub formed : geometry_of_store s ≡ k.geometry
   pub size : s.sectors ≡ sectors_in k.view.store
+  pub grown : k.is_visible ≡ true → IsTrue keeps → (inside : List State) × (all s.moments ≡ all origin ++ inside)
   pub since : k.is_visible ≡ true → IsTrue keeps → counted_in k.view.store ≤ length (all s.moments)
   pub covers : k.is_visible ≡ true → IsTrue keeps → (x : Cells) → Has x (states_behind (counted_in k.view.store) s) → (x ≡ cells_of s.sectors s.moments.state) ⊎ IsPassed x past
   pub passes : k.is_visible ≡ true → IsTrue keeps → AreRepeated (state_in k.view.store ++ states_behind (counted_in k.view.store) s) (states_in past ++ cells_of s.sectors s.moments.state ∷ [])
 
 -- What is known each time that the lock is taken: the hand has the store's cell alone.
-pub record IsHeldStore (k : Start) (visible keeps : Bool) (v : View) (s : StoreState) : Type 0 where
+pub record IsHeldStore (k : Start) (origin : Moments) (visible keeps : Bool) (v : View) (s : StoreState) : Type 0 where
   pub cell : StoreCell
   pub alone : HasStoreAlone cell v
-  pub store : IsStoreIn k visible keeps v s
+  pub store : IsStoreIn k origin visible keeps v s
 
 -- ---- what a turn leaves
 

@@ -97,9 +97,9 @@ pub(crate) fn commit_lent<N: Naming, D: Door>(
     fresh: &mut Vec<u32>,
 ) -> Result<(), StoreFault>
     requires plain { D.stamps → ⊥ }
-    requires store { IsStoreIn N.start D.visible D.keeps hand.old (D.store store.old) }
+    requires store { IsStoreIn N.start N.origin D.visible D.keeps hand.old (D.store store.old) }
     requires names { (cell : NamesCell) × AreNamesIn cell hand.old × (cell.value ≡ names.old) × (cell.fresh ≡ fresh.old.items) }
-    ensures store { IsStoreIn N.start D.visible D.keeps hand.new (D.store store.new) }
+    ensures store { IsStoreIn N.start N.origin D.visible D.keeps hand.new (D.store store.new) }
     ensures ok { OnOk result ((cell : NamesCell) → AreNamesIn cell hand.old → HaveCommitted N.start.is_visible cell hand.new) }
     ensures err { OnErr result ((cell : NamesCell) → AreNamesIn cell hand.old → AreNamesIn cell hand.new) }
     ensures beside { IsBeside hand.old hand.new }

@@ -54,13 +54,13 @@ impl<N: Naming, D: Door, L: Ledger> Model for HeldStore<N, D, L> {
 
     ghost view = { λ h. h.hand };
 
-    ghost invariant = { λ h. (D.stamps → ⊥) × IsHeldStore N.start D.visible D.keeps h.hand (D.store h.store) };
+    ghost invariant = { λ h. (D.stamps → ⊥) × IsHeldStore N.start N.origin D.visible D.keeps h.hand (D.store h.store) };
 }
 
 impl<N: Naming, D: Door, L: Ledger> HeldStore<N, D, L> {
     pub fn new(hand: Hand<N>, store: D, book: Book<L>) -> HeldStore<N, D, L>
         requires plain { D.stamps → ⊥ }
-        requires home { IsHeldStore N.start D.visible D.keeps hand (D.store store) }
+        requires home { IsHeldStore N.start N.origin D.visible D.keeps hand (D.store store) }
         ensures { result ≡ hand }
     {
         HeldStore { hand, store, book }
@@ -69,7 +69,7 @@ impl<N: Naming, D: Door, L: Ledger> HeldStore<N, D, L> {
     /// Ends the turns.
     pub fn into_parts(self) -> (Hand<N>, D)
         ensures hand { result.0 ≡ self }
-        ensures home { IsHeldStore N.start D.visible D.keeps result.0 (D.store result.1) }
+        ensures home { IsHeldStore N.start N.origin D.visible D.keeps result.0 (D.store result.1) }
     {
         let HeldStore { hand, store, .. } = self;
         (hand, store)
@@ -312,9 +312,9 @@ fn fetch_lent<N: Naming, D: Door>(
     op: &Op,
     desc: Desc,
 ) -> Result<(), StoreFault>
-    requires store { IsStoreIn N.start D.visible D.keeps hand.old (D.store store.old) }
+    requires store { IsStoreIn N.start N.origin D.visible D.keeps hand.old (D.store store.old) }
     requires file { (name : ℕ) × (cell : FileCell) × IsFileIn name cell hand.old × (cell.value ≡ state_of file.old commits.now) }
-    ensures store { IsStoreIn N.start D.visible D.keeps hand.new (D.store store.new) }
+    ensures store { IsStoreIn N.start N.origin D.visible D.keeps hand.new (D.store store.new) }
     ensures file { (name : ℕ) (cell : FileCell) → IsFileIn name cell hand.old → IsFileIn name (record cell { value = state_of file.new commits.now }) hand.new }
     ensures there { OnOk result (HasNeeded file.new.content desc op.now) }
     ensures read { IsReadOn file.old file.new }
@@ -348,9 +348,9 @@ fn sync_lent<N: Naming, D: Door>(
     commits: &mut FileCommits,
 ) -> Result<u64, StoreFault>
     requires plain { D.stamps → ⊥ }
-    requires store { IsStoreIn N.start D.visible D.keeps hand.old (D.store store.old) }
+    requires store { IsStoreIn N.start N.origin D.visible D.keeps hand.old (D.store store.old) }
     requires file { (name : ℕ) × (cell : FileCell) × IsFileIn name cell hand.old × (cell.value ≡ state_of file.old commits.old) × (cell.born ≡ true) }
-    ensures store { IsStoreIn N.start D.visible D.keeps hand.new (D.store store.new) }
+    ensures store { IsStoreIn N.start N.origin D.visible D.keeps hand.new (D.store store.new) }
     ensures ok { OnOk result ((name : ℕ) (cell : FileCell) → IsFileIn name cell hand.old → HasCommitted N.start.is_visible name cell (state_of file.new commits.new) hand.new) }
     ensures err { OnErr result ((name : ℕ) (cell : FileCell) → IsFileIn name cell hand.old → cell.value ≡ state_of file.old commits.old → IsFileIn name cell hand.new) }
     ensures beside { IsBeside hand.old hand.new }

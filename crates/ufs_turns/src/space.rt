@@ -27,10 +27,10 @@ pub(crate) fn checkpoint_lent<N: Naming, D: Door>(
     store: &mut D,
 ) -> Result<(), StoreFault>
     requires plain { D.stamps → ⊥ }
-    requires store { IsStoreIn N.start D.visible D.keeps hand.old (D.store store.old) }
+    requires store { IsStoreIn N.start N.origin D.visible D.keeps hand.old (D.store store.old) }
     requires files { hand.old.files ≡ [] }
     requires names { hand.old.names ≡ [] }
-    ensures store { IsStoreIn N.start D.visible D.keeps hand.new (D.store store.new) }
+    ensures store { IsStoreIn N.start N.origin D.visible D.keeps hand.new (D.store store.new) }
     ensures room { OnOk result ((D.store store.new).journal.used ≡ 0) }
     ensures free { (D.store store.new).unassigned.free ≡ (D.store store.old).unassigned.free }
     ensures files { hand.new.files ≡ [] }
@@ -82,9 +82,9 @@ pub(crate) fn give_lent<N: Naming, D: Door>(
     pool: &mut Pool,
     missing: u32,
 ) -> Result<(), StoreFault>
-    requires store { IsStoreIn N.start D.visible D.keeps hand.old (D.store store.old) }
+    requires store { IsStoreIn N.start N.origin D.visible D.keeps hand.old (D.store store.old) }
     requires pool { (name : ℕ) × (hand.old.pools ≡ (name, pool.old) ∷ []) }
-    ensures store { IsStoreIn N.start D.visible D.keeps hand.new (D.store store.new) }
+    ensures store { IsStoreIn N.start N.origin D.visible D.keeps hand.new (D.store store.new) }
     ensures pool { (name : ℕ) → hand.old.pools ≡ (name, pool.old) ∷ [] → hand.new.pools ≡ (name, pool.new) ∷ [] }
     ensures beside { IsBesidePools hand.old hand.new }
     ensures ran { HasRun None 0 0 (D.store store.old) (D.store store.new) }
@@ -108,9 +108,9 @@ pub(crate) fn take_lent<N: Naming, D: Door>(
     store: &mut D,
     pool: &mut Pool,
 )
-    requires store { IsStoreIn N.start D.visible D.keeps hand.old (D.store store.old) }
+    requires store { IsStoreIn N.start N.origin D.visible D.keeps hand.old (D.store store.old) }
     requires pool { (name : ℕ) × (hand.old.pools ≡ (name, pool.old) ∷ []) }
-    ensures store { IsStoreIn N.start D.visible D.keeps hand.new (D.store store.new) }
+    ensures store { IsStoreIn N.start N.origin D.visible D.keeps hand.new (D.store store.new) }
     ensures pool { (name : ℕ) → hand.old.pools ≡ (name, pool.old) ∷ [] → hand.new.pools ≡ (name, pool.new) ∷ [] }
     ensures beside { IsBesidePools hand.old hand.new }
     ensures ran { HasRun None 0 0 (D.store store.old) (D.store store.new) }

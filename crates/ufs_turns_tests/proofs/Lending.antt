@@ -5,6 +5,7 @@ use Rattle.std.specs.Ordering.{nat_cmp}
 use Rattle.std.specs.FinMap as fin
 use Rattle.std.specs.FinSet as set
 use Rattle.ufs_bitmap.specs.Blocks.{BlockSet}
+use Rattle.ufs_disk.specs.Moments.{Moments}
 use Rattle.ufs_model.specs.PosixTree.{root_alone}
 use Rattle.ufs_model.specs.declared.data.PartName.TheVariants.{File, Store}
 use Rattle.ufs_names.specs.NamesPart.{IsNamesPart, NamesPart}
@@ -25,11 +26,11 @@ blind : false ≡ true → ⊥
 blind e = cc
 
 module _ (n : NamesPart) (s : StoreState) where
-  pub held : (visible keeps : Bool) → geometry_of_store s ≡ small → IsHeldStore (small_start n s) visible keeps (given_of Store (small_view n s)) s
-  held visible keeps formed = record {
+  pub held : (origin : Moments) (visible keeps : Bool) → geometry_of_store s ≡ small → IsHeldStore (small_start n s) origin visible keeps (given_of Store (small_view n s)) s
+  held origin visible keeps formed = record {
     cell = cell_of 0 [] s;
     alone = record { clients = refl; asked = refl; files = refl; pools = refl; names = refl; store = refl };
-    store = record { stamp = 0; past = []; has = refl; sees = λ seen. absurd (blind seen); formed = formed; size = refl; since = λ seen. absurd (blind seen); covers = λ seen. absurd (blind seen); passes = λ seen. absurd (blind seen) };
+    store = record { stamp = 0; past = []; has = refl; sees = λ seen. absurd (blind seen); formed = formed; size = refl; grown = λ seen. absurd (blind seen); since = λ seen. absurd (blind seen); covers = λ seen. absurd (blind seen); passes = λ seen. absurd (blind seen) };
   }
 
   pub lends : LendsPool 0 set.empty (given_of (File 0) (kept_of Store (small_view n s)))
@@ -38,7 +39,7 @@ module _ (n : NamesPart) (s : StoreState) where
   no_file : IsNamesPart n root_alone → (file : ℕ) → IsSome (fin.get n.held file) → ⊥
   no_file part file is = blind (sym (sym is ∙ part.told file ∙ ap is_some (fin.get-empty nat_cmp file)))
 
-  module _ (part : IsNamesPart n root_alone) (visible keeps : Bool) (lent own : View) (t : StoreState) (bare : IsBare lent) (clients : lent.clients ≡ []) (blocks : BlockSet) (pools : lent.pools ≡ (0, blocks) ∷ []) (home : IsHeldStore (small_start n s) visible keeps own t) where
+  module _ (part : IsNamesPart n root_alone) (origin : Moments) (visible keeps : Bool) (lent own : View) (t : StoreState) (bare : IsBare lent) (clients : lent.clients ≡ []) (blocks : BlockSet) (pools : lent.pools ≡ (0, blocks) ∷ []) (home : IsHeldStore (small_start n s) origin visible keeps own t) where
     abbrev all : View
     all = both_of (both_of (kept_of (File 0) (kept_of Store (small_view n s))) lent) own
 
@@ -91,7 +92,7 @@ module _ (n : NamesPart) (s : StoreState) where
   pub seat_3 : IsSeat 3 set.empty (given_of (File 3) rest_3)
   seat_3 = seated 3 (given_of (File 3) rest_3) refl refl refl refl refl
 
-  module _ (part : IsNamesPart n root_alone) (visible keeps : Bool) (a b c d own : View) (t : StoreState) (p q r u : BlockSet) (seat_a : IsSeat 0 p a) (seat_b : IsSeat 1 q b) (seat_c : IsSeat 2 r c) (seat_d : IsSeat 3 u d) (home : IsHeldStore (small_start n s) visible keeps own t) where
+  module _ (part : IsNamesPart n root_alone) (origin : Moments) (visible keeps : Bool) (a b c d own : View) (t : StoreState) (p q r u : BlockSet) (seat_a : IsSeat 0 p a) (seat_b : IsSeat 1 q b) (seat_c : IsSeat 2 r c) (seat_d : IsSeat 3 u d) (home : IsHeldStore (small_start n s) origin visible keeps own t) where
     abbrev pub united : View
     united = both_of (both_of (both_of (both_of (both_of rest_4 a) b) c) d) own
 

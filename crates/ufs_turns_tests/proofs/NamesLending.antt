@@ -3,6 +3,7 @@ use Rattle.std.proofs.Common.{◌≡◌, ℕ, Bool, true, false, eqb, List, [], 
 use Rattle.std.specs.Prelude.{IsSome, OnErr, OnOk}
 use Rattle.std.specs.FinMap as fin
 use Rattle.ufs_bitmap.specs.Blocks.{BlockSet}
+use Rattle.ufs_disk.specs.Moments.{Moments}
 use Rattle.ufs_model.specs.PosixTree.{root_alone}
 use Rattle.ufs_model.specs.declared.data.PartName.TheVariants.{Store}
 use Rattle.ufs_names.specs.NamesPart.{IsNamesPart, NamesPart}
@@ -50,7 +51,7 @@ module _ (n : NamesPart) (s : StoreState) where
   no_file : IsNamesPart n root_alone → (file : ℕ) → IsSome (fin.get n.held file) → ⊥
   no_file part file is = none_true (sym is ∙ part.told file ∙ ap is_some (fin.get-empty _ file))
 
-  module _ (part : IsNamesPart n root_alone) (visible keeps : Bool) (v own : View) (t : StoreState) (cell : NamesCell) (lends : LendsNames cell v) (same : cell.value.held ≡ n.held) (clients : v.clients ≡ (0, idle_client) ∷ []) (pools : v.pools ≡ small_pools) (home : IsHeldStore (small_start n s) visible keeps own t) where
+  module _ (part : IsNamesPart n root_alone) (origin : Moments) (visible keeps : Bool) (v own : View) (t : StoreState) (cell : NamesCell) (lends : LendsNames cell v) (same : cell.value.held ≡ n.held) (clients : v.clients ≡ (0, idle_client) ∷ []) (pools : v.pools ≡ small_pools) (home : IsHeldStore (small_start n s) origin visible keeps own t) where
     clients_are : (both_of v own).clients ≡ (0, idle_client) ∷ []
     clients_are = λ i. clients i ++ home.alone.clients i
 

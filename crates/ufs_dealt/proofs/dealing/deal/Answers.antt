@@ -15,8 +15,8 @@ new-store-requires-clause-home g c =
     let s = g.S.Door.store c.args.store in
     let n = c.requires.names in
     let alone = store_alone k.view n.0 (cell_of 0 [] s) n.1 c.requires.store in
-    subst (λ (v : View). IsHeldStore k g.S.Door.visible g.S.Door.keeps v s) (sym (c.split-own.ensures.given ∙ ap (given_of Store) c.named-table.ensures))
-    (holds_store k g.S.Door.visible g.S.Door.keeps (given_of Store k.view) s c.requires.store alone c.requires.formed c.requires.sees)
+    subst (λ (v : View). IsHeldStore k g.N.Naming.origin g.S.Door.visible g.S.Door.keeps v s) (sym (c.split-own.ensures.given ∙ ap (given_of Store) c.named-table.ensures))
+    (holds_store k g.N.Naming.origin g.S.Door.visible g.S.Door.keeps (given_of Store k.view) s c.requires.store alone c.requires.formed c.requires.origin c.requires.sees)
 
 pub new-names-requires-clause-held : goal.new-names-requires-clause-held
 new-names-requires-clause-held g c =

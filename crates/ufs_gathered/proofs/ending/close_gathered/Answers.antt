@@ -45,7 +45,7 @@ returns-clause-ended g c names files pools clients all back lists at_home =
     let home = c.requires.store in
     let store = c.args.gathered.store in
     let form : c.geometry-geometry.result ≡ g.N.Naming.start.geometry = c.geometry-geometry.ensures.is ∙ home.formed in
-    has_ended g.N.Naming.start g.S.Door.visible g.S.Door.keeps names files pools clients c.args.gathered.hand (g.S.Door.store store) all home
+    has_ended g.N.Naming.start g.N.Naming.origin g.S.Door.visible g.S.Door.keeps names files pools clients c.args.gathered.hand (g.S.Door.store store) all home
     c.mark.result c.mark.ensures.knows c.close-tickets.result c.mark.new.self c.mark.ensures.cells c.close-tickets.ensures lists at_home
     (λ file live. has_count eqb itself alike file c.args.gathered.hand.files (subst (λ (ps : List (ℕ × FileCell)). 1 ≤ count eqb file ps) (sym all.files_are) (back.files_back file live)))
     (subst RestIsExplained form c.always_law.ensures.rest) (subst AllAreThere form c.all_law.ensures) (subst AllIsLast form c.last_law.ensures)

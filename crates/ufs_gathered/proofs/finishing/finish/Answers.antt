@@ -40,12 +40,12 @@ returns-clause-finished g c lists at_home =
     let last = c.end-tickets.result.store in
     let s : StoreState = state_of (g.D.Disk.size last.disk) (g.D.Disk.moments last.disk) (g.D.Disk.faults last.disk) last.tables in
     let whole = with_items_is c.args.actors.files d.new.files (d.auto.files ∙ c.as_mut_slice.ensures.len) in
-    let session : HasEnded k keeps tickets lists d.new.names d.new.files s = subst (λ (files : List FileCell). HasEnded k keeps tickets lists d.new.names files s) whole (c.end-tickets.ensures.ended lists at_home) in
+    let session : HasEnded k g.N.Naming.origin keeps tickets lists d.new.names d.new.files s = subst (λ (files : List FileCell). HasEnded k g.N.Naming.origin keeps tickets lists d.new.names files s) whole (c.end-tickets.ensures.ended lists at_home) in
     let into = c.into_disk-disk.ensures in
     let closed = c.clean_if-ended in
     let now = g.D.Disk.moments closed.new.disk in
     let count = g.D.Disk.faults closed.new.disk in
-    let halts : s.stop ≡ stop_after was (fault_in d.result.0) = sym (stop_is k g.D.Disk.visible keeps d.result.1 s c.end-tickets.ensures.store) ∙ d.ensures.halts in
+    let halts : s.stop ≡ stop_after was (fault_in d.result.0) = sym (stop_is k g.N.Naming.origin g.D.Disk.visible keeps d.result.1 s c.end-tickets.ensures.store) ∙ d.ensures.halts in
     let ends : EndsBehind d.result.0 s.faults count closed.result = subst (λ (before : ℕ). EndsBehind d.result.0 before count closed.result) into.faults closed.ensures.ends in
     let ends_so : EndsBy (is_ok d.result.0) s.stop s.faults count closed.result =
     subst (λ (stop : Option ℕ). EndsBy (is_ok d.result.0) stop s.faults count closed.result) (sym halts) (ends_by s.faults count was d.result.0 closed.result (of_commits was d.result.0 (stop_in d.result.1.store) d.ensures.halts d.ensures.halted d.ensures.stopped d.ensures.refused) ends) in
@@ -53,7 +53,7 @@ returns-clause-finished g c lists at_home =
     let same : ◌≡◌ {A = ℕ × Moments} (g.D.Disk.size c.into_disk-disk.result, g.D.Disk.moments c.into_disk-disk.result) (s.sectors, s.moments) = λ i. (into.size i, into.moments i) in
     let cleans : (seen : k.is_visible ≡ true) → Leaves (IsProperImage s.sectors) s.moments.state → LeavesOnly keeps (OpensAsLeft s.sectors s.moments.state) s.moments now =
     λ seen. subst (λ (x : ℕ × Moments). Leaves (IsProperImage x.0) x.1.state → LeavesOnly keeps (OpensAsLeft x.0 x.1.state) x.1 now) same (closed.ensures.tree (sight seen)) in
-    let is_proper = λ (seen : k.is_visible ≡ true). proper k keeps tickets lists d.new.names d.new.files s session seen now (cleans seen) in
+    let is_proper = λ (seen : k.is_visible ≡ true). proper k g.N.Naming.origin keeps tickets lists d.new.names d.new.files s session seen now (cleans seen) in
     record {
       names = d.new.names;
       files = d.new.files;
@@ -62,9 +62,9 @@ returns-clause-finished g c lists at_home =
       all = is_ok d.result.0;
       ends = ends_so;
       size = closed.ensures.size ∙ into.size;
-      moments = λ seen. explained_on k keeps tickets lists d.new.names d.new.files s session seen now (cleans seen);
+      moments = λ seen. explained_on k g.N.Naming.origin keeps tickets lists d.new.names d.new.files s session seen now (cleans seen);
       last = λ seen all.
-          stands_last k keeps tickets lists d.new.names d.new.files s session seen now (cleans seen)
+          stands_last k g.N.Naming.origin keeps tickets lists d.new.names d.new.files s session seen now (cleans seen)
           (halts ∙ going_on was d.result.0 d.ensures.halted all) (of_done d.result.0 all d.ensures.known seen);
       sound = λ seen all.
           of_done d.result.0 all

@@ -32,12 +32,12 @@ returns-clause-finished g c lists at_home =
     let tickets = c.close_gathered-tickets.result.tickets in
     let last = c.close_gathered-tickets.result.store in
     let s : StoreState = state_of (g.D.Disk.size last.disk) (g.D.Disk.moments last.disk) (g.D.Disk.faults last.disk) last.tables in
-    let session : HasEnded k keeps tickets lists a.names back.0 s =
+    let session : HasEnded k g.N.Naming.origin keeps tickets lists a.names back.0 s =
     c.close_gathered-tickets.ensures.ended a.names back.0 a.rest a.clients.items (c.gather_remains-gathered.ensures.all back.0 back.1) back.2 lists at_home in
     let into = c.into_disk.ensures in
     let is : c.cause_of.result ≡ left_by s.stop c.args.memory = c.cause_of.ensures ∙ ap (λ (stop : Option ℕ). left_by stop c.args.memory) c.stopped-stop.ensures in
-    subst (λ (x : ℕ × (ℕ × Moments)). HasFinished k keeps tickets lists x.0 x.1.0 x.1.1 (Err c.cause_of.result)) (λ i. (sym into.size i, (sym into.faults i, sym into.moments i)))
-    (subst (λ (fault : CloseFault). HasFinished k keeps tickets lists s.sectors s.faults s.moments (Err fault)) (sym is) (left_open k keeps tickets lists a.names back.0 s session c.args.memory))
+    subst (λ (x : ℕ × (ℕ × Moments)). HasFinished k g.N.Naming.origin keeps tickets lists x.0 x.1.0 x.1.1 (Err c.cause_of.result)) (λ i. (sym into.size i, (sym into.faults i, sym into.moments i)))
+    (subst (λ (fault : CloseFault). HasFinished k g.N.Naming.origin keeps tickets lists s.sectors s.faults s.moments (Err fault)) (sym is) (left_open k g.N.Naming.origin keeps tickets lists a.names back.0 s session c.args.memory))
 
 pub returns-clause-stopped : goal.returns-clause-stopped
 returns-clause-stopped g c fault =
@@ -45,9 +45,9 @@ returns-clause-stopped g c fault =
     let a = c.args.remains in
     let last = c.close_gathered-tickets.result.store in
     let s : StoreState = state_of (g.D.Disk.size last.disk) (g.D.Disk.moments last.disk) (g.D.Disk.faults last.disk) last.tables in
-    let its : IsHeldStore k g.D.Disk.visible g.D.Disk.keeps a.store s =
-    subst (λ (x : StoreState). IsHeldStore k g.D.Disk.visible g.D.Disk.keeps a.store x) (sym c.close_gathered-tickets.ensures.same) c.gather_remains-gathered.ensures.its in
-    let at = stop_is k g.D.Disk.visible g.D.Disk.keeps a.store s its in
+    let its : IsHeldStore k g.N.Naming.origin g.D.Disk.visible g.D.Disk.keeps a.store s =
+    subst (λ (x : StoreState). IsHeldStore k g.N.Naming.origin g.D.Disk.visible g.D.Disk.keeps a.store x) (sym c.close_gathered-tickets.ensures.same) c.gather_remains-gathered.ensures.its in
+    let at = stop_is k g.N.Naming.origin g.D.Disk.visible g.D.Disk.keeps a.store s its in
     let is : c.cause_of.result ≡ left_by s.stop c.args.memory = c.cause_of.ensures ∙ ap (λ (stop : Option ℕ). left_by stop c.args.memory) c.stopped-stop.ensures in
     let told = tells_left s.stop c.args.memory fault in
     (λ e. at ∙ told.0 (ap (λ (x : CloseFault). Err x) (sym is) ∙ e), λ e. ap (λ (x : CloseFault). Err x) is ∙ told.1 (sym at ∙ e))
@@ -58,8 +58,8 @@ returns-clause-counted g c =
     let a = c.args.remains in
     let last = c.close_gathered-tickets.result.store in
     let s : StoreState = state_of (g.D.Disk.size last.disk) (g.D.Disk.moments last.disk) (g.D.Disk.faults last.disk) last.tables in
-    let its : IsHeldStore k g.D.Disk.visible g.D.Disk.keeps a.store s =
-    subst (λ (x : StoreState). IsHeldStore k g.D.Disk.visible g.D.Disk.keeps a.store x) (sym c.close_gathered-tickets.ensures.same) c.gather_remains-gathered.ensures.its in
+    let its : IsHeldStore k g.N.Naming.origin g.D.Disk.visible g.D.Disk.keeps a.store s =
+    subst (λ (x : StoreState). IsHeldStore k g.N.Naming.origin g.D.Disk.visible g.D.Disk.keeps a.store x) (sym c.close_gathered-tickets.ensures.same) c.gather_remains-gathered.ensures.its in
     let from = (tally_in a.store.store).faults in
     let now = g.D.Disk.faults c.into_disk.result in
     let behind : from ≡ s.faults = ap (λ (cs : List (Unit {0} × StoreCell)). (tally_in cs).faults) its.store.has in
@@ -72,7 +72,7 @@ returns-clause-lack g c none =
     let a = c.args.remains in
     let last = c.close_gathered-tickets.result.store in
     let s : StoreState = state_of (g.D.Disk.size last.disk) (g.D.Disk.moments last.disk) (g.D.Disk.faults last.disk) last.tables in
-    let its : IsHeldStore k g.D.Disk.visible g.D.Disk.keeps a.store s =
-    subst (λ (x : StoreState). IsHeldStore k g.D.Disk.visible g.D.Disk.keeps a.store x) (sym c.close_gathered-tickets.ensures.same) c.gather_remains-gathered.ensures.its in
-    let at = stop_is k g.D.Disk.visible g.D.Disk.keeps a.store s its in
+    let its : IsHeldStore k g.N.Naming.origin g.D.Disk.visible g.D.Disk.keeps a.store s =
+    subst (λ (x : StoreState). IsHeldStore k g.N.Naming.origin g.D.Disk.visible g.D.Disk.keeps a.store x) (sym c.close_gathered-tickets.ensures.same) c.gather_remains-gathered.ensures.its in
+    let at = stop_is k g.N.Naming.origin g.D.Disk.visible g.D.Disk.keeps a.store s its in
     ap (λ (x : CloseFault). Err x) (c.cause_of.ensures ∙ ap (λ (stop : Option ℕ). left_by stop c.args.memory) (c.stopped-stop.ensures ∙ sym at ∙ none))

@@ -15,7 +15,7 @@ returns-clause-all g c =
     let them : HasThemToo a.files.items (both_of right own) v = subst (λ (u : View). HasThemToo a.files.items u v) c.join.ensures c.gather_files.ensures in
     let is = c.gather_hands.ensures ∙ ap (λ (u : View). with_all u a.clients.items) c.join-2.ensures in
     subst (HasAllOf a.names a.files.items a.pools a.clients.items) (sym is)
-    (has_all a.names right c.into_parts-noted.ensures.hand g.N.Naming.start g.S.Door.visible g.S.Door.keeps own (g.S.Door.store c.into_parts-own.result.1) c.into_parts-own.ensures.home
+    (has_all a.names right c.into_parts-noted.ensures.hand g.N.Naming.start g.N.Naming.origin g.S.Door.visible g.S.Door.keeps own (g.S.Door.store c.into_parts-own.result.1) c.into_parts-own.ensures.home
     a.files.items v them a.pools c.requires.pools a.clients.items c.requires.home.0 c.requires.home.1)
 
 pub returns-clause-store : goal.returns-clause-store
@@ -26,10 +26,10 @@ returns-clause-store g c =
     let v = c.gather_files.new.hand in
     let them : HasThemToo a.files.items (both_of right own) v = subst (λ (u : View). HasThemToo a.files.items u v) c.join.ensures c.gather_files.ensures in
     let is = c.gather_hands.ensures ∙ ap (λ (u : View). with_all u a.clients.items) c.join-2.ensures in
-    subst (λ (u : View). IsStoreIn g.N.Naming.start g.S.Door.visible g.S.Door.keeps u (g.S.Door.store c.into_parts-own.result.1)) (sym is)
-    (store_there a.names right c.into_parts-noted.ensures.hand g.N.Naming.start g.S.Door.visible g.S.Door.keeps own (g.S.Door.store c.into_parts-own.result.1) c.into_parts-own.ensures.home
+    subst (λ (u : View). IsStoreIn g.N.Naming.start g.N.Naming.origin g.S.Door.visible g.S.Door.keeps u (g.S.Door.store c.into_parts-own.result.1)) (sym is)
+    (store_there a.names right c.into_parts-noted.ensures.hand g.N.Naming.start g.N.Naming.origin g.S.Door.visible g.S.Door.keeps own (g.S.Door.store c.into_parts-own.result.1) c.into_parts-own.ensures.home
     a.files.items v them a.pools c.requires.pools a.clients.items c.requires.home.0 c.requires.home.1)
 
 pub returns-clause-its : goal.returns-clause-its
 returns-clause-its g c =
-    subst (λ (u : View). IsHeldStore g.N.Naming.start g.S.Door.visible g.S.Door.keeps u (g.S.Door.store c.into_parts-own.result.1)) c.into_parts-own.ensures.hand c.into_parts-own.ensures.home
+    subst (λ (u : View). IsHeldStore g.N.Naming.start g.N.Naming.origin g.S.Door.visible g.S.Door.keeps u (g.S.Door.store c.into_parts-own.result.1)) c.into_parts-own.ensures.hand c.into_parts-own.ensures.home

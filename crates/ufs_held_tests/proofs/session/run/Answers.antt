@@ -28,7 +28,7 @@ new-held-requires-clause-home g c =
     let s = g.D.Door.store c.args.store in
     let r = c.ask.result in
     let first : c.ask.new.hand ≡ v n s r = c.ask.ensures ∙ ap (asking r 0 Sync idle_client) (c.named-table.ensures ∙ ap (λ (k : Start). k.view) c.requires.start) in
-    subst (λ (x : Start × View). IsHeldStore x.0 g.D.Door.visible g.D.Door.keeps x.1 s) (λ j. (sym c.requires.start j, sym (c.split-own.ensures.given ∙ ap (given_of Store) first) j)) (home n s r g.D.Door.visible g.D.Door.keeps c.requires.stored)
+    subst (λ (x : Start × View). IsHeldStore x.0 g.N.Naming.origin g.D.Door.visible g.D.Door.keeps x.1 s) (λ j. (sym c.requires.start j, sym (c.split-own.ensures.given ∙ ap (given_of Store) first) j)) (home n s r g.N.Naming.origin g.D.Door.visible g.D.Door.keeps c.requires.stored)
 
 pub new-names-requires-clause-held : goal.new-names-requires-clause-held
 new-names-requires-clause-held g c =
@@ -100,8 +100,8 @@ close-tickets-requires-clause-all g c =
     let part = answered (syncing n s r) turned.result.0.entry in
     let back : IsGuest 0 part 3 no_blocks turned.result.0.guest = turned.ensures.guest (syncing n s r) 3 no_blocks (subst (IsGuest 0 (syncing n s r) 3 no_blocks) (sym came) (guest_is n s r)) in
     let same = turned.ensures.held ∙ ap (λ (q : NamesCell). q.value.held) named in
-    let stored = subst (λ (k : Start). IsHeldStore k g.D.Door.visible g.D.Door.keeps own t) c.requires.start c.into_parts-own.ensures.home in
+    let stored = subst (λ (k : Start). IsHeldStore k g.N.Naming.origin g.D.Door.visible g.D.Door.keeps own t) c.requires.start c.into_parts-own.ensures.home in
     subst (λ (x : Start × View). HoldsAll x.0 x.1)
     (λ j. (sym c.requires.start j, sym (c.join-4.ensures ∙ ap (λ (q : View). both_of q own) (c.join-3.ensures ∙ ap (λ (q : View). both_of q c.into_parts-right.result.1) c.join-2.ensures)) j))
-    (all_there n s r c.requires.part g.D.Door.visible g.D.Door.keeps turned.new.hand turned.result.0.guest c.into_parts-right.result.1 own part t turned.new.names turned.ensures.bare back c.into_parts-right.ensures.hand same
+    (all_there n s r c.requires.part g.N.Naming.origin g.D.Door.visible g.D.Door.keeps turned.new.hand turned.result.0.guest c.into_parts-right.result.1 own part t turned.new.names turned.ensures.bare back c.into_parts-right.ensures.hand same
     (turned.ensures.clients ∙ ap (λ (q : View). q.clients) kept) (turned.ensures.pools ∙ ap (λ (q : View). q.pools) kept) stored)

@@ -28,7 +28,7 @@ end_names-requires-clause-may g c =
     let t = g.D.Door.store c.commit_store.new.store in
     let table = subst (λ (q : NamesPart). IsNameTable q.tree) (sym f.2) c.commit_store.ensures.table in
     let has = subst (λ (q : List ℕ × NamesPart). HavePassed g.D.Door.visible g.D.Door.keeps s t q.0 q.1.tree.noted) (λ i. (sym f.3 i, sym f.2 i)) c.in-Ok.ensures.ok in
-    commit_ends g.N.Naming.start g.D.Door.visible g.D.Door.keeps c.begin_turn.result c.args.hand.now c.begin_turn.new.hand s t c.begin_turn.ensures.knows c.requires.store c.begin_turn.ensures.begun f.0 f.1 table (λ visible. g.met.D.Door.whole visible c.args.store.now) (λ visible. g.met.D.Door.whole visible c.commit_store.new.store) has
+    commit_ends g.N.Naming.start g.N.Naming.origin g.D.Door.visible g.D.Door.keeps c.begin_turn.result c.args.hand.now c.begin_turn.new.hand s t c.begin_turn.ensures.knows c.requires.store c.begin_turn.ensures.begun f.0 f.1 table (λ visible. g.met.D.Door.whole visible c.args.store.now) (λ visible. g.met.D.Door.whole visible c.commit_store.new.store) has
     c.a_commit_of_names_ends.ensures.may
 
 pub end_names-requires-in-Err-clause-may : goal.end_names-requires-in-Err-clause-may
@@ -39,7 +39,7 @@ end_names-requires-in-Err-clause-may g c =
     let table = subst (λ (q : NamesPart). IsNameTable q.tree) (sym f.2) c.commit_store.ensures.table in
     let has = subst (λ (q : List ℕ × NamesPart). HaveNotPassed g.D.Door.visible g.D.Door.keeps s t q.0 q.1.tree.noted (fault_of c.in-Err.fault)) (λ i. (sym f.3 i, sym f.2 i)) (c.commit_store.ensures.err c.in-Err.fault c.in-Err.is) in
     subst (λ (q : Option ℕ). MayEndTurn g.N.Naming.start.geometry g.N.Naming.start.is_visible c.begin_turn.new.hand (names_turn g.D.Door.keeps false q t c.begin_turn.new.hand)) (sym (told_is_same c.told_of-told.result (fault_of c.in-Err.fault) c.told_of-told.ensures.some c.told_of-told.ensures.none))
-    (failure_ends g.N.Naming.start g.D.Door.visible g.D.Door.keeps c.begin_turn.result c.args.hand.now c.begin_turn.new.hand s t c.begin_turn.ensures.knows c.requires.store c.begin_turn.ensures.begun f.0 f.1 table (λ visible. g.met.D.Door.whole visible c.args.store.now) (λ visible. g.met.D.Door.whole visible c.commit_store.new.store) (fault_of c.in-Err.fault) has
+    (failure_ends g.N.Naming.start g.N.Naming.origin g.D.Door.visible g.D.Door.keeps c.begin_turn.result c.args.hand.now c.begin_turn.new.hand s t c.begin_turn.ensures.knows c.requires.store c.begin_turn.ensures.begun f.0 f.1 table (λ visible. g.met.D.Door.whole visible c.args.store.now) (λ visible. g.met.D.Door.whole visible c.commit_store.new.store) (fault_of c.in-Err.fault) has
     c.a_commit_of_names_ends.ensures.failed)
 
 pub returns-in-Ok-clause-store : goal.returns-in-Ok-clause-store
@@ -49,8 +49,8 @@ returns-in-Ok-clause-store g c =
     let t = g.D.Door.store c.commit_store.new.store in
     let table = subst (λ (q : NamesPart). IsNameTable q.tree) (sym f.2) c.commit_store.ensures.table in
     let has = subst (λ (q : List ℕ × NamesPart). HavePassed g.D.Door.visible g.D.Door.keeps s t q.0 q.1.tree.noted) (λ i. (sym f.3 i, sym f.2 i)) c.in-Ok.ensures.ok in
-    store_then g.N.Naming.start g.D.Door.visible g.D.Door.keeps c.begin_turn.result c.args.hand.now c.begin_turn.new.hand s t c.begin_turn.ensures.knows c.requires.store c.begin_turn.ensures.begun true None c.end_names.result c.end_names.new.hand c.end_names.ensures.ended has.tried.geometry has.tried.sectors
-    (commit_went g.N.Naming.start g.D.Door.visible g.D.Door.keeps c.begin_turn.result c.args.hand.now c.begin_turn.new.hand s t c.begin_turn.ensures.knows c.requires.store c.begin_turn.ensures.begun f.0 f.1 table (λ visible. g.met.D.Door.whole visible c.args.store.now) (λ visible. g.met.D.Door.whole visible c.commit_store.new.store) has
+    store_then g.N.Naming.start g.N.Naming.origin g.D.Door.visible g.D.Door.keeps c.begin_turn.result c.args.hand.now c.begin_turn.new.hand s t c.begin_turn.ensures.knows c.requires.store c.begin_turn.ensures.begun true None c.end_names.result c.end_names.new.hand c.end_names.ensures.ended has.tried.geometry has.tried.sectors
+    (commit_went g.N.Naming.start g.N.Naming.origin g.D.Door.visible g.D.Door.keeps c.begin_turn.result c.args.hand.now c.begin_turn.new.hand s t c.begin_turn.ensures.knows c.requires.store c.begin_turn.ensures.begun f.0 f.1 table (λ visible. g.met.D.Door.whole visible c.args.store.now) (λ visible. g.met.D.Door.whole visible c.commit_store.new.store) has
     c.a_commit_of_names_ends.ensures.on)
 
 pub returns-in-Err-clause-store : goal.returns-in-Err-clause-store
@@ -60,59 +60,59 @@ returns-in-Err-clause-store g c =
     let t = g.D.Door.store c.commit_store.new.store in
     let table = subst (λ (q : NamesPart). IsNameTable q.tree) (sym f.2) c.commit_store.ensures.table in
     let has = subst (λ (q : List ℕ × NamesPart). HaveNotPassed g.D.Door.visible g.D.Door.keeps s t q.0 q.1.tree.noted (fault_of c.in-Err.fault)) (λ i. (sym f.3 i, sym f.2 i)) (c.commit_store.ensures.err c.in-Err.fault c.in-Err.is) in
-    store_then g.N.Naming.start g.D.Door.visible g.D.Door.keeps c.begin_turn.result c.args.hand.now c.begin_turn.new.hand s t c.begin_turn.ensures.knows c.requires.store c.begin_turn.ensures.begun false c.told_of-told.result c.end_names-in-Err.result c.end_names-in-Err.new.hand c.end_names-in-Err.ensures.ended has.tried.geometry has.tried.sectors
-    (failure_went g.N.Naming.start g.D.Door.visible g.D.Door.keeps c.begin_turn.result c.args.hand.now c.begin_turn.new.hand s t c.begin_turn.ensures.knows c.requires.store c.begin_turn.ensures.begun f.0 f.1 table (λ visible. g.met.D.Door.whole visible c.args.store.now) (λ visible. g.met.D.Door.whole visible c.commit_store.new.store) (fault_of c.in-Err.fault) has
+    store_then g.N.Naming.start g.N.Naming.origin g.D.Door.visible g.D.Door.keeps c.begin_turn.result c.args.hand.now c.begin_turn.new.hand s t c.begin_turn.ensures.knows c.requires.store c.begin_turn.ensures.begun false c.told_of-told.result c.end_names-in-Err.result c.end_names-in-Err.new.hand c.end_names-in-Err.ensures.ended has.tried.geometry has.tried.sectors
+    (failure_went g.N.Naming.start g.N.Naming.origin g.D.Door.visible g.D.Door.keeps c.begin_turn.result c.args.hand.now c.begin_turn.new.hand s t c.begin_turn.ensures.knows c.requires.store c.begin_turn.ensures.begun f.0 f.1 table (λ visible. g.met.D.Door.whole visible c.args.store.now) (λ visible. g.met.D.Door.whole visible c.commit_store.new.store) (fault_of c.in-Err.fault) has
     c.a_commit_of_names_ends.ensures.failed_on)
 
 pub returns-in-Ok-clause-ok : goal.returns-in-Ok-clause-ok
 returns-in-Ok-clause-ok g c cell names =
     let s = g.D.Door.store c.args.store.now in
     let t = g.D.Door.store c.commit_store.new.store in
-    committed_then g.N.Naming.start g.D.Door.visible g.D.Door.keeps c.begin_turn.result c.args.hand.now c.begin_turn.new.hand s t c.begin_turn.ensures.knows c.requires.store c.begin_turn.ensures.begun cell names c.end_names.result c.end_names.new.hand c.end_names.ensures.ended
+    committed_then g.N.Naming.start g.N.Naming.origin g.D.Door.visible g.D.Door.keeps c.begin_turn.result c.args.hand.now c.begin_turn.new.hand s t c.begin_turn.ensures.knows c.requires.store c.begin_turn.ensures.begun cell names c.end_names.result c.end_names.new.hand c.end_names.ensures.ended
 
 pub returns-in-Err-clause-err : goal.returns-in-Err-clause-err
 returns-in-Err-clause-err g c cell names =
     let s = g.D.Door.store c.args.store.now in
     let t = g.D.Door.store c.commit_store.new.store in
-    failed_then g.N.Naming.start g.D.Door.visible g.D.Door.keeps c.begin_turn.result c.args.hand.now c.begin_turn.new.hand s t c.begin_turn.ensures.knows c.requires.store c.begin_turn.ensures.begun c.told_of-told.result cell names c.end_names-in-Err.result c.end_names-in-Err.new.hand c.end_names-in-Err.ensures.ended
+    failed_then g.N.Naming.start g.N.Naming.origin g.D.Door.visible g.D.Door.keeps c.begin_turn.result c.args.hand.now c.begin_turn.new.hand s t c.begin_turn.ensures.knows c.requires.store c.begin_turn.ensures.begun c.told_of-told.result cell names c.end_names-in-Err.result c.end_names-in-Err.new.hand c.end_names-in-Err.ensures.ended
 
 pub returns-in-Ok-clause-beside : goal.returns-in-Ok-clause-beside
 returns-in-Ok-clause-beside g c =
     let s = g.D.Door.store c.args.store.now in
     let t = g.D.Door.store c.commit_store.new.store in
-    beside_then g.N.Naming.start g.D.Door.visible g.D.Door.keeps c.begin_turn.result c.args.hand.now c.begin_turn.new.hand s t c.begin_turn.ensures.knows c.requires.store c.begin_turn.ensures.begun true None c.end_names.result c.end_names.new.hand c.end_names.ensures.ended c.begin_turn.ensures.later c.end_names.ensures.later
+    beside_then g.N.Naming.start g.N.Naming.origin g.D.Door.visible g.D.Door.keeps c.begin_turn.result c.args.hand.now c.begin_turn.new.hand s t c.begin_turn.ensures.knows c.requires.store c.begin_turn.ensures.begun true None c.end_names.result c.end_names.new.hand c.end_names.ensures.ended c.begin_turn.ensures.later c.end_names.ensures.later
 
 pub returns-in-Err-clause-beside : goal.returns-in-Err-clause-beside
 returns-in-Err-clause-beside g c =
     let s = g.D.Door.store c.args.store.now in
     let t = g.D.Door.store c.commit_store.new.store in
-    beside_then g.N.Naming.start g.D.Door.visible g.D.Door.keeps c.begin_turn.result c.args.hand.now c.begin_turn.new.hand s t c.begin_turn.ensures.knows c.requires.store c.begin_turn.ensures.begun false c.told_of-told.result c.end_names-in-Err.result c.end_names-in-Err.new.hand c.end_names-in-Err.ensures.ended c.begin_turn.ensures.later c.end_names-in-Err.ensures.later
+    beside_then g.N.Naming.start g.N.Naming.origin g.D.Door.visible g.D.Door.keeps c.begin_turn.result c.args.hand.now c.begin_turn.new.hand s t c.begin_turn.ensures.knows c.requires.store c.begin_turn.ensures.begun false c.told_of-told.result c.end_names-in-Err.result c.end_names-in-Err.new.hand c.end_names-in-Err.ensures.ended c.begin_turn.ensures.later c.end_names-in-Err.ensures.later
 
 pub returns-in-Ok-clause-faults : goal.returns-in-Ok-clause-faults
 returns-in-Ok-clause-faults g c =
     let s = g.D.Door.store c.args.store.now in
     let t = g.D.Door.store c.commit_store.new.store in
-    faults_then g.N.Naming.start g.D.Door.visible g.D.Door.keeps c.begin_turn.result c.args.hand.now c.begin_turn.new.hand s t c.begin_turn.ensures.knows c.requires.store c.begin_turn.ensures.begun true None c.end_names.result c.end_names.new.hand c.end_names.ensures.ended
+    faults_then g.N.Naming.start g.N.Naming.origin g.D.Door.visible g.D.Door.keeps c.begin_turn.result c.args.hand.now c.begin_turn.new.hand s t c.begin_turn.ensures.knows c.requires.store c.begin_turn.ensures.begun true None c.end_names.result c.end_names.new.hand c.end_names.ensures.ended
 
 pub returns-in-Err-clause-faults : goal.returns-in-Err-clause-faults
 returns-in-Err-clause-faults g c =
     let s = g.D.Door.store c.args.store.now in
     let t = g.D.Door.store c.commit_store.new.store in
-    faults_then g.N.Naming.start g.D.Door.visible g.D.Door.keeps c.begin_turn.result c.args.hand.now c.begin_turn.new.hand s t c.begin_turn.ensures.knows c.requires.store c.begin_turn.ensures.begun false c.told_of-told.result c.end_names-in-Err.result c.end_names-in-Err.new.hand c.end_names-in-Err.ensures.ended
+    faults_then g.N.Naming.start g.N.Naming.origin g.D.Door.visible g.D.Door.keeps c.begin_turn.result c.args.hand.now c.begin_turn.new.hand s t c.begin_turn.ensures.knows c.requires.store c.begin_turn.ensures.begun false c.told_of-told.result c.end_names-in-Err.result c.end_names-in-Err.new.hand c.end_names-in-Err.ensures.ended
     ∙ ap (λ (q : Option ℕ). told_list q ++ c.args.hand.now.faults) (told_is_same c.told_of-told.result (fault_of c.in-Err.fault) c.told_of-told.ensures.some c.told_of-told.ensures.none)
 
 pub returns-in-Err-clause-stop : goal.returns-in-Err-clause-stop
 returns-in-Err-clause-stop g c fault is =
     let s = g.D.Door.store c.args.store.now in
     let t = g.D.Door.store c.commit_store.new.store in
-    stop_then g.N.Naming.start g.D.Door.visible g.D.Door.keeps c.begin_turn.result c.args.hand.now c.begin_turn.new.hand s t c.begin_turn.ensures.knows c.requires.store c.begin_turn.ensures.begun false c.told_of-told.result c.end_names-in-Err.result c.end_names-in-Err.new.hand c.end_names-in-Err.ensures.ended
+    stop_then g.N.Naming.start g.N.Naming.origin g.D.Door.visible g.D.Door.keeps c.begin_turn.result c.args.hand.now c.begin_turn.new.hand s t c.begin_turn.ensures.knows c.requires.store c.begin_turn.ensures.begun false c.told_of-told.result c.end_names-in-Err.result c.end_names-in-Err.new.hand c.end_names-in-Err.ensures.ended
     ∙ c.commit_store.ensures.stopped fault (c.in-Err.is ∙ is)
 
 pub returns-in-Err-clause-stops : goal.returns-in-Err-clause-stops
 returns-in-Err-clause-stops g c fault is =
     let s = g.D.Door.store c.args.store.now in
     let t = g.D.Door.store c.commit_store.new.store in
-    stop_then g.N.Naming.start g.D.Door.visible g.D.Door.keeps c.begin_turn.result c.args.hand.now c.begin_turn.new.hand s t c.begin_turn.ensures.knows c.requires.store c.begin_turn.ensures.begun false c.told_of-told.result c.end_names-in-Err.result c.end_names-in-Err.new.hand c.end_names-in-Err.ensures.ended
+    stop_then g.N.Naming.start g.N.Naming.origin g.D.Door.visible g.D.Door.keeps c.begin_turn.result c.args.hand.now c.begin_turn.new.hand s t c.begin_turn.ensures.knows c.requires.store c.begin_turn.ensures.begun false c.told_of-told.result c.end_names-in-Err.result c.end_names-in-Err.new.hand c.end_names-in-Err.ensures.ended
     ∙ stop_told (g.D.Door.store c.args.store.now).stop (g.D.Door.store c.commit_store.new.store).stop c.commit_store.result fault c.commit_store.ensures.halts c.commit_store.ensures.halted (ap (λ (r : _). fault_told (fault_in r)) c.in-Err.is ∙ is)
 
 pub returns-in-Ok-clause-free : goal.returns-in-Ok-clause-free

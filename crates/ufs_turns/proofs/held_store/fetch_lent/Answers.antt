@@ -49,7 +49,7 @@ end_turn-requires-clause-may g c =
     (subst (λ (q : DurableState). (bytes : List ℕ) → IsContentOf y.file.content bytes → IsContentOf q.file.content bytes) (sym f.3) e.fewer) in
     let same : y ≡ record (f.1.value) { file = y.file } = ap (λ (q : DurableState). record q { file = y.file }) (sym f.3) in
     subst (λ (q : Option ℕ). MayEndTurn g.N.Naming.start.geometry g.N.Naming.start.is_visible c.begin_turn.new.hand (sync_turn g.D.Door.keeps false q y t c.begin_turn.new.hand)) (sym (told_is_same c.told_by-told.result (fault_in c.fetch-read.result) c.told_by-told.ensures.some c.told_by-told.ensures.none))
-    (fetch_ends g.N.Naming.start g.D.Door.visible g.D.Door.keeps c.begin_turn.result c.args.hand.now c.begin_turn.new.hand s t c.begin_turn.ensures.knows f.0 f.1 f.2 c.requires.store c.begin_turn.ensures.begun (λ visible. g.met.D.Door.whole visible c.args.store.now) (λ visible. g.met.D.Door.whole visible c.fetch-read.new.door)
+    (fetch_ends g.N.Naming.start g.N.Naming.origin g.D.Door.visible g.D.Door.keeps c.begin_turn.result c.args.hand.now c.begin_turn.new.hand s t c.begin_turn.ensures.knows f.0 f.1 f.2 c.requires.store c.begin_turn.ensures.begun (λ visible. g.met.D.Door.whole visible c.args.store.now) (λ visible. g.met.D.Door.whole visible c.fetch-read.new.door)
     (ap geometry_of_store e.store) (ap (λ (q : StoreState). q.sectors) e.store) y (fault_in c.fetch-read.result) e.cause has more same (subst FileFetchesMayEnd (c.geometry-geometry.ensures.is ∙ c.requires.store.formed) c.a_file_is_fetched.ensures.may))
 
 pub returns-clause-store : goal.returns-clause-store
@@ -69,15 +69,15 @@ returns-clause-store g c =
     (subst (λ (q : DurableState). (bytes : List ℕ) → IsContentOf y.file.content bytes → IsContentOf q.file.content bytes) (sym f.3) e.fewer) in
     let same : y ≡ record (f.1.value) { file = y.file } = ap (λ (q : DurableState). record q { file = y.file }) (sym f.3) in
     let law = subst FileFetchesGoOn (c.geometry-geometry.ensures.is ∙ c.requires.store.formed) c.a_file_is_fetched.ensures.on in
-    store_then g.N.Naming.start g.D.Door.visible g.D.Door.keeps c.begin_turn.result c.args.hand.now c.begin_turn.new.hand s t c.begin_turn.ensures.knows f.0 f.1 f.2 c.requires.store c.begin_turn.ensures.begun false c.told_by-told.result y c.end_turn.result c.end_turn.new.hand c.end_turn.ensures.ended
+    store_then g.N.Naming.start g.N.Naming.origin g.D.Door.visible g.D.Door.keeps c.begin_turn.result c.args.hand.now c.begin_turn.new.hand s t c.begin_turn.ensures.knows f.0 f.1 f.2 c.requires.store c.begin_turn.ensures.begun false c.told_by-told.result y c.end_turn.result c.end_turn.new.hand c.end_turn.ensures.ended
     (ap geometry_of_store e.store) (ap (λ (q : StoreState). q.sectors) e.store)
-    (λ seen. fetch_went g.N.Naming.start g.D.Door.visible g.D.Door.keeps c.begin_turn.result c.args.hand.now c.begin_turn.new.hand s t c.begin_turn.ensures.knows f.0 f.1 f.2 c.requires.store c.begin_turn.ensures.begun (λ visible. g.met.D.Door.whole visible c.args.store.now) (λ visible. g.met.D.Door.whole visible c.fetch-read.new.door)
+    (λ seen. fetch_went g.N.Naming.start g.N.Naming.origin g.D.Door.visible g.D.Door.keeps c.begin_turn.result c.args.hand.now c.begin_turn.new.hand s t c.begin_turn.ensures.knows f.0 f.1 f.2 c.requires.store c.begin_turn.ensures.begun (λ visible. g.met.D.Door.whole visible c.args.store.now) (λ visible. g.met.D.Door.whole visible c.fetch-read.new.door)
     (ap geometry_of_store e.store) (ap (λ (q : StoreState). q.sectors) e.store) y (fault_in c.fetch-read.result) e.cause has more same law seen)
 
 pub returns-clause-faults : goal.returns-clause-faults
 returns-clause-faults g c =
     let f = c.requires.file in
-    faults_then g.N.Naming.start g.D.Door.visible g.D.Door.keeps c.begin_turn.result c.args.hand.now c.begin_turn.new.hand (g.D.Door.store c.args.store.now) (g.D.Door.store c.fetch-read.new.door) c.begin_turn.ensures.knows f.0 f.1 f.2 c.requires.store c.begin_turn.ensures.begun false c.told_by-told.result (state_of c.fetch-read.new.hand c.args.commits.now) c.end_turn.result c.end_turn.new.hand c.end_turn.ensures.ended
+    faults_then g.N.Naming.start g.N.Naming.origin g.D.Door.visible g.D.Door.keeps c.begin_turn.result c.args.hand.now c.begin_turn.new.hand (g.D.Door.store c.args.store.now) (g.D.Door.store c.fetch-read.new.door) c.begin_turn.ensures.knows f.0 f.1 f.2 c.requires.store c.begin_turn.ensures.begun false c.told_by-told.result (state_of c.fetch-read.new.hand c.args.commits.now) c.end_turn.result c.end_turn.new.hand c.end_turn.ensures.ended
     ∙ ap (λ (q : Option ℕ). told_list q ++ c.args.hand.now.faults) (told_is_same c.told_by-told.result (fault_in c.fetch-read.result) c.told_by-told.ensures.some c.told_by-told.ensures.none)
 
 pub returns-clause-nothing : goal.returns-clause-nothing

@@ -64,7 +64,7 @@ end_turn-requires-clause-may g c =
     let t = g.D.Door.store c.sync_store.new.store in
     let y = state_of c.sync_store.new.file c.sync_store.new.commits in
     let has = subst (λ (x : DurableState). HasPassed g.D.Door.visible g.D.Door.keeps s t x y) (sym f.3) c.in-Ok.ensures.ok in
-    commit_ends g.N.Naming.start g.D.Door.visible g.D.Door.keeps c.begin_turn.result c.args.hand.now c.begin_turn.new.hand s t c.begin_turn.ensures.knows f.0 f.1 f.2 c.requires.store c.begin_turn.ensures.begun (λ visible. g.met.D.Door.whole visible c.args.store.now) (λ visible. g.met.D.Door.whole visible c.sync_store.new.store) has.geometry has.sectors y has
+    commit_ends g.N.Naming.start g.N.Naming.origin g.D.Door.visible g.D.Door.keeps c.begin_turn.result c.args.hand.now c.begin_turn.new.hand s t c.begin_turn.ensures.knows f.0 f.1 f.2 c.requires.store c.begin_turn.ensures.begun (λ visible. g.met.D.Door.whole visible c.args.store.now) (λ visible. g.met.D.Door.whole visible c.sync_store.new.store) has.geometry has.sectors y has
     (subst FileCommitsMayEnd (c.geometry-geometry.ensures.is ∙ c.requires.store.formed) c.a_file_is_committed.ensures.may) f.4
 
 pub end_turn-requires-in-Err-clause-may : goal.end_turn-requires-in-Err-clause-may
@@ -75,7 +75,7 @@ end_turn-requires-in-Err-clause-may g c =
     let y = state_of c.sync_store.new.file c.sync_store.new.commits in
     let has = subst (λ (x : DurableState). HasNotPassed g.D.Door.visible g.D.Door.keeps s t x y (fault_of c.in-Err.fault)) (sym f.3) (c.sync_store.ensures.err c.in-Err.fault c.in-Err.is) in
     subst (λ (q : Option ℕ). MayEndTurn g.N.Naming.start.geometry g.N.Naming.start.is_visible c.begin_turn.new.hand (sync_turn g.D.Door.keeps false q y t c.begin_turn.new.hand)) (sym (told_is_same c.told_of-told.result (fault_of c.in-Err.fault) c.told_of-told.ensures.some c.told_of-told.ensures.none))
-    (failure_ends g.N.Naming.start g.D.Door.visible g.D.Door.keeps c.begin_turn.result c.args.hand.now c.begin_turn.new.hand s t c.begin_turn.ensures.knows f.0 f.1 f.2 c.requires.store c.begin_turn.ensures.begun (λ visible. g.met.D.Door.whole visible c.args.store.now) (λ visible. g.met.D.Door.whole visible c.sync_store.new.store) has.geometry has.sectors y (fault_of c.in-Err.fault) has
+    (failure_ends g.N.Naming.start g.N.Naming.origin g.D.Door.visible g.D.Door.keeps c.begin_turn.result c.args.hand.now c.begin_turn.new.hand s t c.begin_turn.ensures.knows f.0 f.1 f.2 c.requires.store c.begin_turn.ensures.begun (λ visible. g.met.D.Door.whole visible c.args.store.now) (λ visible. g.met.D.Door.whole visible c.sync_store.new.store) has.geometry has.sectors y (fault_of c.in-Err.fault) has
     (subst FileFailuresMayEnd (c.geometry-geometry.ensures.is ∙ c.requires.store.formed) c.a_failed_commit_ends.ensures.may) f.4)
 
 pub returns-in-Ok-clause-store : goal.returns-in-Ok-clause-store
@@ -86,8 +86,8 @@ returns-in-Ok-clause-store g c =
     let y = state_of c.sync_store.new.file c.sync_store.new.commits in
     let has = subst (λ (x : DurableState). HasPassed g.D.Door.visible g.D.Door.keeps s t x y) (sym f.3) c.in-Ok.ensures.ok in
     let law = subst FileCommitsGoOn (c.geometry-geometry.ensures.is ∙ c.requires.store.formed) c.a_file_is_committed.ensures.on in
-    store_then g.N.Naming.start g.D.Door.visible g.D.Door.keeps c.begin_turn.result c.args.hand.now c.begin_turn.new.hand s t c.begin_turn.ensures.knows f.0 f.1 f.2 c.requires.store c.begin_turn.ensures.begun true None y c.end_turn.result c.end_turn.new.hand c.end_turn.ensures.ended has.geometry has.sectors
-    (commit_went g.N.Naming.start g.D.Door.visible g.D.Door.keeps c.begin_turn.result c.args.hand.now c.begin_turn.new.hand s t c.begin_turn.ensures.knows f.0 f.1 f.2 c.requires.store c.begin_turn.ensures.begun (λ visible. g.met.D.Door.whole visible c.args.store.now) (λ visible. g.met.D.Door.whole visible c.sync_store.new.store) has.geometry has.sectors y has law f.4)
+    store_then g.N.Naming.start g.N.Naming.origin g.D.Door.visible g.D.Door.keeps c.begin_turn.result c.args.hand.now c.begin_turn.new.hand s t c.begin_turn.ensures.knows f.0 f.1 f.2 c.requires.store c.begin_turn.ensures.begun true None y c.end_turn.result c.end_turn.new.hand c.end_turn.ensures.ended has.geometry has.sectors
+    (commit_went g.N.Naming.start g.N.Naming.origin g.D.Door.visible g.D.Door.keeps c.begin_turn.result c.args.hand.now c.begin_turn.new.hand s t c.begin_turn.ensures.knows f.0 f.1 f.2 c.requires.store c.begin_turn.ensures.begun (λ visible. g.met.D.Door.whole visible c.args.store.now) (λ visible. g.met.D.Door.whole visible c.sync_store.new.store) has.geometry has.sectors y has law f.4)
 
 pub returns-in-Err-clause-store : goal.returns-in-Err-clause-store
 returns-in-Err-clause-store g c =
@@ -97,14 +97,14 @@ returns-in-Err-clause-store g c =
     let y = state_of c.sync_store.new.file c.sync_store.new.commits in
     let has = subst (λ (x : DurableState). HasNotPassed g.D.Door.visible g.D.Door.keeps s t x y (fault_of c.in-Err.fault)) (sym f.3) (c.sync_store.ensures.err c.in-Err.fault c.in-Err.is) in
     let law = subst FileFailuresGoOn (c.geometry-geometry.ensures.is ∙ c.requires.store.formed) c.a_failed_commit_ends.ensures.on in
-    store_then g.N.Naming.start g.D.Door.visible g.D.Door.keeps c.begin_turn.result c.args.hand.now c.begin_turn.new.hand s t c.begin_turn.ensures.knows f.0 f.1 f.2 c.requires.store c.begin_turn.ensures.begun false c.told_of-told.result y c.end_turn-in-Err.result c.end_turn-in-Err.new.hand c.end_turn-in-Err.ensures.ended has.geometry has.sectors
-    (failure_went g.N.Naming.start g.D.Door.visible g.D.Door.keeps c.begin_turn.result c.args.hand.now c.begin_turn.new.hand s t c.begin_turn.ensures.knows f.0 f.1 f.2 c.requires.store c.begin_turn.ensures.begun (λ visible. g.met.D.Door.whole visible c.args.store.now) (λ visible. g.met.D.Door.whole visible c.sync_store.new.store) has.geometry has.sectors y (fault_of c.in-Err.fault) has law f.4)
+    store_then g.N.Naming.start g.N.Naming.origin g.D.Door.visible g.D.Door.keeps c.begin_turn.result c.args.hand.now c.begin_turn.new.hand s t c.begin_turn.ensures.knows f.0 f.1 f.2 c.requires.store c.begin_turn.ensures.begun false c.told_of-told.result y c.end_turn-in-Err.result c.end_turn-in-Err.new.hand c.end_turn-in-Err.ensures.ended has.geometry has.sectors
+    (failure_went g.N.Naming.start g.N.Naming.origin g.D.Door.visible g.D.Door.keeps c.begin_turn.result c.args.hand.now c.begin_turn.new.hand s t c.begin_turn.ensures.knows f.0 f.1 f.2 c.requires.store c.begin_turn.ensures.begun (λ visible. g.met.D.Door.whole visible c.args.store.now) (λ visible. g.met.D.Door.whole visible c.sync_store.new.store) has.geometry has.sectors y (fault_of c.in-Err.fault) has law f.4)
 
 pub returns-in-Ok-clause-ok : goal.returns-in-Ok-clause-ok
 returns-in-Ok-clause-ok g c name cell file =
     let f = c.requires.file in
     let y = state_of c.sync_store.new.file c.sync_store.new.commits in
-    committed_then g.N.Naming.start g.D.Door.visible g.D.Door.keeps c.begin_turn.result c.args.hand.now c.begin_turn.new.hand (g.D.Door.store c.args.store.now) (g.D.Door.store c.sync_store.new.store) c.begin_turn.ensures.knows name cell file c.requires.store c.begin_turn.ensures.begun y c.end_turn.new.hand c.end_turn.result c.end_turn.ensures.ended
+    committed_then g.N.Naming.start g.N.Naming.origin g.D.Door.visible g.D.Door.keeps c.begin_turn.result c.args.hand.now c.begin_turn.new.hand (g.D.Door.store c.args.store.now) (g.D.Door.store c.sync_store.new.store) c.begin_turn.ensures.knows name cell file c.requires.store c.begin_turn.ensures.begun y c.end_turn.new.hand c.end_turn.result c.end_turn.ensures.ended
     (ap (λ (q : DurableState). q.file.file) c.in-Ok.ensures.ok.committed ∙ ap (λ (q : DurableState). q.file.file) (sym f.3) ∙ f.2.number ∙ same f.0 f.1 name cell c.args.hand.now f.2 file)
   where
     key_of : ℕ → Rattle.std.specs.Prelude.List (ℕ × FileCell) → ℕ
@@ -117,24 +117,24 @@ returns-in-Ok-clause-ok g c name cell file =
 pub returns-in-Ok-clause-faults : goal.returns-in-Ok-clause-faults
 returns-in-Ok-clause-faults g c =
     let f = c.requires.file in
-    faults_then g.N.Naming.start g.D.Door.visible g.D.Door.keeps c.begin_turn.result c.args.hand.now c.begin_turn.new.hand (g.D.Door.store c.args.store.now) (g.D.Door.store c.sync_store.new.store) c.begin_turn.ensures.knows f.0 f.1 f.2 c.requires.store c.begin_turn.ensures.begun true None (state_of c.sync_store.new.file c.sync_store.new.commits) c.end_turn.result c.end_turn.new.hand c.end_turn.ensures.ended
+    faults_then g.N.Naming.start g.N.Naming.origin g.D.Door.visible g.D.Door.keeps c.begin_turn.result c.args.hand.now c.begin_turn.new.hand (g.D.Door.store c.args.store.now) (g.D.Door.store c.sync_store.new.store) c.begin_turn.ensures.knows f.0 f.1 f.2 c.requires.store c.begin_turn.ensures.begun true None (state_of c.sync_store.new.file c.sync_store.new.commits) c.end_turn.result c.end_turn.new.hand c.end_turn.ensures.ended
 
 pub returns-in-Err-clause-faults : goal.returns-in-Err-clause-faults
 returns-in-Err-clause-faults g c =
     let f = c.requires.file in
-    faults_then g.N.Naming.start g.D.Door.visible g.D.Door.keeps c.begin_turn.result c.args.hand.now c.begin_turn.new.hand (g.D.Door.store c.args.store.now) (g.D.Door.store c.sync_store.new.store) c.begin_turn.ensures.knows f.0 f.1 f.2 c.requires.store c.begin_turn.ensures.begun false c.told_of-told.result (state_of c.sync_store.new.file c.sync_store.new.commits) c.end_turn-in-Err.result c.end_turn-in-Err.new.hand c.end_turn-in-Err.ensures.ended
+    faults_then g.N.Naming.start g.N.Naming.origin g.D.Door.visible g.D.Door.keeps c.begin_turn.result c.args.hand.now c.begin_turn.new.hand (g.D.Door.store c.args.store.now) (g.D.Door.store c.sync_store.new.store) c.begin_turn.ensures.knows f.0 f.1 f.2 c.requires.store c.begin_turn.ensures.begun false c.told_of-told.result (state_of c.sync_store.new.file c.sync_store.new.commits) c.end_turn-in-Err.result c.end_turn-in-Err.new.hand c.end_turn-in-Err.ensures.ended
     ∙ ap (λ (q : Option ℕ). told_list q ++ c.args.hand.now.faults) (told_is_same c.told_of-told.result (fault_of c.in-Err.fault) c.told_of-told.ensures.some c.told_of-told.ensures.none)
 
 pub returns-in-Err-clause-stop : goal.returns-in-Err-clause-stop
 returns-in-Err-clause-stop g c fault is =
     let f = c.requires.file in
-    stop_then g.N.Naming.start g.D.Door.visible g.D.Door.keeps c.begin_turn.result c.args.hand.now c.begin_turn.new.hand (g.D.Door.store c.args.store.now) (g.D.Door.store c.sync_store.new.store) c.begin_turn.ensures.knows f.0 f.1 f.2 c.requires.store c.begin_turn.ensures.begun false c.told_of-told.result (state_of c.sync_store.new.file c.sync_store.new.commits) c.end_turn-in-Err.result c.end_turn-in-Err.new.hand c.end_turn-in-Err.ensures.ended
+    stop_then g.N.Naming.start g.N.Naming.origin g.D.Door.visible g.D.Door.keeps c.begin_turn.result c.args.hand.now c.begin_turn.new.hand (g.D.Door.store c.args.store.now) (g.D.Door.store c.sync_store.new.store) c.begin_turn.ensures.knows f.0 f.1 f.2 c.requires.store c.begin_turn.ensures.begun false c.told_of-told.result (state_of c.sync_store.new.file c.sync_store.new.commits) c.end_turn-in-Err.result c.end_turn-in-Err.new.hand c.end_turn-in-Err.ensures.ended
     ∙ c.sync_store.ensures.stopped fault (c.in-Err.is ∙ is)
 
 pub returns-in-Err-clause-stops : goal.returns-in-Err-clause-stops
 returns-in-Err-clause-stops g c fault is =
     let f = c.requires.file in
-    stop_then g.N.Naming.start g.D.Door.visible g.D.Door.keeps c.begin_turn.result c.args.hand.now c.begin_turn.new.hand (g.D.Door.store c.args.store.now) (g.D.Door.store c.sync_store.new.store) c.begin_turn.ensures.knows f.0 f.1 f.2 c.requires.store c.begin_turn.ensures.begun false c.told_of-told.result (state_of c.sync_store.new.file c.sync_store.new.commits) c.end_turn-in-Err.result c.end_turn-in-Err.new.hand c.end_turn-in-Err.ensures.ended
+    stop_then g.N.Naming.start g.N.Naming.origin g.D.Door.visible g.D.Door.keeps c.begin_turn.result c.args.hand.now c.begin_turn.new.hand (g.D.Door.store c.args.store.now) (g.D.Door.store c.sync_store.new.store) c.begin_turn.ensures.knows f.0 f.1 f.2 c.requires.store c.begin_turn.ensures.begun false c.told_of-told.result (state_of c.sync_store.new.file c.sync_store.new.commits) c.end_turn-in-Err.result c.end_turn-in-Err.new.hand c.end_turn-in-Err.ensures.ended
     ∙ stop_told (g.D.Door.store c.args.store.now).stop (g.D.Door.store c.sync_store.new.store).stop c.sync_store.result fault c.sync_store.ensures.halts c.sync_store.ensures.halted (ap (λ (r : _). fault_told (fault_in r)) c.in-Err.is ∙ is)
 
 pub returns-in-Ok-clause-freed : goal.returns-in-Ok-clause-freed

@@ -45,13 +45,13 @@ move_blocks-requires-clause-may g c =
     )
 
 pub returns-clause-store : goal.returns-clause-store
-returns-clause-store g c = store_then g.N.Naming.start g.D.Door.visible g.D.Door.keeps c.look.result c.args.hand.now c.look.new.self c.move_blocks.new.hand (g.D.Door.store c.args.store.now) (g.D.Door.store c.give_pool-given.new.self) c.requires.store c.look.ensures.cells c.requires.pool.0 c.args.pool.now c.give_pool-given.new.pool c.requires.pool.1 c.give_pool-given.ensures.rest c.move_blocks.ensures
+returns-clause-store g c = store_then g.N.Naming.start g.N.Naming.origin g.D.Door.visible g.D.Door.keeps c.look.result c.args.hand.now c.look.new.self c.move_blocks.new.hand (g.D.Door.store c.args.store.now) (g.D.Door.store c.give_pool-given.new.self) c.requires.store c.look.ensures.cells c.requires.pool.0 c.args.pool.now c.give_pool-given.new.pool c.requires.pool.1 c.give_pool-given.ensures.rest c.move_blocks.ensures
 
 pub returns-clause-pool : goal.returns-clause-pool
-returns-clause-pool g c name pools = pools_then g.N.Naming.start g.D.Door.visible g.D.Door.keeps c.look.result c.args.hand.now c.look.new.self c.move_blocks.new.hand (g.D.Door.store c.args.store.now) (g.D.Door.store c.give_pool-given.new.self) c.requires.store c.look.ensures.cells name c.args.pool.now c.give_pool-given.new.pool pools c.give_pool-given.ensures.rest c.move_blocks.ensures
+returns-clause-pool g c name pools = pools_then g.N.Naming.start g.N.Naming.origin g.D.Door.visible g.D.Door.keeps c.look.result c.args.hand.now c.look.new.self c.move_blocks.new.hand (g.D.Door.store c.args.store.now) (g.D.Door.store c.give_pool-given.new.self) c.requires.store c.look.ensures.cells name c.args.pool.now c.give_pool-given.new.pool pools c.give_pool-given.ensures.rest c.move_blocks.ensures
 
 pub returns-clause-beside : goal.returns-clause-beside
-returns-clause-beside g c = beside_then g.N.Naming.start g.D.Door.visible g.D.Door.keeps c.look.result c.args.hand.now c.look.new.self c.move_blocks.new.hand (g.D.Door.store c.args.store.now) (g.D.Door.store c.give_pool-given.new.self) c.requires.store c.look.ensures.cells c.requires.pool.0 c.args.pool.now c.give_pool-given.new.pool c.requires.pool.1 c.give_pool-given.ensures.rest c.move_blocks.ensures c.look.ensures.later
+returns-clause-beside g c = beside_then g.N.Naming.start g.N.Naming.origin g.D.Door.visible g.D.Door.keeps c.look.result c.args.hand.now c.look.new.self c.move_blocks.new.hand (g.D.Door.store c.args.store.now) (g.D.Door.store c.give_pool-given.new.self) c.requires.store c.look.ensures.cells c.requires.pool.0 c.args.pool.now c.give_pool-given.new.pool c.requires.pool.1 c.give_pool-given.ensures.rest c.move_blocks.ensures c.look.ensures.later
 
 gains : (r : Result (Unit {0}) StoreFault) (missing had : ℕ) (old new from left : BlockSet) → set.len from ≡ had → AreApart old from → ((had < missing) → r ≡ Err (refusal.NoSpace missing had)) → OnOk r (MovesLowest (missing + 64) from left old new) → OnOk r (GainsBlocks missing from left old new)
 gains (Err x) missing had old new from left is apart lacks ok = tt

@@ -49,19 +49,19 @@ pub returns-clause-store : goal.returns-clause-store
 returns-clause-store g c =
     let s = g.D.Door.store c.args.store.now in
     let t = g.D.Door.store c.take_back.new.self in
-    store_then g.N.Naming.start g.D.Door.visible g.D.Door.keeps c.look.result c.args.hand.now c.look.new.self c.move_blocks.new.hand s t c.requires.store c.look.ensures.cells c.requires.pool.0 c.args.pool.now c.take_back.new.pool c.requires.pool.1 (rest s t (set.union s.unassigned.free c.args.pool.now) c.take_back.ensures.back) c.move_blocks.ensures
+    store_then g.N.Naming.start g.N.Naming.origin g.D.Door.visible g.D.Door.keeps c.look.result c.args.hand.now c.look.new.self c.move_blocks.new.hand s t c.requires.store c.look.ensures.cells c.requires.pool.0 c.args.pool.now c.take_back.new.pool c.requires.pool.1 (rest s t (set.union s.unassigned.free c.args.pool.now) c.take_back.ensures.back) c.move_blocks.ensures
 
 pub returns-clause-pool : goal.returns-clause-pool
 returns-clause-pool g c name pools =
     let s = g.D.Door.store c.args.store.now in
     let t = g.D.Door.store c.take_back.new.self in
-    pools_then g.N.Naming.start g.D.Door.visible g.D.Door.keeps c.look.result c.args.hand.now c.look.new.self c.move_blocks.new.hand s t c.requires.store c.look.ensures.cells name c.args.pool.now c.take_back.new.pool pools (rest s t (set.union s.unassigned.free c.args.pool.now) c.take_back.ensures.back) c.move_blocks.ensures
+    pools_then g.N.Naming.start g.N.Naming.origin g.D.Door.visible g.D.Door.keeps c.look.result c.args.hand.now c.look.new.self c.move_blocks.new.hand s t c.requires.store c.look.ensures.cells name c.args.pool.now c.take_back.new.pool pools (rest s t (set.union s.unassigned.free c.args.pool.now) c.take_back.ensures.back) c.move_blocks.ensures
 
 pub returns-clause-beside : goal.returns-clause-beside
 returns-clause-beside g c =
     let s = g.D.Door.store c.args.store.now in
     let t = g.D.Door.store c.take_back.new.self in
-    beside_then g.N.Naming.start g.D.Door.visible g.D.Door.keeps c.look.result c.args.hand.now c.look.new.self c.move_blocks.new.hand s t c.requires.store c.look.ensures.cells c.requires.pool.0 c.args.pool.now c.take_back.new.pool c.requires.pool.1 (rest s t (set.union s.unassigned.free c.args.pool.now) c.take_back.ensures.back) c.move_blocks.ensures c.look.ensures.later
+    beside_then g.N.Naming.start g.N.Naming.origin g.D.Door.visible g.D.Door.keeps c.look.result c.args.hand.now c.look.new.self c.move_blocks.new.hand s t c.requires.store c.look.ensures.cells c.requires.pool.0 c.args.pool.now c.take_back.new.pool c.requires.pool.1 (rest s t (set.union s.unassigned.free c.args.pool.now) c.take_back.ensures.back) c.move_blocks.ensures c.look.ensures.later
 
 pub returns-clause-back : goal.returns-clause-back
 returns-clause-back g c = ap (λ (q : StoreState). q.unassigned.free) c.take_back.ensures.back

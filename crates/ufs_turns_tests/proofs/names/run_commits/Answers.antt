@@ -14,7 +14,7 @@ new-held-requires-clause-home g c =
     let n = c.args.names.now in
     let s = g.D.Door.store c.args.store in
     let first = c.named-table.ensures ∙ ap (λ (k : Start). k.view) c.requires.start in
-    subst (λ (x : Start × View). IsHeldStore x.0 g.D.Door.visible g.D.Door.keeps x.1 s) (λ j. (sym c.requires.start j, sym (c.split-own.ensures.given ∙ ap (given_of Store) first) j)) (held n s g.D.Door.visible g.D.Door.keeps c.requires.formed)
+    subst (λ (x : Start × View). IsHeldStore x.0 g.N.Naming.origin g.D.Door.visible g.D.Door.keeps x.1 s) (λ j. (sym c.requires.start j, sym (c.split-own.ensures.given ∙ ap (given_of Store) first) j)) (held n s g.N.Naming.origin g.D.Door.visible g.D.Door.keeps c.requires.formed)
 
 pub commit_twice-first-requires-clause-lent : goal.commit_twice-first-requires-clause-lent
 commit_twice-first-requires-clause-lent g c =
@@ -34,7 +34,7 @@ close-tickets-requires-clause-all g c =
     let own = c.into_parts-own.result.0 in
     let clients = told.ensures.clients ∙ ap (λ (v : View). v.clients) kept in
     let pools = told.ensures.pools ∙ ap (λ (v : View). v.pools) kept in
-    let home = subst (λ (k : Start). IsHeldStore k g.D.Door.visible g.D.Door.keeps own (g.D.Door.store c.into_parts-own.result.1)) c.requires.start c.into_parts-own.ensures.home in
+    let home = subst (λ (k : Start). IsHeldStore k g.N.Naming.origin g.D.Door.visible g.D.Door.keeps own (g.D.Door.store c.into_parts-own.result.1)) c.requires.start c.into_parts-own.ensures.home in
     let l = told.ensures.lent in
     subst (λ (x : Start × View). HoldsAll x.0 x.1) (λ j. (sym c.requires.start j, sym c.join.ensures j))
-    (all_there n s c.requires.part g.D.Door.visible g.D.Door.keeps told.new.hand own (g.D.Door.store c.into_parts-own.result.1) l.0 l.1 l.2 clients pools home)
+    (all_there n s c.requires.part g.N.Naming.origin g.D.Door.visible g.D.Door.keeps told.new.hand own (g.D.Door.store c.into_parts-own.result.1) l.0 l.1 l.2 clients pools home)

@@ -14,7 +14,7 @@ new-held-requires-clause-home g c =
     let n = c.args.names.now in
     let s = g.D.Door.store c.args.store in
     let first = c.named-table.ensures ∙ ap (λ (k : Start). k.view) c.requires.start in
-    subst (λ (x : Start × View). IsHeldStore x.0 g.D.Door.visible g.D.Door.keeps x.1 s) (λ j. (sym c.requires.start j, sym (c.split-own.ensures.given ∙ ap (given_of Store) first) j)) (held n s g.D.Door.visible g.D.Door.keeps c.requires.formed)
+    subst (λ (x : Start × View). IsHeldStore x.0 g.N.Naming.origin g.D.Door.visible g.D.Door.keeps x.1 s) (λ j. (sym c.requires.start j, sym (c.split-own.ensures.given ∙ ap (given_of Store) first) j)) (held n s g.N.Naming.origin g.D.Door.visible g.D.Door.keeps c.requires.formed)
 
 pub turns_straight-held-requires-clause-lent : goal.turns_straight-held-requires-clause-lent
 turns_straight-held-requires-clause-lent g c =
@@ -44,7 +44,7 @@ close-tickets-requires-clause-all g c =
     let own = c.into_parts-own.result.0 in
     let here = subst (λ (x : BlockSet × View). LendsPool 0 x.0 x.1) (λ j. (sym c.requires.none j, sym (c.split-lent.ensures.given ∙ ap (given_of (File 0)) kept) j)) (lends n s) in
     let clients = told.ensures.clients ∙ ap (λ (v : View). v.clients) (c.split-lent.ensures.given ∙ ap (given_of (File 0)) kept) in
-    let home = subst (λ (k : Start). IsHeldStore k g.D.Door.visible g.D.Door.keeps own (g.D.Door.store c.into_parts-own.result.1)) c.requires.start c.into_parts-own.ensures.home in
+    let home = subst (λ (k : Start). IsHeldStore k g.N.Naming.origin g.D.Door.visible g.D.Door.keeps own (g.D.Door.store c.into_parts-own.result.1)) c.requires.start c.into_parts-own.ensures.home in
     let all = c.join-2.ensures ∙ (λ j. both_of (c.join.ensures j) own) ∙ ap (λ (v : View). both_of (both_of v lent) own) rest in
     subst (λ (x : Start × View). HoldsAll x.0 x.1) (λ j. (sym c.requires.start j, sym all j))
-    (gathered n s c.requires.part g.D.Door.visible g.D.Door.keeps lent own (g.D.Door.store c.into_parts-own.result.1) told.ensures.bare clients told.new.pool (told.ensures.pool 0 here).pools home)
+    (gathered n s c.requires.part g.N.Naming.origin g.D.Door.visible g.D.Door.keeps lent own (g.D.Door.store c.into_parts-own.result.1) told.ensures.bare clients told.new.pool (told.ensures.pool 0 here).pools home)

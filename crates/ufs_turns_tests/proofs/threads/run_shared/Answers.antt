@@ -14,7 +14,7 @@ new-requires-clause-home g c =
     let n = c.args.names.now in
     let s = g.D.Door.store c.args.store in
     let first = c.named-table.ensures ∙ ap (λ (k : Start). k.view) c.requires.start in
-    subst (λ (x : Start × View). IsHeldStore x.0 g.D.Door.visible g.D.Door.keeps x.1 s) (λ j. (sym c.requires.start j, sym (c.split-own.ensures.given ∙ ap (given_of Store) first) j)) (held n s g.D.Door.visible g.D.Door.keeps c.requires.formed)
+    subst (λ (x : Start × View). IsHeldStore x.0 g.N.Naming.origin g.D.Door.visible g.D.Door.keeps x.1 s) (λ j. (sym c.requires.start j, sym (c.split-own.ensures.given ∙ ap (given_of Store) first) j)) (held n s g.N.Naming.origin g.D.Door.visible g.D.Door.keeps c.requires.formed)
 
 pub give_seat-one-requires : goal.give_seat-one-requires
 give_seat-one-requires g c =
@@ -66,7 +66,7 @@ close-tickets-requires-clause-all g c =
     let seat_b = subst (λ (m : ℕ). IsSeat m two.1 two.0) (told.two ∙ c.give_seat-two.ensures.number) c.leave-two.ensures in
     let seat_c = subst (λ (m : ℕ). IsSeat m three.1 three.0) (told.three ∙ c.give_seat-three.ensures.number) c.leave-three.ensures in
     let seat_d = subst (λ (m : ℕ). IsSeat m four.1 four.0) (told.four ∙ c.give_seat-four.ensures.number) c.leave-four.ensures in
-    let home = subst (λ (k : Start). IsHeldStore k g.D.Door.visible g.D.Door.keeps own (g.D.Door.store c.into_parts-own.result.1)) c.requires.start c.into_parts-own.ensures.home in
+    let home = subst (λ (k : Start). IsHeldStore k g.N.Naming.origin g.D.Door.visible g.D.Door.keeps own (g.D.Door.store c.into_parts-own.result.1)) c.requires.start c.into_parts-own.ensures.home in
     let all = c.join-5.ensures ∙ ap (λ (v : View). both_of v own) (c.join-4.ensures ∙ ap (λ (v : View). both_of v four.0) (c.join-3.ensures ∙ ap (λ (v : View). both_of v three.0) (c.join-2.ensures ∙ ap (λ (v : View). both_of v two.0) (c.join.ensures ∙ ap (λ (v : View). both_of v one.0) k4)))) in
     subst (λ (x : Start × View). HoldsAll x.0 x.1) (λ j. (sym c.requires.start j, sym all j))
-    (all_gathered n s c.requires.part g.D.Door.visible g.D.Door.keeps one.0 two.0 three.0 four.0 own (g.D.Door.store c.into_parts-own.result.1) one.1 two.1 three.1 four.1 seat_a seat_b seat_c seat_d home)
+    (all_gathered n s c.requires.part g.N.Naming.origin g.D.Door.visible g.D.Door.keeps one.0 two.0 three.0 four.0 own (g.D.Door.store c.into_parts-own.result.1) one.1 two.1 three.1 four.1 seat_a seat_b seat_c seat_d home)

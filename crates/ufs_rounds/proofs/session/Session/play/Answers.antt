@@ -5,7 +5,7 @@ use Rattle.ufs_rounds.proofs.Playing.{has_played}
 use Rattle.ufs_rounds.proofs.session.Session.play.Goals as goal
 
 pub returns-in-Ok-clause-played : goal.returns-in-Ok-clause-played
-returns-in-Ok-clause-played g c = has_played _ _ _ _ _ _ _ _ _ _ c.end.ensures.told c.end.ensures.finished c.play-played.ensures.first c.in-Ok.ensures.all
+returns-in-Ok-clause-played g c = has_played _ _ _ _ _ _ _ _ _ _ _ c.end.ensures.told c.end.ensures.finished c.play-played.ensures.first c.in-Ok.ensures.all
 
 pub returns-in-Ok-clause-turns : goal.returns-in-Ok-clause-turns
 returns-in-Ok-clause-turns g c =

@@ -38,7 +38,7 @@ returns-clause-free g c =
     let t = g.D.Door.store c.checkpoint_lent-made.new.store in
     let st = c.checkpoint_lent-made.ensures.store in
     let alone = c.give_back.ensures.home (cell_of st.stamp st.past t) st.has in
-    in_cells g.N.Naming.start g.D.Door.visible g.D.Door.keeps c.self.inside.hand c.give_back.new.own c.args.self.now (g.D.Door.store c.self.inside.store) c.self.invariant.1 c.self.view_is (cell_of st.stamp st.past t) alone
+    in_cells g.N.Naming.start g.N.Naming.origin g.D.Door.visible g.D.Door.keeps c.self.inside.hand c.give_back.new.own c.args.self.now (g.D.Door.store c.self.inside.store) c.self.invariant.1 c.self.view_is (cell_of st.stamp st.past t) alone
     (λ (had has : BlockSet). has ≡ had) c.checkpoint_lent-made.ensures.free
 
 pub returns-clause-halts : goal.returns-clause-halts
@@ -46,11 +46,11 @@ returns-clause-halts g c =
     let t = g.D.Door.store c.checkpoint_lent-made.new.store in
     let st = c.checkpoint_lent-made.ensures.store in
     let alone = c.give_back.ensures.home (cell_of st.stamp st.past t) st.has in
-    stop_behind g.N.Naming.start g.D.Door.visible g.D.Door.keeps c.self.inside.hand c.give_back.new.own c.args.self.now (g.D.Door.store c.self.inside.store) c.self.invariant.1 c.self.view_is (cell_of st.stamp st.past t) (fault_in c.checkpoint_lent-made.result) alone c.checkpoint_lent-made.ensures.halts
+    stop_behind g.N.Naming.start g.N.Naming.origin g.D.Door.visible g.D.Door.keeps c.self.inside.hand c.give_back.new.own c.args.self.now (g.D.Door.store c.self.inside.store) c.self.invariant.1 c.self.view_is (cell_of st.stamp st.past t) (fault_in c.checkpoint_lent-made.result) alone c.checkpoint_lent-made.ensures.halts
 
 pub returns-clause-halted : goal.returns-clause-halted
 returns-clause-halted g c fault is =
-    c.checkpoint_lent-made.ensures.halted fault (sym (stop_before g.N.Naming.start g.D.Door.visible g.D.Door.keeps c.self.inside.hand c.give_back.new.own c.args.self.now (g.D.Door.store c.self.inside.store) c.self.invariant.1 c.self.view_is) ∙ is)
+    c.checkpoint_lent-made.ensures.halted fault (sym (stop_before g.N.Naming.start g.N.Naming.origin g.D.Door.visible g.D.Door.keeps c.self.inside.hand c.give_back.new.own c.args.self.now (g.D.Door.store c.self.inside.store) c.self.invariant.1 c.self.view_is) ∙ is)
 
 pub returns-clause-stopped : goal.returns-clause-stopped
 returns-clause-stopped g c fault is =
@@ -64,4 +64,4 @@ returns-clause-ran g c =
     let t = g.D.Door.store c.checkpoint_lent-made.new.store in
     let st = c.checkpoint_lent-made.ensures.store in
     let alone = c.give_back.ensures.home (cell_of st.stamp st.past t) st.has in
-    run_behind g.N.Naming.start g.D.Door.visible g.D.Door.keeps c.self.inside.hand c.give_back.new.own c.args.self.now (g.D.Door.store c.self.inside.store) c.self.invariant.1 c.self.view_is st.stamp st.past t alone (fault_in c.checkpoint_lent-made.result) 1 0 c.checkpoint_lent-made.ensures.ran
+    run_behind g.N.Naming.start g.N.Naming.origin g.D.Door.visible g.D.Door.keeps c.self.inside.hand c.give_back.new.own c.args.self.now (g.D.Door.store c.self.inside.store) c.self.invariant.1 c.self.view_is st.stamp st.past t alone (fault_in c.checkpoint_lent-made.result) 1 0 c.checkpoint_lent-made.ensures.ran

@@ -77,7 +77,7 @@ returns-clause-free g c =
     let t = g.D.Door.store c.commit_lent-committed.new.store in
     let st = c.commit_lent-committed.ensures.store in
     let alone = c.give_back.ensures.home (cell_of st.stamp st.past t) st.has in
-    in_cells g.N.Naming.start g.D.Door.visible g.D.Door.keeps c.self.inside.hand c.give_back.new.own c.args.self.now (g.D.Door.store c.self.inside.store) c.self.invariant.1 c.self.view_is (cell_of st.stamp st.past t) alone
+    in_cells g.N.Naming.start g.N.Naming.origin g.D.Door.visible g.D.Door.keeps c.self.inside.hand c.give_back.new.own c.args.self.now (g.D.Door.store c.self.inside.store) c.self.invariant.1 c.self.view_is (cell_of st.stamp st.past t) alone
     (λ (had has : BlockSet). has ≡ had) c.commit_lent-committed.ensures.free
 
 pub returns-clause-halts : goal.returns-clause-halts
@@ -85,11 +85,11 @@ returns-clause-halts g c =
     let t = g.D.Door.store c.commit_lent-committed.new.store in
     let st = c.commit_lent-committed.ensures.store in
     let alone = c.give_back.ensures.home (cell_of st.stamp st.past t) st.has in
-    stop_behind g.N.Naming.start g.D.Door.visible g.D.Door.keeps c.self.inside.hand c.give_back.new.own c.args.self.now (g.D.Door.store c.self.inside.store) c.self.invariant.1 c.self.view_is (cell_of st.stamp st.past t) (fault_in c.commit_lent-committed.result) alone c.commit_lent-committed.ensures.halts
+    stop_behind g.N.Naming.start g.N.Naming.origin g.D.Door.visible g.D.Door.keeps c.self.inside.hand c.give_back.new.own c.args.self.now (g.D.Door.store c.self.inside.store) c.self.invariant.1 c.self.view_is (cell_of st.stamp st.past t) (fault_in c.commit_lent-committed.result) alone c.commit_lent-committed.ensures.halts
 
 pub returns-clause-halted : goal.returns-clause-halted
 returns-clause-halted g c fault is =
-    c.commit_lent-committed.ensures.halted fault (sym (stop_before g.N.Naming.start g.D.Door.visible g.D.Door.keeps c.self.inside.hand c.give_back.new.own c.args.self.now (g.D.Door.store c.self.inside.store) c.self.invariant.1 c.self.view_is) ∙ is)
+    c.commit_lent-committed.ensures.halted fault (sym (stop_before g.N.Naming.start g.N.Naming.origin g.D.Door.visible g.D.Door.keeps c.self.inside.hand c.give_back.new.own c.args.self.now (g.D.Door.store c.self.inside.store) c.self.invariant.1 c.self.view_is) ∙ is)
 
 pub returns-clause-stopped : goal.returns-clause-stopped
 returns-clause-stopped g c fault is =
@@ -103,4 +103,4 @@ returns-clause-ran g c =
     let t = g.D.Door.store c.commit_lent-committed.new.store in
     let st = c.commit_lent-committed.ensures.store in
     let alone = c.give_back.ensures.home (cell_of st.stamp st.past t) st.has in
-    run_behind g.N.Naming.start g.D.Door.visible g.D.Door.keeps c.self.inside.hand c.give_back.new.own c.args.self.now (g.D.Door.store c.self.inside.store) c.self.invariant.1 c.self.view_is st.stamp st.past t alone (fault_in c.commit_lent-committed.result) 1 1 c.commit_lent-committed.ensures.ran
+    run_behind g.N.Naming.start g.N.Naming.origin g.D.Door.visible g.D.Door.keeps c.self.inside.hand c.give_back.new.own c.args.self.now (g.D.Door.store c.self.inside.store) c.self.invariant.1 c.self.view_is st.stamp st.past t alone (fault_in c.commit_lent-committed.result) 1 1 c.commit_lent-committed.ensures.ran

@@ -21,7 +21,7 @@ returns-clause-free g c =
     let t = g.D.Door.store c.fetch_lent-read.new.store in
     let st = c.fetch_lent-read.ensures.store in
     let alone = c.give_back.ensures.home (cell_of st.stamp st.past t) st.has in
-    in_cells g.N.Naming.start g.D.Door.visible g.D.Door.keeps c.self.inside.hand c.give_back.new.own c.args.self.now (g.D.Door.store c.self.inside.store) c.self.invariant.1 c.self.view_is (cell_of st.stamp st.past t) alone
+    in_cells g.N.Naming.start g.N.Naming.origin g.D.Door.visible g.D.Door.keeps c.self.inside.hand c.give_back.new.own c.args.self.now (g.D.Door.store c.self.inside.store) c.self.invariant.1 c.self.view_is (cell_of st.stamp st.past t) alone
     (λ (had has : BlockSet). has ≡ had) c.fetch_lent-read.ensures.free
 
 pub returns-clause-ran : goal.returns-clause-ran
@@ -29,11 +29,11 @@ returns-clause-ran g c =
     let t = g.D.Door.store c.fetch_lent-read.new.store in
     let st = c.fetch_lent-read.ensures.store in
     let alone = c.give_back.ensures.home (cell_of st.stamp st.past t) st.has in
-    run_behind g.N.Naming.start g.D.Door.visible g.D.Door.keeps c.self.inside.hand c.give_back.new.own c.args.self.now (g.D.Door.store c.self.inside.store) c.self.invariant.1 c.self.view_is st.stamp st.past t alone (fault_in c.fetch_lent-read.result) 0 0 c.fetch_lent-read.ensures.ran
+    run_behind g.N.Naming.start g.N.Naming.origin g.D.Door.visible g.D.Door.keeps c.self.inside.hand c.give_back.new.own c.args.self.now (g.D.Door.store c.self.inside.store) c.self.invariant.1 c.self.view_is st.stamp st.past t alone (fault_in c.fetch_lent-read.result) 0 0 c.fetch_lent-read.ensures.ran
 
 pub returns-clause-rests : goal.returns-clause-rests
 returns-clause-rests g c =
     let t = g.D.Door.store c.fetch_lent-read.new.store in
     let st = c.fetch_lent-read.ensures.store in
     let alone = c.give_back.ensures.home (cell_of st.stamp st.past t) st.has in
-    stop_rests g.N.Naming.start g.D.Door.visible g.D.Door.keeps c.self.inside.hand c.give_back.new.own c.args.self.now (g.D.Door.store c.self.inside.store) c.self.invariant.1 c.self.view_is (cell_of st.stamp st.past t) alone c.fetch_lent-read.ensures.rests
+    stop_rests g.N.Naming.start g.N.Naming.origin g.D.Door.visible g.D.Door.keeps c.self.inside.hand c.give_back.new.own c.args.self.now (g.D.Door.store c.self.inside.store) c.self.invariant.1 c.self.view_is (cell_of st.stamp st.past t) alone c.fetch_lent-read.ensures.rests

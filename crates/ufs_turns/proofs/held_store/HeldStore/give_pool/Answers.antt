@@ -19,7 +19,7 @@ returns-clause-given g c =
     let t = g.D.Door.store c.give_lent-given.new.store in
     let st = c.give_lent-given.ensures.store in
     let alone = c.give_back.ensures.home (cell_of st.stamp st.past t) st.has in
-    in_cells g.N.Naming.start g.D.Door.visible g.D.Door.keeps c.self.inside.hand c.give_back.new.own c.args.self.now (g.D.Door.store c.self.inside.store) c.self.invariant.1 c.self.view_is (cell_of st.stamp st.past t) alone
+    in_cells g.N.Naming.start g.N.Naming.origin g.D.Door.visible g.D.Door.keeps c.self.inside.hand c.give_back.new.own c.args.self.now (g.D.Door.store c.self.inside.store) c.self.invariant.1 c.self.view_is (cell_of st.stamp st.past t) alone
     (λ (had left : BlockSet). OnOk c.give_lent-given.result (GainsBlocks c.args.missing had left c.args.pool.now c.give_lent-given.new.pool)) c.give_lent-given.ensures.given
 
 pub returns-clause-lacks : goal.returns-clause-lacks
@@ -27,7 +27,7 @@ returns-clause-lacks g c =
     let t = g.D.Door.store c.give_lent-given.new.store in
     let st = c.give_lent-given.ensures.store in
     let alone = c.give_back.ensures.home (cell_of st.stamp st.past t) st.has in
-    in_cells g.N.Naming.start g.D.Door.visible g.D.Door.keeps c.self.inside.hand c.give_back.new.own c.args.self.now (g.D.Door.store c.self.inside.store) c.self.invariant.1 c.self.view_is (cell_of st.stamp st.past t) alone
+    in_cells g.N.Naming.start g.N.Naming.origin g.D.Door.visible g.D.Door.keeps c.self.inside.hand c.give_back.new.own c.args.self.now (g.D.Door.store c.self.inside.store) c.self.invariant.1 c.self.view_is (cell_of st.stamp st.past t) alone
     (λ (had left : BlockSet). IfErr c.give_lent-given.result (LacksBlocks c.args.missing (set.len had))) c.give_lent-given.ensures.lacks
 
 pub returns-clause-same : goal.returns-clause-same
@@ -35,7 +35,7 @@ returns-clause-same g c =
     let t = g.D.Door.store c.give_lent-given.new.store in
     let st = c.give_lent-given.ensures.store in
     let alone = c.give_back.ensures.home (cell_of st.stamp st.past t) st.has in
-    in_cells g.N.Naming.start g.D.Door.visible g.D.Door.keeps c.self.inside.hand c.give_back.new.own c.args.self.now (g.D.Door.store c.self.inside.store) c.self.invariant.1 c.self.view_is (cell_of st.stamp st.past t) alone
+    in_cells g.N.Naming.start g.N.Naming.origin g.D.Door.visible g.D.Door.keeps c.self.inside.hand c.give_back.new.own c.args.self.now (g.D.Door.store c.self.inside.store) c.self.invariant.1 c.self.view_is (cell_of st.stamp st.past t) alone
     (λ (had left : BlockSet). OnErr c.give_lent-given.result (left ≡ had)) c.give_lent-given.ensures.same
 
 pub returns-clause-ran : goal.returns-clause-ran
@@ -43,11 +43,11 @@ returns-clause-ran g c =
     let t = g.D.Door.store c.give_lent-given.new.store in
     let st = c.give_lent-given.ensures.store in
     let alone = c.give_back.ensures.home (cell_of st.stamp st.past t) st.has in
-    run_behind g.N.Naming.start g.D.Door.visible g.D.Door.keeps c.self.inside.hand c.give_back.new.own c.args.self.now (g.D.Door.store c.self.inside.store) c.self.invariant.1 c.self.view_is st.stamp st.past t alone None 0 0 c.give_lent-given.ensures.ran
+    run_behind g.N.Naming.start g.N.Naming.origin g.D.Door.visible g.D.Door.keeps c.self.inside.hand c.give_back.new.own c.args.self.now (g.D.Door.store c.self.inside.store) c.self.invariant.1 c.self.view_is st.stamp st.past t alone None 0 0 c.give_lent-given.ensures.ran
 
 pub returns-clause-rests : goal.returns-clause-rests
 returns-clause-rests g c =
     let t = g.D.Door.store c.give_lent-given.new.store in
     let st = c.give_lent-given.ensures.store in
     let alone = c.give_back.ensures.home (cell_of st.stamp st.past t) st.has in
-    stop_rests g.N.Naming.start g.D.Door.visible g.D.Door.keeps c.self.inside.hand c.give_back.new.own c.args.self.now (g.D.Door.store c.self.inside.store) c.self.invariant.1 c.self.view_is (cell_of st.stamp st.past t) alone c.give_lent-given.ensures.rests
+    stop_rests g.N.Naming.start g.N.Naming.origin g.D.Door.visible g.D.Door.keeps c.self.inside.hand c.give_back.new.own c.args.self.now (g.D.Door.store c.self.inside.store) c.self.invariant.1 c.self.view_is (cell_of st.stamp st.past t) alone c.give_lent-given.ensures.rests

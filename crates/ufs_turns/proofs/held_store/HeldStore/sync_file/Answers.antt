@@ -43,7 +43,7 @@ returns-clause-freed g c =
     let t = g.D.Door.store c.sync_lent-synced.new.store in
     let st = c.sync_lent-synced.ensures.store in
     let alone = c.give_back.ensures.home (cell_of st.stamp st.past t) st.has in
-    in_cells g.N.Naming.start g.D.Door.visible g.D.Door.keeps c.self.inside.hand c.give_back.new.own c.args.self.now (g.D.Door.store c.self.inside.store) c.self.invariant.1 c.self.view_is (cell_of st.stamp st.past t) alone
+    in_cells g.N.Naming.start g.N.Naming.origin g.D.Door.visible g.D.Door.keeps c.self.inside.hand c.give_back.new.own c.args.self.now (g.D.Door.store c.self.inside.store) c.self.invariant.1 c.self.view_is (cell_of st.stamp st.past t) alone
     (λ (had has : BlockSet). OnOk c.sync_lent-synced.result (has ≡ set.union had (set_of c.args.commits.now.dropped))) c.sync_lent-synced.ensures.freed
 
 pub returns-clause-unfreed : goal.returns-clause-unfreed
@@ -51,7 +51,7 @@ returns-clause-unfreed g c =
     let t = g.D.Door.store c.sync_lent-synced.new.store in
     let st = c.sync_lent-synced.ensures.store in
     let alone = c.give_back.ensures.home (cell_of st.stamp st.past t) st.has in
-    in_cells g.N.Naming.start g.D.Door.visible g.D.Door.keeps c.self.inside.hand c.give_back.new.own c.args.self.now (g.D.Door.store c.self.inside.store) c.self.invariant.1 c.self.view_is (cell_of st.stamp st.past t) alone
+    in_cells g.N.Naming.start g.N.Naming.origin g.D.Door.visible g.D.Door.keeps c.self.inside.hand c.give_back.new.own c.args.self.now (g.D.Door.store c.self.inside.store) c.self.invariant.1 c.self.view_is (cell_of st.stamp st.past t) alone
     (λ (had has : BlockSet). OnErr c.sync_lent-synced.result (has ≡ had)) c.sync_lent-synced.ensures.unfreed
 
 pub returns-clause-halts : goal.returns-clause-halts
@@ -59,11 +59,11 @@ returns-clause-halts g c =
     let t = g.D.Door.store c.sync_lent-synced.new.store in
     let st = c.sync_lent-synced.ensures.store in
     let alone = c.give_back.ensures.home (cell_of st.stamp st.past t) st.has in
-    stop_behind g.N.Naming.start g.D.Door.visible g.D.Door.keeps c.self.inside.hand c.give_back.new.own c.args.self.now (g.D.Door.store c.self.inside.store) c.self.invariant.1 c.self.view_is (cell_of st.stamp st.past t) (fault_in c.sync_lent-synced.result) alone c.sync_lent-synced.ensures.halts
+    stop_behind g.N.Naming.start g.N.Naming.origin g.D.Door.visible g.D.Door.keeps c.self.inside.hand c.give_back.new.own c.args.self.now (g.D.Door.store c.self.inside.store) c.self.invariant.1 c.self.view_is (cell_of st.stamp st.past t) (fault_in c.sync_lent-synced.result) alone c.sync_lent-synced.ensures.halts
 
 pub returns-clause-halted : goal.returns-clause-halted
 returns-clause-halted g c fault is =
-    c.sync_lent-synced.ensures.halted fault (sym (stop_before g.N.Naming.start g.D.Door.visible g.D.Door.keeps c.self.inside.hand c.give_back.new.own c.args.self.now (g.D.Door.store c.self.inside.store) c.self.invariant.1 c.self.view_is) ∙ is)
+    c.sync_lent-synced.ensures.halted fault (sym (stop_before g.N.Naming.start g.N.Naming.origin g.D.Door.visible g.D.Door.keeps c.self.inside.hand c.give_back.new.own c.args.self.now (g.D.Door.store c.self.inside.store) c.self.invariant.1 c.self.view_is) ∙ is)
 
 pub returns-clause-stopped : goal.returns-clause-stopped
 returns-clause-stopped g c fault is =
@@ -77,4 +77,4 @@ returns-clause-ran g c =
     let t = g.D.Door.store c.sync_lent-synced.new.store in
     let st = c.sync_lent-synced.ensures.store in
     let alone = c.give_back.ensures.home (cell_of st.stamp st.past t) st.has in
-    run_behind g.N.Naming.start g.D.Door.visible g.D.Door.keeps c.self.inside.hand c.give_back.new.own c.args.self.now (g.D.Door.store c.self.inside.store) c.self.invariant.1 c.self.view_is st.stamp st.past t alone (fault_in c.sync_lent-synced.result) 1 1 c.sync_lent-synced.ensures.ran
+    run_behind g.N.Naming.start g.N.Naming.origin g.D.Door.visible g.D.Door.keeps c.self.inside.hand c.give_back.new.own c.args.self.now (g.D.Door.store c.self.inside.store) c.self.invariant.1 c.self.view_is st.stamp st.past t alone (fault_in c.sync_lent-synced.result) 1 1 c.sync_lent-synced.ensures.ran

@@ -17,7 +17,7 @@ returns-clause-back g c =
     let t = g.D.Door.store c.take_lent.new.store in
     let st = c.take_lent.ensures.store in
     let alone = c.give_back.ensures.home (cell_of st.stamp st.past t) st.has in
-    in_cells g.N.Naming.start g.D.Door.visible g.D.Door.keeps c.self.inside.hand c.give_back.new.own c.args.self.now (g.D.Door.store c.self.inside.store) c.self.invariant.1 c.self.view_is (cell_of st.stamp st.past t) alone
+    in_cells g.N.Naming.start g.N.Naming.origin g.D.Door.visible g.D.Door.keeps c.self.inside.hand c.give_back.new.own c.args.self.now (g.D.Door.store c.self.inside.store) c.self.invariant.1 c.self.view_is (cell_of st.stamp st.past t) alone
     (λ (had has : BlockSet). has ≡ set.union had c.args.pool.now) c.take_lent.ensures.back
 
 pub returns-clause-ran : goal.returns-clause-ran
@@ -25,11 +25,11 @@ returns-clause-ran g c =
     let t = g.D.Door.store c.take_lent.new.store in
     let st = c.take_lent.ensures.store in
     let alone = c.give_back.ensures.home (cell_of st.stamp st.past t) st.has in
-    run_behind g.N.Naming.start g.D.Door.visible g.D.Door.keeps c.self.inside.hand c.give_back.new.own c.args.self.now (g.D.Door.store c.self.inside.store) c.self.invariant.1 c.self.view_is st.stamp st.past t alone None 0 0 c.take_lent.ensures.ran
+    run_behind g.N.Naming.start g.N.Naming.origin g.D.Door.visible g.D.Door.keeps c.self.inside.hand c.give_back.new.own c.args.self.now (g.D.Door.store c.self.inside.store) c.self.invariant.1 c.self.view_is st.stamp st.past t alone None 0 0 c.take_lent.ensures.ran
 
 pub returns-clause-rests : goal.returns-clause-rests
 returns-clause-rests g c =
     let t = g.D.Door.store c.take_lent.new.store in
     let st = c.take_lent.ensures.store in
     let alone = c.give_back.ensures.home (cell_of st.stamp st.past t) st.has in
-    stop_rests g.N.Naming.start g.D.Door.visible g.D.Door.keeps c.self.inside.hand c.give_back.new.own c.args.self.now (g.D.Door.store c.self.inside.store) c.self.invariant.1 c.self.view_is (cell_of st.stamp st.past t) alone c.take_lent.ensures.rests
+    stop_rests g.N.Naming.start g.N.Naming.origin g.D.Door.visible g.D.Door.keeps c.self.inside.hand c.give_back.new.own c.args.self.now (g.D.Door.store c.self.inside.store) c.self.invariant.1 c.self.view_is (cell_of st.stamp st.past t) alone c.take_lent.ensures.rests
