@@ -66,6 +66,7 @@ not_none [] x e = cc
 not_none (y ∷ xs) x e = cc
 
 one_last : {A : Type 0} (xs ys : List A) (x y : A) → xs ++ x ∷ [] ≡ ys ++ y ∷ [] → x ≡ y
+unfolding behind
 one_last [] [] x y e = cc
 one_last [] (w ∷ ys) x y e = absurd (not_none ys y (ap behind e))
 one_last (w ∷ xs) [] x y e = absurd (not_none xs x (sym (ap behind e)))

@@ -237,8 +237,8 @@ module _ (k : Start) (origin : Moments) (visible keeps : Bool) (n : ℕ) (v w : 
         later = t.moments.earlier;
         going = has.going;
         fits = has.fits;
-        synced = λ seen. (let is = has.synced home.sees seen in subst (λ (q : StoreState × StoreState). HasSynced q.0 q.1 cell.value) (λ i. (before_is seen i, behind_is seen i)) is);
-        stages = λ seen. (let is = has.stages home.sees seen in subst (λ (q : StoreState × StoreState). LeavesStages keeps q.0 q.1 cell.value) (λ i. (before_is seen i, behind_is seen i)) is);
+        synced = λ seen. (let is = has.synced (home.sees seen) in subst (λ (q : StoreState × StoreState). HasSynced q.0 q.1 cell.value) (λ i. (before_is seen i, behind_is seen i)) is);
+        stages = λ seen. (let is = has.stages (home.sees seen) in subst (λ (q : StoreState × StoreState). LeavesStages keeps q.0 q.1 cell.value) (λ i. (before_is seen i, behind_is seen i)) is);
         freed = has.freed;
         left_so = left_so None has.faults (λ n is. has.stop ∙ is) (λ n is. inl (sym has.stop ∙ is));
       }
@@ -264,9 +264,9 @@ module _ (k : Start) (origin : Moments) (visible keeps : Bool) (n : ℕ) (v w : 
         earlier = s.moments.earlier;
         later = t.moments.earlier;
         fits = has.fits;
-        failed = λ seen. (let is = has.failed home.sees seen in
+        failed = λ seen. (let is = has.failed (home.sees seen) in
             subst (λ (q : StoreState × StoreState). (q.1 ≡ q.0) ⊎ ((q.0.stop ≡ None) × (HasWritten q.0 q.1 cell.value ⊎ HasFailed q.0 q.1 cell.value))) (λ i. (before_is seen i, behind_is seen i)) is);
-        stages = λ seen. (let is = has.stages home.sees seen in subst (λ (q : StoreState × StoreState). LeavesStages keeps q.0 q.1 cell.value) (λ i. (before_is seen i, behind_is seen i)) is);
+        stages = λ seen. (let is = has.stages (home.sees seen) in subst (λ (q : StoreState × StoreState). LeavesStages keeps q.0 q.1 cell.value) (λ i. (before_is seen i, behind_is seen i)) is);
         unfreed = ap (λ (q : Rattle.ufs_bitmap.specs.Space.Space). q.free) has.unfreed;
         left_so = left_so told has.cause (λ n is. has.stop ∙ ap (λ (q : Option ℕ). stop_after q told) is) (λ n is. turning.stop_from s.stop told n (sym has.stop ∙ is));
       }
