@@ -12,7 +12,7 @@ use Rattle.ufs_turns.specs.Lent.{Runs, StopsByFault, TellsStop, TellsWhere, stop
 use Rattle.ufs_turns.specs.Told.{fault_told, told_list}
 use Rattle.ufs_turns.proofs.Runs.{runs_twice}
 use Rattle.ufs_held.specs.Asking.{faults_of}
-use Rattle.ufs_held.specs.Stopping.{ExcusesByStop, StopsByReply, fault_by}
+use Rattle.ufs_held.specs.Stopping.{ExcusesByStop, RestsByReply, StopsByReply, fault_by}
 
 -- ---- one turn
 
@@ -67,6 +67,34 @@ first_fault (excuse.Extents need) = refl
 pub failed_stops : (tells told : Option View) (epochs commits : ℕ) (r : Reply) (x : Excuse) (fault : Option ℕ) → r ≡ reply.Excused x → told_list (fault_told fault) ≡ faults_of x → StopsByFault tells told fault → Runs tells told fault epochs commits → StopsByReply tells told epochs commits r
 failed_stops tells told epochs commits r x fault is used stops ran =
     subst (λ (q : Reply). StopsByReply tells told epochs commits q) (sym is) (fault, sym (first_told (fault_told fault)) ∙ ap first_in used ∙ first_fault x, stops, ran)
+
+-- ---- a request that may read
+
+-- one that no fault of the device excuses tells none
+pub no_fault : (r : Reply) → ((n : ℕ) → r ≡ reply.Excused (excuse.Device n) → ⊥) → fault_by r ≡ None
+no_fault (reply.Excused (excuse.Device n)) other = absurd (other n refl)
+no_fault (reply.Excused excuse.Memory) other = refl
+no_fault (reply.Excused (excuse.Stopped n)) other = refl
+no_fault (reply.Excused (excuse.Blocks need had)) other = refl
+no_fault (reply.Excused excuse.Inodes) other = refl
+no_fault (reply.Excused (excuse.Extents need)) other = refl
+no_fault reply.Done other = refl
+no_fault (reply.Fd n) other = refl
+no_fault (reply.Count n) other = refl
+no_fault (reply.At n) other = refl
+no_fault (reply.Got bytes) other = refl
+no_fault (reply.IsFile n) other = refl
+no_fault (reply.IsDir n) other = refl
+no_fault (reply.Names names) other = refl
+no_fault (reply.Refused x) other = refl
+
+-- what it needs was read
+pub read_rests : (tells told : Option View) (r : Reply) → fault_by r ≡ None → StopsByFault tells told None → Runs tells told None 0 0 → RestsByReply tells told r
+read_rests tells told r none stops ran = (None, sym none, stops, ran)
+
+-- a read failed, and its fault excuses
+pub unread_rests : (tells told : Option View) (r : Reply) (x : Excuse) (fault : Option ℕ) → r ≡ reply.Excused x → told_list (fault_told fault) ≡ faults_of x → StopsByFault tells told None → Runs tells told fault 0 0 → RestsByReply tells told r
+unread_rests tells told r x fault is used stops ran = subst (λ (q : Reply). RestsByReply tells told q) (sym is) (fault, sym (first_told (fault_told fault)) ∙ ap first_in used ∙ first_fault x, stops, ran)
 
 -- ---- two turns, of which the first passed
 

@@ -1,4 +1,4 @@
--- What the answer to a request tells of the store's stop.
+-- What the answer to a request tells of the store's stop, and of what the store counts.
 use Rattle.std.specs.Prelude.{ℕ, ◌≡◌, Option, Some, None}
 use Rattle.ufs_joint.specs.Cells.{View}
 use Rattle.ufs_model.specs.declared.data.Excuse.TheVariants as excuse
@@ -22,3 +22,9 @@ fault_by _ = None
 -- the store's epoch and next commit number by no more than these.
 abbrev pub StopsByReply : Option View → Option View → (epochs commits : ℕ) → Reply → Type 0
 StopsByReply tells told epochs commits r = (fault : Option ℕ) × (fault_told fault ≡ fault_by r) × StopsByFault tells told fault × Runs tells told fault epochs commits
+
+-- Behind a request that commits nothing and is answered so, the store has stopped where it had before. The answer tells the fault by which a
+-- read of the request failed, but for the last number of the disk's count. The count went on by that fault alone, and the store's epoch and
+-- next commit number are as they were.
+abbrev pub RestsByReply : Option View → Option View → Reply → Type 0
+RestsByReply tells told r = (fault : Option ℕ) × (fault_told fault ≡ fault_by r) × StopsByFault tells told None × Runs tells told fault 0 0

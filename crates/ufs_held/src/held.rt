@@ -31,7 +31,7 @@ ghost use Rattle.ufs_held.specs.Births.{HasStill};
 ghost use Rattle.ufs_held.specs.Committed.{HasSameCells};
 ghost use Rattle.ufs_held.specs.Held.{HasFileAlone, IsHeld, first_cell};
 ghost use Rattle.ufs_held.specs.Serving.{IsReadFor, IsServeCause, read_as};
-ghost use Rattle.ufs_held.specs.Stopping.{ExcusesByStop, StopsByReply};
+ghost use Rattle.ufs_held.specs.Stopping.{ExcusesByStop, RestsByReply, StopsByReply};
 ghost use Rattle.ufs_held.specs.Together.{AreApartFrom, HasDrawnStill, HasThemToo, still_of};
 
 use crate::births::tell_lent;
@@ -336,6 +336,7 @@ impl<N: Naming> HeldFile<N> {
         ensures faults { result.guest.faults ≡ guest.faults }
         ensures free { AreTold (T.tells door.old) (T.tells door.new) (λ had has. has ≡ had) }
         ensures telling { is_some (T.tells door.new) ≡ is_some (T.tells door.old) }
+        ensures halts { RestsByReply (T.tells door.old) (T.tells door.new) result.entry.reply }
         ensures later { guest.seen ≤ result.entry.ticket }
         ensures seen { result.guest.seen ≡ suc result.entry.ticket }
     {

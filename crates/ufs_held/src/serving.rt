@@ -14,11 +14,12 @@ ghost use Rattle.ufs_crash_laws.specs.Changes.{asks_commit};
 ghost use Rattle.ufs_hand_laws.specs.Parts.{ClientPart};
 ghost use Rattle.ufs_joint.specs.Servers.{IsServer};
 ghost use Rattle.ufs_store.specs.Refusals.{fault_in, is_own};
-ghost use Rattle.ufs_turns.specs.Lent.{AreTold};
+ghost use Rattle.ufs_turns.specs.Lent.{AreTold, Runs, StopsByFault};
 ghost use Rattle.ufs_turns.specs.Told.{fault_told, told_list};
 ghost use Rattle.ufs_held.specs.Asking.{Asks, IsAnswered, IsGuest};
 ghost use Rattle.ufs_held.specs.Held.{IsHeld, first_cell};
 ghost use Rattle.ufs_held.specs.Serving.{IsReadFor, IsServeCause, read_as};
+ghost use Rattle.ufs_held.specs.Stopping.{RestsByReply};
 
 use crate::draws::draw_served;
 use crate::excuses::{excuse_of, serve_excused};
@@ -69,6 +70,7 @@ pub(crate) fn serve_lent<N: Naming, T: Turns<N>>(
     ensures faults { result.guest.faults ≡ guest.faults }
     ensures free { AreTold (T.tells door.old) (T.tells door.new) (λ had has. has ≡ had) }
     ensures telling { is_some (T.tells door.new) ≡ is_some (T.tells door.old) }
+    ensures halts { RestsByReply (T.tells door.old) (T.tells door.new) result.entry.reply }
     ensures later { guest.seen ≤ result.entry.ticket }
     ensures seen { result.guest.seen ≡ suc result.entry.ticket }
 {
@@ -104,6 +106,8 @@ fn fetch_for<N: Naming, T: Turns<N>>(
     ensures refused { IfErr result (λ fault. IsTrue (is_own fault)) }
     ensures free { AreTold (T.tells door.old) (T.tells door.new) (λ had has. has ≡ had) }
     ensures telling { is_some (T.tells door.new) ≡ is_some (T.tells door.old) }
+    ensures rests { StopsByFault (T.tells door.old) (T.tells door.new) None }
+    ensures ran { Runs (T.tells door.old) (T.tells door.new) (fault_in result) 0 0 }
 {
     let Some(desc) = ask.desc else { unreachable!() };
     if file.is_ready(&ask.op, desc) {

@@ -1,4 +1,4 @@
-use Rattle.std.proofs.Common.{◌≡◌, ℕ, List, Some, Result, true, false, ap, refl, sym, subst, ◌∙◌}
+use Rattle.std.proofs.Common.{◌≡◌, ℕ, List, Some, Result, Unit, true, false, ap, refl, sym, subst, ◌∙◌}
 use Rattle.std.specs.Prelude.{IsTrue}
 use Rattle.ufs_file_commits.specs.State.{DurableState, state_of}
 use Rattle.ufs_file.specs.Hand.{IsOf}
@@ -6,13 +6,17 @@ use Rattle.ufs_file.proofs.FilledLemmas.{same_refusal}
 use Rattle.ufs_joint.specs.Cells.{FileCell}
 use Rattle.ufs_model.specs.History.{is_excused}
 use Rattle.ufs_model.specs.declared.data.Reply.{Reply}
-use Rattle.ufs_store.specs.Refusals.{fault_in, is_no_space, is_own}
+use Rattle.ufs_model.specs.declared.data.Excuse.TheVariants as excuse
+use Rattle.ufs_store.specs.Refusals.{fault_in, fault_of, is_no_space, is_own}
 use Rattle.ufs_store.specs.declared.fault.StoreFault.{StoreFault}
 use Rattle.ufs_store.specs.declared.fault.StoreFault.TheVariants as refusal
+use Rattle.ufs_turns.specs.Lent.{Runs}
 use Rattle.ufs_turns.specs.Told.{fault_told, told_list}
 use Rattle.ufs_held.specs.Held.{first_cell}
 use Rattle.ufs_held.specs.Serving.{Applied, IsReadFor, IsServeCause, Unread, is_of_read, read_as}
+use Rattle.ufs_held.proofs.Drawing.{of_desc}
 use Rattle.ufs_held.proofs.Excusing.{one_excuse}
+use Rattle.ufs_held.proofs.Stopping.{no_fault, read_rests, unread_rests}
 use Rattle.ufs_held.proofs.serving.serve_lent.Goals as goal
 
 pub serve_ready-requires-clause-guest : goal.serve_ready-requires-clause-guest
@@ -89,6 +93,16 @@ returns-in-Ok-clause-known g c = c.serve_ready.ensures.known ∙ ap (λ (q : Fil
 pub returns-in-Ok-clause-born : goal.returns-in-Ok-clause-born
 returns-in-Ok-clause-born g c = c.serve_ready.ensures.born ∙ ap (λ (q : FileCell). q.born) c.fetch_for.ensures.cell
 
+pub returns-in-Ok-clause-halts : goal.returns-in-Ok-clause-halts
+returns-in-Ok-clause-halts g c =
+    let tells = g.T.Turns.tells c.args.door.now in
+    let told = g.T.Turns.tells c.fetch_for.new.door in
+    let d = of_desc c.args.ask.desc c.args.file.now.file c.requires.named in
+    let bytes = c.fetch_for.new.file.content.bytes in
+    read_rests tells told c.serve_ready.result.entry.reply
+    (no_fault c.serve_ready.result.entry.reply (λ n is. (c.serve_ready.ensures.excused (excuse.Device n) is d.0 d.1 bytes (record { long = refl; same = λ place there. refl })).cause))
+    c.fetch_for.ensures.rests (subst (λ (q : Result (Unit {0}) StoreFault). Runs tells told (fault_in q) 0 0) c.in-Ok.is c.fetch_for.ensures.ran)
+
 -- ---- where one couldn't be read
 
 not_excused : {A : Type 0} (r : Reply) (b : Reply) → r ≡ b → is_excused b ≡ true → is_excused r ≡ false → A
@@ -119,3 +133,10 @@ returns-in-Err-clause-known g c = ap (λ (q : FileCell). q.known) (c.serve_excus
 
 pub returns-in-Err-clause-born : goal.returns-in-Err-clause-born
 returns-in-Err-clause-born g c = ap (λ (q : FileCell). q.born) (c.serve_excused.ensures.cell ∙ c.fetch_for.ensures.cell)
+
+pub returns-in-Err-clause-halts : goal.returns-in-Err-clause-halts
+returns-in-Err-clause-halts g c =
+    let tells = g.T.Turns.tells c.args.door.now in
+    let told = g.T.Turns.tells c.fetch_for.new.door in
+    unread_rests tells told c.serve_excused.result.entry.reply c.excuse_of-cause.result (fault_of c.in-Err.fault) c.serve_excused.ensures.replied c.excuse_of-cause.ensures.used c.fetch_for.ensures.rests
+    (subst (λ (q : Result (Unit {0}) StoreFault). Runs tells told (fault_in q) 0 0) c.in-Err.is c.fetch_for.ensures.ran)
