@@ -65,7 +65,7 @@ used_by (excuse.Extents need) faults = refl
 pub its_fault : (x : Excuse) (faults : List ℕ) (fault : ℕ) → faults ≡ faults_of x → x ≡ excuse.Device fault → 1 ≤ times fault faults
 its_fault x faults fault told is = subst (λ (xs : List ℕ). 1 ≤ times fault xs) (sym (told ∙ ap faults_of is)) (told_first fault [])
 
-first_of : ℕ → List ℕ → ℕ
+abbrev first_of : ℕ → List ℕ → ℕ
 first_of d [] = d
 first_of d (x ∷ xs) = x
 

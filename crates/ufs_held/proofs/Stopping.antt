@@ -1,8 +1,13 @@
 -- A stop of the store, through the turns of a request and its answer.
 use Rattle.std.proofs.Common.{◌≡◌, ◌+◌, ℕ, List, [], ◌∷◌, true, false, is_some, Option, Some, None, Result, Ok, Err, subst, ap, sym, refl, ◌∙◌}
+use Rattle.ufs_bitmap.specs.Blocks.{BlockSet}
+use Rattle.ufs_file.specs.Content.{Content, IsContentOf}
+use Rattle.ufs_file.specs.Hand.{FileState}
 use Rattle.ufs_joint.specs.Cells.{View}
+use Rattle.ufs_model.specs.declared.data.Desc.{Desc}
 use Rattle.ufs_model.specs.declared.data.Excuse.{Excuse}
 use Rattle.ufs_model.specs.declared.data.Excuse.TheVariants as excuse
+use Rattle.ufs_model.specs.declared.data.Op.{Op}
 use Rattle.ufs_model.specs.declared.data.Reply.{Reply}
 use Rattle.ufs_model.specs.declared.data.Reply.TheVariants as reply
 use Rattle.ufs_store.specs.Refusals.{stop_after}
@@ -10,9 +15,10 @@ use Rattle.ufs_store.specs.declared.fault.StoreFault.{StoreFault}
 use Rattle.ufs_store.specs.declared.fault.StoreFault.TheVariants as refusal
 use Rattle.ufs_turns.specs.Lent.{Runs, StopsByFault, TellsStop, TellsWhere, stop_in}
 use Rattle.ufs_turns.specs.Told.{fault_told, told_list}
-use Rattle.ufs_turns.proofs.Runs.{runs_twice}
+use Rattle.ufs_turns.proofs.Runs.{runs_still, runs_then, runs_twice}
 use Rattle.ufs_held.specs.Asking.{faults_of}
-use Rattle.ufs_held.specs.Stopping.{ExcusesByStop, RestsByReply, StopsByReply, fault_by}
+use Rattle.ufs_held.specs.Serving.{Applied, IsServeCause, Unread}
+use Rattle.ufs_held.specs.Stopping.{ExcusesByStop, Rests, RestsByReply, StopsByReply, fault_by}
 
 -- ---- one turn
 
@@ -70,6 +76,10 @@ failed_stops tells told epochs commits r x fault is used stops ran =
 
 -- ---- a request that may read
 
+-- what is in memory may be all of a file
+pub own_bytes : (c : Content) → IsContentOf c c.bytes
+own_bytes c = record { long = refl; same = λ place there. refl }
+
 -- one that no fault of the device excuses tells none
 pub no_fault : (r : Reply) → ((n : ℕ) → r ≡ reply.Excused (excuse.Device n) → ⊥) → fault_by r ≡ None
 no_fault (reply.Excused (excuse.Device n)) other = absurd (other n refl)
@@ -89,12 +99,18 @@ no_fault (reply.Names names) other = refl
 no_fault (reply.Refused x) other = refl
 
 -- what it needs was read
-pub read_rests : (tells told : Option View) (r : Reply) → fault_by r ≡ None → StopsByFault tells told None → Runs tells told None 0 0 → RestsByReply tells told r
-read_rests tells told r none stops ran = (None, sym none, stops, ran)
+pub read_rests : (tells told : Option View) (r : Reply) → fault_by r ≡ None → Rests tells told None → RestsByReply tells told r
+read_rests tells told r none rests = (None, sym none, rests.0, rests.1)
 
 -- a read failed, and its fault excuses
-pub unread_rests : (tells told : Option View) (r : Reply) (x : Excuse) (fault : Option ℕ) → r ≡ reply.Excused x → told_list (fault_told fault) ≡ faults_of x → StopsByFault tells told None → Runs tells told fault 0 0 → RestsByReply tells told r
-unread_rests tells told r x fault is used stops ran = subst (λ (q : Reply). RestsByReply tells told q) (sym is) (fault, sym (first_told (fault_told fault)) ∙ ap first_in used ∙ first_fault x, stops, ran)
+pub unread_rests : (tells told : Option View) (r : Reply) (x : Excuse) (fault : Option ℕ) → r ≡ reply.Excused x → told_list (fault_told fault) ≡ faults_of x → Rests tells told fault → RestsByReply tells told r
+unread_rests tells told r x fault is used rests =
+    subst (λ (q : Reply). RestsByReply tells told q) (sym is) (fault, sym (first_told (fault_told fault)) ∙ ap first_in used ∙ first_fault x, rests.0, rests.1)
+
+-- No stop excuses it.
+pub unstopped : (f read : FileState) (pool : BlockSet) (d : Desc) (request : Op) (n : ℕ) → IsServeCause f read pool d request (excuse.Stopped n) → ⊥
+unstopped f read pool d request n (Applied why) = (why read.content.bytes (own_bytes read.content)).cause
+unstopped f read pool d request n (Unread allowed lacks kind) = absurd cc
 
 -- ---- two turns, of which the first passed
 
@@ -119,3 +135,18 @@ stops_twice (Some v) (Some u) (Some w) told telling first second = second ∙ ap
 
 pub reply_twice : (had mid has : Option View) (a b c d : ℕ) (r : Reply) → is_some mid ≡ is_some had → StopsByFault had mid None → Runs had mid None a b → StopsByReply mid has c d r → StopsByReply had has (a + c) (b + d) r
 reply_twice had mid has a b c d r telling first ran second = (second.0, second.1, stops_twice had mid has second.0 telling first second.2, runs_twice had mid has second.0 a b c d telling ran second.3)
+
+-- ---- turns before it and behind it that commit nothing
+
+pub rests_still : (o : Option View) → Rests o o None
+rests_still o = (stops_still o, runs_still o 0 0)
+
+pub rests_twice : (had mid has : Option View) (told : Option ℕ) → is_some mid ≡ is_some had → Rests had mid None → Rests mid has told → Rests had has told
+rests_twice had mid has told telling first second = (stops_twice had mid has None telling first.0 second.0, runs_twice had mid has told 0 0 0 0 telling first.1 second.1)
+
+pub rests_then : (had mid has : Option View) (told : Option ℕ) → is_some mid ≡ is_some had → Rests had mid told → Rests mid has None → Rests had has told
+rests_then had mid has told telling first second = (stops_twice had mid has None telling first.0 second.0, runs_then had mid has told 0 0 0 0 telling first.1 second.1)
+
+pub reply_within : (had from to has : Option View) (r : Reply) → is_some from ≡ is_some had → is_some to ≡ is_some from → Rests had from None → RestsByReply from to r → Rests to has None → RestsByReply had has r
+reply_within had from to has r telling also before served behind =
+    let rests = rests_twice had from has served.0 telling before (rests_then from to has served.0 also (served.2, served.3) behind) in (served.0, served.1, rests.0, rests.1)

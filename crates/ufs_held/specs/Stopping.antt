@@ -23,8 +23,12 @@ fault_by _ = None
 abbrev pub StopsByReply : Option View → Option View → (epochs commits : ℕ) → Reply → Type 0
 StopsByReply tells told epochs commits r = (fault : Option ℕ) × (fault_told fault ≡ fault_by r) × StopsByFault tells told fault × Runs tells told fault epochs commits
 
--- Behind a request that commits nothing and is answered so, the store has stopped where it had before. The answer tells the fault by which a
--- read of the request failed, but for the last number of the disk's count. The count went on by that fault alone, and the store's epoch and
--- next commit number are as they were.
+-- The store has stopped where it had before; the count went on by this fault alone, and the store's epoch and next commit number are as they
+-- were.
+abbrev pub Rests : Option View → Option View → Option ℕ → Type 0
+Rests tells told fault = StopsByFault tells told None × Runs tells told fault 0 0
+
+-- So it is behind a request that commits nothing and is answered so, by the fault by which a read of it failed. The answer tells that fault,
+-- but for the last number of the disk's count.
 abbrev pub RestsByReply : Option View → Option View → Reply → Type 0
-RestsByReply tells told r = (fault : Option ℕ) × (fault_told fault ≡ fault_by r) × StopsByFault tells told None × Runs tells told fault 0 0
+RestsByReply tells told r = (fault : Option ℕ) × (fault_told fault ≡ fault_by r) × Rests tells told fault

@@ -14,12 +14,12 @@ ghost use Rattle.ufs_crash_laws.specs.Changes.{asks_commit};
 ghost use Rattle.ufs_hand_laws.specs.Parts.{ClientPart};
 ghost use Rattle.ufs_joint.specs.Servers.{IsServer};
 ghost use Rattle.ufs_store.specs.Refusals.{fault_in, is_own};
-ghost use Rattle.ufs_turns.specs.Lent.{AreTold, Runs, StopsByFault};
+ghost use Rattle.ufs_turns.specs.Lent.{AreTold};
 ghost use Rattle.ufs_turns.specs.Told.{fault_told, told_list};
 ghost use Rattle.ufs_held.specs.Asking.{Asks, IsAnswered, IsGuest};
 ghost use Rattle.ufs_held.specs.Held.{IsHeld, first_cell};
 ghost use Rattle.ufs_held.specs.Serving.{IsReadFor, IsServeCause, read_as};
-ghost use Rattle.ufs_held.specs.Stopping.{RestsByReply};
+ghost use Rattle.ufs_held.specs.Stopping.{Rests, RestsByReply};
 
 use crate::draws::draw_served;
 use crate::excuses::{excuse_of, serve_excused};
@@ -106,8 +106,7 @@ fn fetch_for<N: Naming, T: Turns<N>>(
     ensures refused { IfErr result (λ fault. IsTrue (is_own fault)) }
     ensures free { AreTold (T.tells door.old) (T.tells door.new) (λ had has. has ≡ had) }
     ensures telling { is_some (T.tells door.new) ≡ is_some (T.tells door.old) }
-    ensures rests { StopsByFault (T.tells door.old) (T.tells door.new) None }
-    ensures ran { Runs (T.tells door.old) (T.tells door.new) (fault_in result) 0 0 }
+    ensures rests { Rests (T.tells door.old) (T.tells door.new) (fault_in result) }
 {
     let Some(desc) = ask.desc else { unreachable!() };
     if file.is_ready(&ask.op, desc) {

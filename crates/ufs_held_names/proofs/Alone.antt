@@ -46,6 +46,7 @@ pub record HasDrawnAlone (ask : Ask) (by : Actor) (x y : Noted) (pool left : Blo
   pub none : is_excused e.reply ≡ true → file ≡ None
   pub desc : is_excused e.reply ≡ true → d ≡ ask.desc
   pub no_desc : fd_told e.op e.reply ≡ None → d ≡ None
+  pub faultless : tells_fault e.reply ≡ false
   pub faults : z.faults ≡ j.faults
   pub later : j.seen ≤ e.ticket
 
@@ -151,6 +152,7 @@ module _ (ask : Ask) (by : Actor) (x y : Noted) (pool left : BlockSet) (file : O
     untaken = drew.untaken;
     desc = drew.desc;
     no_desc = drew.no_desc;
+    faultless = drew.faultless;
     not_both = λ some. absurd cc;
     faults = parted_faults (made_number file) z ∙ drew.faults ∙ ap (λ (v : View). v.faults) joined ∙ ap (λ (fs : List ℕ). fs ++ guest.faults) calm;
     later = came_below own guest j e.ticket joined drew.later;

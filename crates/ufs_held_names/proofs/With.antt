@@ -48,6 +48,7 @@ pub record HasDrawnWith (ask : Ask) (by : Actor) (x y : Noted) (pool left : Bloc
   pub kept : is_excused e.reply ≡ true → then ≡ Some file
   pub desc : is_excused e.reply ≡ true → d ≡ ask.desc
   pub no_desc : fd_told e.op e.reply ≡ None → d ≡ None
+  pub faultless : tells_fault e.reply ≡ false
   pub faults : z.faults ≡ j.faults
   pub later : j.seen ≤ e.ticket
 
@@ -208,6 +209,7 @@ module _ (ask : Ask) (by : Actor) (x y : Noted) (pool left : BlockSet) (file : K
     untaken = drew.untaken;
     desc = drew.desc;
     no_desc = drew.no_desc;
+    faultless = drew.faultless;
     not_both = λ some. refl;
     faults = parted_faults (known_number then) z ∙ drew.faults ∙ ap (λ (v : View). v.faults) joined ∙ (λ i. (calm i ++ calm_lent i) ++ guest.faults);
     later = came_below (both_of own lent) guest j e.ticket joined drew.later;

@@ -4,6 +4,7 @@ use Rattle.std.specs.FinMap as map
 use Rattle.ufs_bitmap.specs.Blocks.{BlockSet}
 use Rattle.ufs_file.specs.Hand.{IsEntryOf}
 use Rattle.ufs_files.specs.Files.{Files}
+use Rattle.ufs_client.specs.Played.{tells_fault}
 use Rattle.ufs_model.specs.Asks.{fd_told}
 use Rattle.ufs_model.specs.History.{is_excused}
 use Rattle.ufs_model.specs.declared.data.Actor.{Actor}
@@ -75,6 +76,7 @@ pub record HasCome (ask : Ask) (by : Actor) (was now : NamesCell) (old new : Blo
   pub desc : is_excused e.reply ≡ true → d ≡ ask.desc
   -- a request without a descriptor is told none
   pub no_desc : fd_told e.op e.reply ≡ None → d ≡ None
+  pub faultless : tells_fault e.reply ≡ false
   pub faults : back.faults ≡ before.faults
   pub later : before.seen ≤ e.ticket
   pub seen : back.seen ≡ suc e.ticket

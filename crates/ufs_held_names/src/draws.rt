@@ -2,6 +2,7 @@
 ghost use Rattle.std.specs.Prelude.{ℕ, ◌≡◌, ◌<◌, ◌≤◌, ◌+◌, ◌^◌, ◌⊎◌, [], ◌∷◌, true, false, cond, is_some, None, Some, IfSome, IsSome};
 ghost use Rattle.std.specs.FinMap as map;
 ghost use Rattle.ufs_bitmap.specs.Blocks.{BlockSet};
+ghost use Rattle.ufs_client.specs.Played.{tells_fault};
 ghost use Rattle.ufs_file_commits.specs.State.{state_of};
 ghost use Rattle.ufs_file.specs.Hand.{IsEntryOf};
 ghost use Rattle.ufs_layout.specs.Areas.{IsGeometry};
@@ -65,6 +66,7 @@ pub(crate) fn draw_alone<N: Naming>(
     ensures none { is_excused result.applied.entry.reply ≡ true → result.file ≡ None }
     ensures desc { is_excused result.applied.entry.reply ≡ true → result.applied.desc ≡ ask.desc }
     ensures no_desc { fd_told result.applied.entry.op result.applied.entry.reply ≡ None → result.applied.desc ≡ None }
+    ensures faultless { tells_fault result.applied.entry.reply ≡ false }
     ensures faults { right.new.faults ≡ right.old.faults }
     ensures later { right.old.seen ≤ result.applied.entry.ticket }
 {
@@ -142,6 +144,7 @@ pub(crate) fn draw_with<N: Naming>(
     ensures kept { is_excused result.applied.entry.reply ≡ true → result.file ≡ Some file }
     ensures desc { is_excused result.applied.entry.reply ≡ true → result.applied.desc ≡ ask.desc }
     ensures no_desc { fd_told result.applied.entry.op result.applied.entry.reply ≡ None → result.applied.desc ≡ None }
+    ensures faultless { tells_fault result.applied.entry.reply ≡ false }
     ensures faults { right.new.faults ≡ right.old.faults }
     ensures later { right.old.seen ≤ result.applied.entry.ticket }
 {

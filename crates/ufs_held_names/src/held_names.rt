@@ -4,6 +4,7 @@ ghost use Rattle.std.specs.FinMap as fin;
 ghost use Rattle.std.specs.FinSet as set;
 ghost use Rattle.ufs_bitmap.specs.Blocks.{BlockSet};
 ghost use Rattle.ufs_bitmap.specs.Taking.{set_of};
+ghost use Rattle.ufs_client.specs.Played.{tells_fault};
 ghost use Rattle.ufs_file.specs.Hand.{IsEntryOf, IsOf};
 ghost use Rattle.ufs_layout.specs.Areas.{IsGeometry};
 ghost use Rattle.ufs_model.specs.Asks.{fd_told, file_in};
@@ -215,6 +216,8 @@ impl<N: Naming> HeldNames<N> {
         ensures desc { is_excused result.entry.reply ≡ true → result.desc ≡ ask.desc }
         // a request without a descriptor is told none
         ensures no_desc { fd_told result.entry.op result.entry.reply ≡ None → result.desc ≡ None }
+        // nothing is read of the disk, and nothing written
+        ensures faultless { tells_fault result.entry.reply ≡ false }
         // no fault that the guest was told before excuses it
         ensures faults { result.guest.faults ≡ guest.faults }
         ensures later { guest.seen ≤ result.entry.ticket }

@@ -8,10 +8,9 @@ use Rattle.ufs_model.specs.FileCalls.{file_refusal}
 use Rattle.ufs_model.specs.declared.data.Desc.{Desc}
 use Rattle.ufs_held.proofs.After.{first_fetched, held_fetched, lends}
 use Rattle.ufs_held.proofs.Excusing.{same_told}
-use Rattle.ufs_held.proofs.Stopping.{stops_still}
+use Rattle.ufs_held.proofs.Stopping.{rests_still}
 use Rattle.ufs_held.specs.Serving.{IsReadFor}
 use Rattle.ufs_turns.specs.Told.{fault_told, told_list}
-use Rattle.ufs_turns.proofs.Runs.{runs_still}
 use Rattle.ufs_store.specs.Refusals.{fault_in}
 use Rattle.ufs_held.proofs.serving.fetch_for.Goals as goal
 
@@ -102,7 +101,7 @@ pub returns-then-is_ready-clause-free : goal.returns-then-is_ready-clause-free
 returns-then-is_ready-clause-free g c = same_told (g.T.Turns.tells c.args.door.now)
 
 pub returns-then-is_ready-clause-rests : goal.returns-then-is_ready-clause-rests
-returns-then-is_ready-clause-rests g c = stops_still (g.T.Turns.tells c.args.door.now)
+returns-then-is_ready-clause-rests g c = rests_still (g.T.Turns.tells c.args.door.now)
 
-pub returns-then-is_ready-clause-ran : goal.returns-then-is_ready-clause-ran
-returns-then-is_ready-clause-ran g c = runs_still (g.T.Turns.tells c.args.door.now) 0 0
+pub returns-clause-rests : goal.returns-clause-rests
+returns-clause-rests g c = (c.fetch.ensures.rests, c.fetch.ensures.ran)

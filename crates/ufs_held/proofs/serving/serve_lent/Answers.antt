@@ -1,4 +1,4 @@
-use Rattle.std.proofs.Common.{◌≡◌, ℕ, List, Some, Result, Unit, true, false, ap, refl, sym, subst, ◌∙◌}
+use Rattle.std.proofs.Common.{◌≡◌, ℕ, List, Some, Result, true, false, ap, refl, sym, subst, ◌∙◌}
 use Rattle.std.specs.Prelude.{IsTrue}
 use Rattle.ufs_file_commits.specs.State.{DurableState, state_of}
 use Rattle.ufs_file.specs.Hand.{IsOf}
@@ -10,13 +10,13 @@ use Rattle.ufs_model.specs.declared.data.Excuse.TheVariants as excuse
 use Rattle.ufs_store.specs.Refusals.{fault_in, fault_of, is_no_space, is_own}
 use Rattle.ufs_store.specs.declared.fault.StoreFault.{StoreFault}
 use Rattle.ufs_store.specs.declared.fault.StoreFault.TheVariants as refusal
-use Rattle.ufs_turns.specs.Lent.{Runs}
 use Rattle.ufs_turns.specs.Told.{fault_told, told_list}
 use Rattle.ufs_held.specs.Held.{first_cell}
 use Rattle.ufs_held.specs.Serving.{Applied, IsReadFor, IsServeCause, Unread, is_of_read, read_as}
 use Rattle.ufs_held.proofs.Drawing.{of_desc}
 use Rattle.ufs_held.proofs.Excusing.{one_excuse}
-use Rattle.ufs_held.proofs.Stopping.{no_fault, read_rests, unread_rests}
+use Rattle.ufs_held.specs.Stopping.{Rests}
+use Rattle.ufs_held.proofs.Stopping.{no_fault, own_bytes, read_rests, unread_rests}
 use Rattle.ufs_held.proofs.serving.serve_lent.Goals as goal
 
 pub serve_ready-requires-clause-guest : goal.serve_ready-requires-clause-guest
@@ -98,10 +98,10 @@ returns-in-Ok-clause-halts g c =
     let tells = g.T.Turns.tells c.args.door.now in
     let told = g.T.Turns.tells c.fetch_for.new.door in
     let d = of_desc c.args.ask.desc c.args.file.now.file c.requires.named in
-    let bytes = c.fetch_for.new.file.content.bytes in
+    let read = c.fetch_for.new.file in
     read_rests tells told c.serve_ready.result.entry.reply
-    (no_fault c.serve_ready.result.entry.reply (λ n is. (c.serve_ready.ensures.excused (excuse.Device n) is d.0 d.1 bytes (record { long = refl; same = λ place there. refl })).cause))
-    c.fetch_for.ensures.rests (subst (λ (q : Result (Unit {0}) StoreFault). Runs tells told (fault_in q) 0 0) c.in-Ok.is c.fetch_for.ensures.ran)
+    (no_fault c.serve_ready.result.entry.reply (λ n is. (c.serve_ready.ensures.excused (excuse.Device n) is d.0 d.1 read.content.bytes (own_bytes read.content)).cause))
+    (subst (λ (q : Result (Unit {0}) StoreFault). Rests tells told (fault_in q)) c.in-Ok.is c.fetch_for.ensures.rests)
 
 -- ---- where one couldn't be read
 
@@ -138,5 +138,5 @@ pub returns-in-Err-clause-halts : goal.returns-in-Err-clause-halts
 returns-in-Err-clause-halts g c =
     let tells = g.T.Turns.tells c.args.door.now in
     let told = g.T.Turns.tells c.fetch_for.new.door in
-    unread_rests tells told c.serve_excused.result.entry.reply c.excuse_of-cause.result (fault_of c.in-Err.fault) c.serve_excused.ensures.replied c.excuse_of-cause.ensures.used c.fetch_for.ensures.rests
-    (subst (λ (q : Result (Unit {0}) StoreFault). Runs tells told (fault_in q) 0 0) c.in-Err.is c.fetch_for.ensures.ran)
+    unread_rests tells told c.serve_excused.result.entry.reply c.excuse_of-cause.result (fault_of c.in-Err.fault) c.serve_excused.ensures.replied c.excuse_of-cause.ensures.used
+    (subst (λ (q : Result (Unit {0}) StoreFault). Rests tells told (fault_in q)) c.in-Err.is c.fetch_for.ensures.rests)

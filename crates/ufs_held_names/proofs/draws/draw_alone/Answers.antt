@@ -6,6 +6,8 @@ use Rattle.ufs_joint.specs.Cells.{View}
 use Rattle.ufs_joint.specs.Draws.{MayDraw}
 use Rattle.ufs_joint.specs.NamesHands.{NamesRequestsMayDraw}
 use Rattle.ufs_model.specs.History.{is_excused, tree_after}
+use Rattle.ufs_client.specs.Played.{tells_fault}
+use Rattle.ufs_client.proofs.FaultLemmas.{names_faultless, plain_faultless}
 use Rattle.ufs_held.specs.Drawn.{fresh_of}
 use Rattle.ufs_hand_laws.specs.Draws.{left_faults}
 use Rattle.ufs_noted.specs.Noted.{Noted, one_file}
@@ -86,6 +88,21 @@ returns-clause-faults g c =
     ap (λ (q : View). q.faults) c.draw_made-ticket.ensures.cells
     ∙ ap (λ (q : View). left_faults c.apply_alone-applied.result.applied.entry.reply q.faults) c.look.ensures.cells
     ∙ calm c.apply_alone-applied.result.applied.entry.reply (λ q is fault. let caused = e.cause q is in (no_fault x.names t part c.args.ask.client caused.0 c.args.ask.op q (e.fits q is t asked) caused.2 fault).0) v.faults
+
+pub returns-clause-faultless : goal.returns-clause-faultless
+returns-clause-faultless g c =
+    let h = c.requires.hand in
+    let k = g.N.Naming.start in
+    let know = c.look.ensures.knows in
+    let v = c.args.right.now in
+    let x = c.args.noted.now in
+    let e = c.apply_alone-applied.ensures in
+    let gathered = gathered_none x.names c.args.ask c.requires.needed in
+    let t = tree_after know.start know.history in
+    let part = part_of k c.look.result v know h.0 h.1 h.2 c.args.pool.now c.args.ask h.3 x h.5 h.6 in
+    let asked = asked_with k c.look.result v know h.0 h.1 h.2 c.args.pool.now c.args.ask h.3 x h.5 h.6 map.empty (none_some_of k c.look.result v know h.0 h.1 h.2 c.args.pool.now c.args.ask h.3 x h.5 h.6)
+    (gathered t part (asked_of k c.look.result v know h.0 h.1 h.2 c.args.pool.now c.args.ask h.3 x h.5 h.6)) in
+    plain_faultless c.apply_alone-applied.result.applied.entry.reply (λ q is. let caused = e.cause q is in ap tells_fault is ∙ names_faultless x.names t part c.args.ask.client caused.0 c.args.ask.op q (e.fits q is t asked) caused.2)
 
 pub returns-clause-later : goal.returns-clause-later
 returns-clause-later g c =

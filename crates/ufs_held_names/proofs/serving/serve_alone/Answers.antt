@@ -30,7 +30,7 @@ part_made-made-requires g c =
     let z = c.draw_alone-applied.new.right in
     let t = c.draw_alone-applied.ensures in
     let drew : HasDrawnAlone c.args.ask c.args.by x y c.args.pool.now left file e d j z =
-    record { entry = t.entry; cells = t.cells; served = t.served; young = t.young; lives = t.lives; next = t.next; cause = t.cause; unchanged = t.unchanged; untaken = t.untaken; none = t.none; desc = t.desc; no_desc = t.no_desc; faults = t.faults; later = t.later } in
+    record { entry = t.entry; cells = t.cells; served = t.served; young = t.young; lives = t.lives; next = t.next; cause = t.cause; unchanged = t.unchanged; untaken = t.untaken; none = t.none; desc = t.desc; no_desc = t.no_desc; faultless = t.faultless; faults = t.faults; later = t.later } in
     made_held c.args.ask c.args.by x y c.args.pool.now left file e d own c.args.guest j z drew held c.join.ensures f.0 f.1 f.2 f.4.new
 
 pub returns : goal.returns
@@ -48,7 +48,7 @@ returns g c =
     let z = c.draw_alone-applied.new.right in
     let t = c.draw_alone-applied.ensures in
     let drew : HasDrawnAlone c.args.ask c.args.by x y c.args.pool.now left file e d j z =
-    record { entry = t.entry; cells = t.cells; served = t.served; young = t.young; lives = t.lives; next = t.next; cause = t.cause; unchanged = t.unchanged; untaken = t.untaken; none = t.none; desc = t.desc; no_desc = t.no_desc; faults = t.faults; later = t.later } in
+    record { entry = t.entry; cells = t.cells; served = t.served; young = t.young; lives = t.lives; next = t.next; cause = t.cause; unchanged = t.unchanged; untaken = t.untaken; none = t.none; desc = t.desc; no_desc = t.no_desc; faultless = t.faultless; faults = t.faults; later = t.later } in
     let has : j.names ≡ (tt, held.cell) ∷ [] = ap (λ (v : View). v.names) c.join.ensures ∙ (λ i. held.alone.names i ++ f.2.names i) in
     let to = c.replace-guest.ensures.after ∙ c.split-own.ensures.given ∙ ap (given_of Names) c.part_made-made.ensures.kept in
     let back = c.replace-guest.ensures.value ∙ c.split-own.ensures.kept ∙ ap (kept_of Names) c.part_made-made.ensures.kept in

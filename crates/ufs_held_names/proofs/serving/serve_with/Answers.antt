@@ -56,7 +56,7 @@ part_known-file-requires g c =
     let z = c.draw_with-applied.new.right in
     let t = c.draw_with-applied.ensures in
     let drew : HasDrawnWith c.args.ask c.args.by x y c.args.pool.now left known file e d j z =
-    record { entry = t.entry; cells = t.cells; served = t.served; number = t.number; lives = t.lives; next = t.next; gone = t.gone; cause = t.cause; unchanged = t.unchanged; untaken = t.untaken; kept = t.kept; desc = t.desc; no_desc = t.no_desc; faults = t.faults; later = t.later } in
+    record { entry = t.entry; cells = t.cells; served = t.served; number = t.number; lives = t.lives; next = t.next; gone = t.gone; cause = t.cause; unchanged = t.unchanged; untaken = t.untaken; kept = t.kept; desc = t.desc; no_desc = t.no_desc; faultless = t.faultless; faults = t.faults; later = t.later } in
     known_held c.args.ask c.args.by x y c.args.pool.now left known file e d own lent c.args.guest j z drew held c.args.file alone value joined f.0 f.1 f.2 off
 
 pub returns : goal.returns
@@ -80,7 +80,7 @@ returns g c =
     let z = c.draw_with-applied.new.right in
     let t = c.draw_with-applied.ensures in
     let drew : HasDrawnWith c.args.ask c.args.by x y c.args.pool.now left known file e d j z =
-    record { entry = t.entry; cells = t.cells; served = t.served; number = t.number; lives = t.lives; next = t.next; gone = t.gone; cause = t.cause; unchanged = t.unchanged; untaken = t.untaken; kept = t.kept; desc = t.desc; no_desc = t.no_desc; faults = t.faults; later = t.later } in
+    record { entry = t.entry; cells = t.cells; served = t.served; number = t.number; lives = t.lives; next = t.next; gone = t.gone; cause = t.cause; unchanged = t.unchanged; untaken = t.untaken; kept = t.kept; desc = t.desc; no_desc = t.no_desc; faultless = t.faultless; faults = t.faults; later = t.later } in
     let has : j.names ≡ (tt, held.cell) ∷ [] = ap (λ (v : View). v.names) joined ∙ (λ i. (held.alone.names i ++ alone.names i) ++ f.2.names i) in
     let to = c.replace-guest.ensures.after ∙ c.split-own.ensures.given ∙ ap (given_of Names) c.part_known-file.ensures.kept in
     let back = c.replace-guest.ensures.value ∙ c.split-own.ensures.kept ∙ ap (kept_of Names) c.part_known-file.ensures.kept in

@@ -54,6 +54,7 @@ returns g c =
       untaken = t.untaken;
       desc = t.desc;
       no_desc = t.no_desc;
+      faultless = t.faultless;
       not_both = t.not_both;
       faults = t.faults;
       later = t.later;
