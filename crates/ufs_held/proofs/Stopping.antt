@@ -100,12 +100,12 @@ no_fault (reply.Refused x) other = refl
 
 -- what it needs was read
 pub read_rests : (tells told : Option View) (r : Reply) → fault_by r ≡ None → Rests tells told None → RestsByReply tells told r
-read_rests tells told r none rests = (None, sym none, rests.0, rests.1)
+read_rests tells told r none rests = (None, sym none, rests)
 
 -- a read failed, and its fault excuses
 pub unread_rests : (tells told : Option View) (r : Reply) (x : Excuse) (fault : Option ℕ) → r ≡ reply.Excused x → told_list (fault_told fault) ≡ faults_of x → Rests tells told fault → RestsByReply tells told r
 unread_rests tells told r x fault is used rests =
-    subst (λ (q : Reply). RestsByReply tells told q) (sym is) (fault, sym (first_told (fault_told fault)) ∙ ap first_in used ∙ first_fault x, rests.0, rests.1)
+    subst (λ (q : Reply). RestsByReply tells told q) (sym is) (fault, sym (first_told (fault_told fault)) ∙ ap first_in used ∙ first_fault x, rests)
 
 -- No stop excuses it.
 pub unstopped : (f read : FileState) (pool : BlockSet) (d : Desc) (request : Op) (n : ℕ) → IsServeCause f read pool d request (excuse.Stopped n) → ⊥
@@ -149,4 +149,4 @@ rests_then had mid has told telling first second = (stops_twice had mid has None
 
 pub reply_within : (had from to has : Option View) (r : Reply) → is_some from ≡ is_some had → is_some to ≡ is_some from → Rests had from None → RestsByReply from to r → Rests to has None → RestsByReply had has r
 reply_within had from to has r telling also before served behind =
-    let rests = rests_twice had from has served.0 telling before (rests_then from to has served.0 also (served.2, served.3) behind) in (served.0, served.1, rests.0, rests.1)
+    (served.0, served.1, rests_twice had from has served.0 telling before (rests_then from to has served.0 also served.2 behind))
