@@ -18,6 +18,7 @@ use Rattle.ufs_owner.specs.Owners.{Files, owner_at}
 use Rattle.ufs_noted.specs.Noted.{HasServedWith, MayLack}
 use Rattle.ufs_joint.specs.Cells.{FileCell, NamesCell, View}
 use Rattle.ufs_turns.specs.Lent.{AreTold}
+use Rattle.ufs_held.specs.Stopping.{RestsByReply}
 use Rattle.ufs_held_names.specs.Asked.{number_of}
 use Rattle.ufs_held_names.specs.Come.{IsNewborn, IsStillThere, commits_of, files_of, files_then}
 use Rattle.ufs_held_names.specs.Drawn.{names_then}
@@ -42,6 +43,7 @@ pub record IsDoneByNames (before after : Option View) (old new : NamesCell) (tou
   -- no block is lost: the names have those that the request took
   pub conserved : AreTold before after (λ had has. set.union had pool ≡ set.union (set.union has behind) (set.difference found left))
   pub telling : is_some after ≡ is_some before
+  pub halts : RestsByReply before after e.reply
   pub names : is_excused e.reply ≡ false → new ≡ names_then (noted_in new) e.ticket old
   pub file : is_excused e.reply ≡ false → IfSome still (IsStillThere e.ticket touched)
   pub made : IfSome young (IsNewborn old.value.next e.ticket)

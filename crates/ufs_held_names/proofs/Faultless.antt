@@ -1,5 +1,5 @@
 -- No fault of the device, and no stop, is the cause of an excuse of the names.
-use Rattle.std.proofs.Common.{◌≡◌, ℕ, true, false, List, ap, refl, sym, ◌∙◌}
+use Rattle.std.proofs.Common.{◌≡◌, ℕ, true, false, List, None, ap, refl, sym, ◌∙◌}
 use Rattle.ufs_bitmap.specs.Blocks.{BlockSet}
 use Rattle.ufs_client.specs.Played.{tells_fault}
 use Rattle.ufs_client.proofs.FaultLemmas.{names_faultless}
@@ -13,6 +13,8 @@ use Rattle.ufs_model.specs.declared.data.Reply.TheVariants as reply
 use Rattle.ufs_names.specs.NamesPart.{IsNamesPart, NamesPart}
 use Rattle.ufs_names.specs.Space.{IsCause}
 use Rattle.ufs_hand_laws.specs.Draws.{left_faults}
+use Rattle.ufs_held.specs.Stopping.{fault_by}
+use Rattle.ufs_held.proofs.Stopping.{no_fault as none_by}
 
 true_false : true ≡ false → ⊥
 true_false e = cc
@@ -39,3 +41,6 @@ calm (reply.IsFile n) none faults = refl
 calm (reply.IsDir n) none faults = refl
 calm (reply.Names names) none faults = refl
 calm (reply.Refused x) none faults = refl
+
+pub untold_by : (r : Reply) → tells_fault r ≡ false → fault_by r ≡ None
+untold_by r calm = none_by r (λ n is. true_false (sym (ap tells_fault is) ∙ calm))

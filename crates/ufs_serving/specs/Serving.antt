@@ -21,6 +21,7 @@ use Rattle.ufs_joint.specs.Cells.{FileCell, View}
 use Rattle.ufs_turns.specs.Lent.{AreTold}
 use Rattle.ufs_held.specs.Asking.{IsSyncReply}
 use Rattle.ufs_held.specs.Serving.{IsReadFor, IsServeCause, read_as}
+use Rattle.ufs_held.specs.Stopping.{ExcusesByStop, RestsByReply, StopsByReply}
 use Rattle.ufs_msg.specs.Answers.{Told}
 use Rattle.ufs_serving.specs.Pools.{HasAllFree, IsAtRest, IsWithin}
 
@@ -35,6 +36,7 @@ pub record IsServedAt (before after : Option View) (c d : FileCell) (pool behind
   pub rests : IsAtRest left behind
   -- no block is lost: the file has those that the request took
   pub conserved : AreTold before after (λ had has. set.union had pool ≡ set.union (set.union has behind) (set.difference found left))
+  pub halts : RestsByReply before after entry.reply
   pub served : is_excused entry.reply ≡ false → (x : Desc) → ask.desc ≡ Some x → (read : FileState) × IsReadFor c.value.file read x ask.op × ((bytes : List ℕ) → IsContentOf read.content bytes
       → IsServedKept (whole_of bytes (read_as read c.value)) (whole_of (file_step bytes x ask.op).bytes d.value) found left x ask.op entry.reply desc)
   pub cause : (x : Excuse) → entry.reply ≡ reply.Excused x → (e : Desc) → ask.desc ≡ Some e → IsServeCause c.value.file d.value.file found e ask.op x
@@ -56,6 +58,8 @@ pub record IsSyncedAt (visible : Bool) (before after : Option View) (c d : FileC
   pub rest : d ≡ record c { value = d.value; known = d.known }
   pub freed : entry.reply ≡ reply.Done → AreTold before after (λ had has. has ≡ set.union had (set_of c.value.dropped))
   pub unfreed : is_excused entry.reply ≡ true → AreTold before after (λ had has. has ≡ had)
+  pub halts : StopsByReply before after 1 1 entry.reply
+  pub halted : ExcusesByStop before entry.reply
   pub same_pool : behind ≡ pool
   pub same_desc : desc ≡ ask.desc
 

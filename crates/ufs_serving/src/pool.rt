@@ -1,8 +1,9 @@
 // A server's pool: its hand goes with a request, and its blocks come by turns of the store.
-ghost use Rattle.std.specs.Prelude.{ℕ, ◌≡◌, ◌+◌, ◌<◌, ◌≤◌, IfNone, IfSome, OnSome, is_some, max};
+ghost use Rattle.std.specs.Prelude.{ℕ, ◌≡◌, ◌+◌, ◌<◌, ◌≤◌, IfNone, IfSome, None, OnSome, is_some, max};
 ghost use Rattle.std.specs.FinSet as set;
 ghost use Rattle.ufs_bitmap.specs.Blocks.{BlockSet};
 ghost use Rattle.ufs_held.specs.Asking.{IsGuest};
+ghost use Rattle.ufs_held.specs.Stopping.{Rests};
 ghost use Rattle.ufs_msg.specs.Requests.{HasClientAlone};
 ghost use Rattle.ufs_hand_laws.specs.Parts.{ClientPart};
 ghost use Rattle.ufs_turns.specs.Lent.{AreTold};
@@ -73,6 +74,7 @@ fn ask_pool<N: Naming, T: Turns<N>>(
     ensures all { IfNone result (AreTold (T.tells door.old) (T.tells door.new) (λ had left. set.len had ≤ missing → IsWithin had pool.new)) }
     ensures fewer { IfSome result (λ free. AreTold (T.tells door.old) (T.tells door.new) (λ had left. (set.len had ≡ free) × (free < missing) × (left ≡ had))) }
     ensures telling { is_some (T.tells door.new) ≡ is_some (T.tells door.old) }
+    ensures still { Rests (T.tells door.old) (T.tells door.new) None }
 {
     match door.give_pool(right, pool, missing) {
         Ok(()) => None,
@@ -90,6 +92,7 @@ pub fn fill<N: Naming, T: Turns<N>>(right: &mut Hand<N>, pool: &mut Pool, door: 
     ensures conserved { AreConserved (T.tells door.old) (T.tells door.new) pool.old pool.new }
     ensures short { set.len pool.new < wanted → HasAllFree (T.tells door.old) pool.new }
     ensures telling { is_some (T.tells door.new) ≡ is_some (T.tells door.old) }
+    ensures still { Rests (T.tells door.old) (T.tells door.new) None }
 {
     let had = pool.count();
     if had >= wanted {
@@ -109,6 +112,7 @@ pub fn rest<N: Naming, T: Turns<N>>(right: &mut Hand<N>, pool: &mut Pool, door: 
     ensures rests { IsAtRest pool.old pool.new }
     ensures conserved { AreConserved (T.tells door.old) (T.tells door.new) pool.old pool.new }
     ensures telling { is_some (T.tells door.new) ≡ is_some (T.tells door.old) }
+    ensures still { Rests (T.tells door.old) (T.tells door.new) None }
 {
     if pool.count() > AT_REST {
         door.take_back(right, pool);

@@ -1,8 +1,10 @@
-use Rattle.std.proofs.Common.{refl, ap, ◌∙◌, arith}
+use Rattle.std.proofs.Common.{None, refl, ap, ◌∙◌, arith}
 use Rattle.std.specs.FinSet as set
 use Rattle.std.specs.Ordering.{nat_cmp}
 use Rattle.ufs_bitmap.specs.Blocks.{BlockSet}
 use Rattle.ufs_model.specs.History.{is_excused}
+use Rattle.ufs_held.proofs.Stopping.{read_rests, rests_twice}
+use Rattle.ufs_held_names.proofs.Faultless.{untold_by}
 use Rattle.ufs_serving.proofs.Conserving.{none_lost}
 use Rattle.ufs_at_primary.proofs.NamesTold.{free_still, left_of}
 use Rattle.ufs_at_primary.proofs.naming.serve_names.Goals as goal
@@ -70,6 +72,8 @@ returns-clause-done g c =
       conserved = none_lost (tells c.args.door.now) (tells c.fill.new.door) (tells c.fill.new.door) (tells c.rest.new.door) c.args.pool.now c.fill.new.pool c.serve-entry.new.pool c.rest.new.pool c.fill.ensures.telling refl c.fill.ensures.conserved (free_still (tells c.fill.new.door)) c.rest.ensures.conserved
           (left_of c.fill.new.pool c.serve-entry.new.pool (is_excused c.serve-entry.result.entry.reply) e.untaken (λ x. let s = e.served x in s.fewer));
       telling = c.rest.ensures.telling ∙ c.fill.ensures.telling;
+      halts = read_rests (tells c.args.door.now) (tells c.rest.new.door) c.serve-entry.result.entry.reply (untold_by c.serve-entry.result.entry.reply e.faultless)
+          (rests_twice (tells c.args.door.now) (tells c.fill.new.door) (tells c.rest.new.door) None c.fill.ensures.telling c.fill.ensures.still c.rest.ensures.still);
       names = e.names;
       file = e.file;
       made = e.made;

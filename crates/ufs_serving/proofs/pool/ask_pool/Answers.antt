@@ -26,6 +26,12 @@ returns-in-Ok-clause-conserved g c = conserved_by_gain (g.T.Turns.tells c.args.d
 pub returns-in-Ok-clause-all : goal.returns-in-Ok-clause-all
 returns-in-Ok-clause-all g c = told_all (g.T.Turns.tells c.args.door.now) (g.T.Turns.tells c.give_pool.new.self) c.args.missing c.args.pool.now c.give_pool.new.pool c.in-Ok.ensures.lowest
 
+pub returns-in-Ok-clause-still : goal.returns-in-Ok-clause-still
+returns-in-Ok-clause-still g c = (c.give_pool.ensures.rests, c.give_pool.ensures.ran)
+
+pub returns-in-Err-NoSpace-clause-still : goal.returns-in-Err-NoSpace-clause-still
+returns-in-Err-NoSpace-clause-still g c = (c.give_pool.ensures.rests, c.give_pool.ensures.ran)
+
 pub returns-in-Err-NoSpace-clause-pool : goal.returns-in-Err-NoSpace-clause-pool
 returns-in-Err-NoSpace-clause-pool g c = λ n mine. alone_then n c.args.pool.now c.give_pool.new.pool c.args.right.now c.give_pool.new.hand mine (c.give_pool.ensures.lent n (lends n c.args.pool.now c.args.right.now mine)) c.give_pool.ensures.beside
 

@@ -1,6 +1,7 @@
-use Rattle.std.proofs.Common.{◌-◌, ap, arith}
+use Rattle.std.proofs.Common.{◌-◌, None, ap, arith}
 use Rattle.std.specs.FinSet as set
 use Rattle.ufs_bitmap.specs.Blocks.{BlockSet}
+use Rattle.ufs_held.proofs.Stopping.{rests_still, rests_twice}
 use Rattle.ufs_serving.proofs.Conserving.{conserved_same, conserved_then}
 use Rattle.ufs_serving.proofs.Filling.{all_free}
 use Rattle.ufs_serving.proofs.pool.fill.Goals as goal
@@ -36,3 +37,9 @@ pub returns-clause-short : goal.returns-clause-short
 returns-clause-short g c = λ few.
     all_free (g.T.Turns.tells c.args.door.now) (g.T.Turns.tells c.ask_pool.new.door) (g.T.Turns.tells c.ask_pool-2.new.door) c.in-Some.free c.ask_pool-2.new.pool c.ask_pool-2.result c.ask_pool.ensures.telling c.ask_pool-2.ensures.telling
     (c.args.wanted - c.count-had.result) c.in-Some.ensures.fewer c.ask_pool-2.ensures.all c.ask_pool-2.ensures.fewer
+
+pub returns-then-had-wanted-clause-still : goal.returns-then-had-wanted-clause-still
+returns-then-had-wanted-clause-still g c = rests_still (g.T.Turns.tells c.args.door.now)
+
+pub returns-clause-still : goal.returns-clause-still
+returns-clause-still g c = rests_twice (g.T.Turns.tells c.args.door.now) (g.T.Turns.tells c.ask_pool.new.door) (g.T.Turns.tells c.ask_pool-2.new.door) None c.ask_pool.ensures.telling c.ask_pool.ensures.still c.ask_pool-2.ensures.still

@@ -2,6 +2,7 @@ use Rattle.std.proofs.Common.{ap, refl, ◌∙◌, arith}
 use Rattle.std.specs.FinSet as set
 use Rattle.std.specs.Ordering.{nat_cmp}
 use Rattle.ufs_bitmap.specs.Blocks.{BlockSet}
+use Rattle.ufs_held.proofs.Stopping.{rests_still}
 use Rattle.ufs_serving.proofs.Conserving.{conserved_back, conserved_same}
 use Rattle.ufs_serving.proofs.Filling.{alone_then, lends}
 use Rattle.ufs_serving.proofs.pool.rest.Goals as goal
@@ -34,3 +35,9 @@ returns-else-count-gt-AT_REST-clause-rests g c =
 
 pub returns-else-count-gt-AT_REST-clause-conserved : goal.returns-else-count-gt-AT_REST-clause-conserved
 returns-else-count-gt-AT_REST-clause-conserved g c = conserved_same (g.T.Turns.tells c.args.door.now) c.args.pool.now
+
+pub returns-then-count-gt-AT_REST-clause-still : goal.returns-then-count-gt-AT_REST-clause-still
+returns-then-count-gt-AT_REST-clause-still g c = (c.take_back.ensures.rests, c.take_back.ensures.ran)
+
+pub returns-else-count-gt-AT_REST-clause-still : goal.returns-else-count-gt-AT_REST-clause-still
+returns-else-count-gt-AT_REST-clause-still g c = rests_still (g.T.Turns.tells c.args.door.now)

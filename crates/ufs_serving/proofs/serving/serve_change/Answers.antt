@@ -7,6 +7,7 @@ use Rattle.ufs_file.specs.Content.{IsContentOf, block_count}
 use Rattle.ufs_file.specs.Hand.{FileState, IsOf, missing}
 use Rattle.ufs_held.specs.Asking.{IsGuest}
 use Rattle.ufs_held.specs.Serving.{IsReadFor, read_as}
+use Rattle.ufs_held.proofs.Stopping.{reply_within}
 use Rattle.ufs_joint.specs.Cells.{FileCell}
 use Rattle.ufs_model.specs.FileCalls.{file_refusal, file_step}
 use Rattle.ufs_model.specs.History.{is_excused}
@@ -123,6 +124,7 @@ returns-clause-done g c =
       rests = c.rest.ensures.rests;
       conserved = none_lost (tells c.args.door.now) (tells c.fill.new.door) (tells c.serve-entry.new.door) (tells c.rest.new.door) c.args.pool.now c.fill.new.pool c.serve-entry.new.pool c.rest.new.pool c.fill.ensures.telling e.telling c.fill.ensures.conserved e.free c.rest.ensures.conserved
           (within c.measured-held.result.0 c.serve-entry.new.self c.fill.new.pool c.serve-entry.new.pool c.args.ask entry c.serve-entry.result.desc d c.in-Some.is e.untaken e.served);
+      halts = reply_within (tells c.args.door.now) (tells c.fill.new.door) (tells c.serve-entry.new.door) (tells c.rest.new.door) entry.reply c.fill.ensures.telling e.telling c.fill.ensures.still e.halts c.rest.ensures.still;
       served = e.served;
       cause = e.excused;
       short = λ need had is. c.fill.ensures.short (too_few c.measured-held.result.0.value.file c.serve-entry.new.self.value.file c.fill.new.pool d c.args.ask.op need had c.measured-held.result.1

@@ -35,4 +35,4 @@ returns-clause-client g c = λ part alone.
 pub returns-clause-done : goal.returns-clause-done
 returns-clause-done g c =
     let e = c.sync-entry.ensures in
-    record { replied = e.replied; committed = e.committed; known = e.known; kept = e.kept; rest = e.rest; freed = e.freed; unfreed = e.unfreed; same_pool = refl; same_desc = e.desc }
+    record { replied = e.replied; committed = e.committed; known = e.known; kept = e.kept; rest = e.rest; freed = e.freed; unfreed = e.unfreed; halts = e.halts; halted = e.halted; same_pool = refl; same_desc = e.desc }
