@@ -78,6 +78,7 @@ module _ (names : NamesCell) (right : View) (named : HasNamesAlone names right) 
     sees = h.sees;
     formed = h.formed;
     size = h.size;
+    grown = h.grown;
     since = h.since;
     covers = h.covers;
     passes = h.passes;

@@ -11,7 +11,7 @@ invariant_of-self g c =
     let t = g.D.Door.store c.fetch_lent-read.new.store in
     let st = c.fetch_lent-read.ensures.store in
     let alone = c.give_back.ensures.home (cell_of st.stamp st.past t) st.has in
-    (c.self.invariant.0, record { cell = cell_of st.stamp st.past t; alone = alone; store = record { stamp = st.stamp; past = st.past; has = alone.store; sees = st.sees; formed = st.formed; size = st.size; since = st.since; covers = st.covers; passes = st.passes } })
+    (c.self.invariant.0, record { cell = cell_of st.stamp st.past t; alone = alone; store = record { stamp = st.stamp; past = st.past; has = alone.store; sees = st.sees; formed = st.formed; size = st.size; grown = st.grown; since = st.since; covers = st.covers; passes = st.passes } })
 
 pub returns-clause-faults : goal.returns-clause-faults
 returns-clause-faults g c = c.give_back.ensures.faults ∙ c.fetch_lent-read.ensures.faults ∙ ap (λ (xs : List ℕ). told_list (fault_told (fault_in c.fetch_lent-read.result)) ++ xs) c.lend.ensures.faults

@@ -16,7 +16,7 @@ invariant_of-self g c =
     let t = g.D.Door.store c.sync_lent-synced.new.store in
     let st = c.sync_lent-synced.ensures.store in
     let alone = c.give_back.ensures.home (cell_of st.stamp st.past t) st.has in
-    (c.self.invariant.0, record { cell = cell_of st.stamp st.past t; alone = alone; store = record { stamp = st.stamp; past = st.past; has = alone.store; sees = st.sees; formed = st.formed; size = st.size; since = st.since; covers = st.covers; passes = st.passes } })
+    (c.self.invariant.0, record { cell = cell_of st.stamp st.past t; alone = alone; store = record { stamp = st.stamp; past = st.past; has = alone.store; sees = st.sees; formed = st.formed; size = st.size; grown = st.grown; since = st.since; covers = st.covers; passes = st.passes } })
 
 on_ok : {A B : Type 0} (r : Result ℕ StoreFault) → (A → B) → OnOk r A → OnOk r B
 on_ok (Ok n) f a = f a

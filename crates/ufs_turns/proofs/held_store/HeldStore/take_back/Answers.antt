@@ -10,7 +10,7 @@ invariant_of-self g c =
     let t = g.D.Door.store c.take_lent.new.store in
     let st = c.take_lent.ensures.store in
     let alone = c.give_back.ensures.home (cell_of st.stamp st.past t) st.has in
-    (c.self.invariant.0, record { cell = cell_of st.stamp st.past t; alone = alone; store = record { stamp = st.stamp; past = st.past; has = alone.store; sees = st.sees; formed = st.formed; size = st.size; since = st.since; covers = st.covers; passes = st.passes } })
+    (c.self.invariant.0, record { cell = cell_of st.stamp st.past t; alone = alone; store = record { stamp = st.stamp; past = st.past; has = alone.store; sees = st.sees; formed = st.formed; size = st.size; grown = st.grown; since = st.since; covers = st.covers; passes = st.passes } })
 
 pub returns-clause-back : goal.returns-clause-back
 returns-clause-back g c =
