@@ -5,7 +5,7 @@ abbrev pub ghosts-small_parts : goal.ghosts-small_parts
 ghosts-small_parts g a = record { opened = small_start a.names.now (g.D.Door.store a.store.now) }
 
 abbrev pub ghosts-run-N-Naming : goal.ghosts-run-N-Naming
-ghosts-run-N-Naming g a = record { table = a.opened.table; start = a.opened.start; origin = (g.D.Door.store a.store.now).moments }
+ghosts-run-N-Naming g a = record { table = a.opened.table; start = a.opened.start; origin = (g.D.Door.store a.store).moments }
 
 abbrev pub ghosts-run-L-Ledger : goal.ghosts-run-L-Ledger
 ghosts-run-L-Ledger g a = record { name = a.blank.name; parts = a.blank.parts }
