@@ -208,3 +208,12 @@ still_lent (Some f) young next h g is lent = ap (λ (x : HomeState). fin.get x.p
     by : (y : Option FileCell) → fin.get (made_in y next h.places) f ≡ Some None
     by None = lent.0
     by (Some c) = put_else h.places next (Some c) f lent.1 ∙ lent.0
+
+-- ---- what its hand had seen
+
+-- what is so since a later ticket is so since an earlier one
+pub since_before : {N : Type 0} (x : Tried N) (a b : ℕ) → a ≤ b → IsTriedSince b x → IsTriedSince a x
+since_before (tried.Answered (says.Served told)) a b less is = let l = is.later in record { later = omega (arith, less, l); seen = is.seen }
+since_before (tried.Answered (says.Redirect sent)) a b less is = tt
+since_before (tried.Redirected answer file) a b less is = tt
+since_before (tried.Away q file) a b less is = omega (arith, less, is)

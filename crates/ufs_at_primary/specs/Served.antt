@@ -1,6 +1,7 @@
 -- What comes of a request at the primary.
-use Rattle.std.specs.Prelude.{ℕ, ◌≡◌, ◌≢◌, Bool, true, IfSome, List, Option, Some, None}
+use Rattle.std.specs.Prelude.{ℕ, ◌≡◌, ◌≢◌, ◌≤◌, Bool, true, IfSome, List, Option, Some, None}
 use Rattle.std.specs.FinMap as fin
+use Rattle.ufs_baton.specs.Baton.{IsToldSince}
 use Rattle.ufs_held_names.specs.Asked.{IsNeeded, number_of}
 use Rattle.ufs_held_names.specs.SyncAll.{AreAllLive}
 use Rattle.ufs_home.specs.Lending.{AreLent, put_all}
@@ -147,3 +148,10 @@ module _ {N : Type 0} where
   IsTried visible before after s t r (tried.Answered a) = (told : Told) × (a ≡ says.Served told) × IsServed visible before after s t r.ask told
   IsTried visible before after s t r (tried.Redirected a file) = IsSentOn s r a file × (t ≡ s) × (after ≡ before)
   IsTried visible before after s t r (tried.Away q file) = IsStill r q × IsAway s r.ask file × (t ≡ s) × (after ≡ before)
+
+  -- Where it is served, its entry gets no ticket below this, and the hand that goes back has seen it. Where it is to wait, its hand has seen
+  -- as much still.
+  abbrev pub IsTriedSince : ℕ → Tried N → Type 0
+  IsTriedSince since (tried.Answered a) = IsToldSince since a
+  IsTriedSince since (tried.Redirected a file) = Unit {0}
+  IsTriedSince since (tried.Away q file) = since ≤ q.hand.seen

@@ -1,5 +1,6 @@
 // An `fsync` of a directory.
-ghost use Rattle.std.specs.Prelude.{ℕ, ◌≡◌, IsSome, None};
+ghost use Rattle.std.specs.Prelude.{ℕ, ◌≡◌, ◌<◌, ◌≤◌, IsSome, None};
+ghost use Rattle.ufs_baton.specs.Baton.{IsToldSince};
 ghost use Rattle.ufs_bitmap.specs.Blocks.{BlockSet};
 ghost use Rattle.ufs_file.specs.Hand.{IsEntryOf};
 ghost use Rattle.ufs_joint.specs.FirstHand.{HasPoolAlone, pool_of};
@@ -32,6 +33,8 @@ fn sync_dir<N: Naming, T: Turns<N>>(
     ensures entry { IsEntryOf ask Primary result.entry.ticket result.entry }
     ensures guest { (part : ClientPart) (n : ℕ) (pool : BlockSet) → IsGuest ask.client part n pool guest → IsGuest ask.client (answered part result.entry) n pool result.guest }
     ensures done { IsDirDone N.start.is_visible (T.tells door.old) (T.tells door.new) names.old names.new result.entry.reply ask.desc }
+    ensures later { guest.seen ≤ result.entry.ticket }
+    ensures seen { result.entry.ticket < result.guest.seen }
 {
     match ask.desc {
         None => refuse_unopened(table, ask, guest, Actor::Primary),
@@ -53,6 +56,7 @@ pub fn serve_dir<N: Naming, T: Turns<N>>(
     requires dir { file_in request.ask.desc ≡ None }
     ensures pool { (pool : BlockSet) → HasPoolAlone (pool_of 0) pool right.old → HasPoolAlone (pool_of 0) pool right.new }
     ensures served { (told : Told) × (result ≡ answer.Served told) × IsDirServed N.start.is_visible (T.tells door.old) (T.tells door.new) names.old names.new request.ask told }
+    ensures drawn { IsToldSince request.hand.seen result }
 {
     let (client, ask, _leases_back) = request.into_parts();
     let desc = ask.desc;

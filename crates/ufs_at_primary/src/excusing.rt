@@ -1,5 +1,6 @@
 // A request is excused.
-ghost use Rattle.std.specs.Prelude.{ℕ, ◌≡◌};
+ghost use Rattle.std.specs.Prelude.{ℕ, ◌≡◌, ◌<◌, ◌≤◌};
+ghost use Rattle.ufs_baton.specs.Baton.{IsToldSince};
 ghost use Rattle.ufs_bitmap.specs.Blocks.{BlockSet};
 ghost use Rattle.ufs_file.specs.Hand.{IsEntryOf};
 ghost use Rattle.ufs_joint.specs.FirstHand.{HasPoolAlone, pool_of};
@@ -37,6 +38,8 @@ fn draw_excuse<N: Naming>(
     ensures entry { IsEntryOf ask Primary result.0.ticket result.0 }
     ensures replied { result.0.reply ≡ reply.Excused excuses.Memory }
     ensures guest { (part : ClientPart) (n : ℕ) (pool : BlockSet) → IsGuest ask.client part n pool guest → IsGuest ask.client (answered part result.0) n pool result.1 }
+    ensures later { guest.seen ≤ result.0.ticket }
+    ensures seen { result.0.ticket < result.1.seen }
 {
     draw_law();
     let cause = Excuse::from(memory);
@@ -61,6 +64,7 @@ pub(crate) fn excuse<N: Naming>(
     requires pool { (pool : BlockSet) × HasPoolAlone (pool_of 0) pool right.old }
     ensures pool { (pool : BlockSet) → HasPoolAlone (pool_of 0) pool right.old → HasPoolAlone (pool_of 0) pool right.new }
     ensures excused { (told : Told) × (result ≡ answer.Served told) × IsExcusedHere home.now.owners request.ask told }
+    ensures drawn { IsToldSince request.hand.seen result }
 {
     let (client, ask, _leases_back) = request.into_parts();
     let desc = ask.desc;

@@ -1,6 +1,7 @@
 // A request on a file that is at the primary.
 ghost use Rattle.std.specs.Prelude.{ℕ, ◌≡◌, ◌≢◌, ◌<◌, ◌≤◌, ◌^◌, IsSome, true};
 ghost use Rattle.std.specs.FinSet as set;
+ghost use Rattle.ufs_baton.specs.Baton.{IsToldSince};
 ghost use Rattle.ufs_file.specs.Hand.{IsEntryOf, IsOf};
 ghost use Rattle.ufs_joint.specs.FirstHand.{HasPoolAlone, pool_of};
 ghost use Rattle.ufs_held.specs.Asking.{Asks, IsAnswered};
@@ -53,6 +54,8 @@ fn sync_here<N: Naming, T: Turns<N>>(
     ensures desc { result.1.desc ≡ ask.desc }
     ensures client { (part : ClientPart) → HasClientAlone ask.client part client → (after : ClientPart) × IsAnswered part result.1.entry result.1.desc after × HasClientAlone ask.client after result.1.guest }
     ensures done { IsSyncedHere N.start.is_visible (T.tells door.old) (T.tells door.new) names.old names.new held result.0 pool.now pool.now ask result.1.entry result.1.desc }
+    ensures later { client.seen ≤ result.1.entry.ticket }
+    ensures seen { result.1.entry.ticket < result.1.guest.seen }
 {
     // For the prover alone.
     let _ = pool;
@@ -95,6 +98,8 @@ fn serve_asked<N: Naming, T: Turns<N>>(
     ensures client { (part : ClientPart) → HasClientAlone ask.client part client → (after : ClientPart) × IsAnswered part result.1.entry result.1.desc after × HasClientAlone ask.client after result.1.guest }
     ensures done { IsDoneHere N.start.is_visible (T.tells door.old) (T.tells door.new) names.old names.new held result.0 pool.old pool.new ask result.1.entry result.1.desc (asks_commit ask.op) }
     ensures number { result.0.value.file.file ≡ held.value.file.file }
+    ensures later { client.seen ≤ result.1.entry.ticket }
+    ensures seen { result.1.entry.ticket < result.1.guest.seen }
 {
     let number = pool_number(0);
     if let Op::Fsync { .. } = &ask.op {
@@ -128,6 +133,7 @@ pub fn serve_here<N: Naming, T: Turns<N>>(
     ensures pool { HasPoolAlone (pool_of 0) pool.new right.new }
     ensures few { set.len pool.new ≤ most_at_rest }
     ensures served { (told : Told) × (result.1 ≡ answer.Served told) × IsServedHere N.start.is_visible (T.tells door.old) (T.tells door.new) names.old names.new held result.0 pool.old pool.new request.ask told }
+    ensures drawn { IsToldSince request.hand.seen result.1 }
 {
     let (mut client, ask, _leases_back) = request.into_parts();
     know_on_file(table, &mut client, &ask);

@@ -1,6 +1,7 @@
 // What the primary answers a request of the names.
 ghost use Rattle.std.specs.Prelude.{◌≡◌, ◌<◌, ◌≤◌, ◌^◌, IfSome, false};
 ghost use Rattle.std.specs.FinSet as set;
+ghost use Rattle.ufs_baton.specs.Baton.{IsToldSince};
 ghost use Rattle.ufs_joint.specs.FirstHand.{HasPoolAlone, pool_of};
 ghost use Rattle.ufs_held_names.specs.Asked.{IsNeeded, number_of};
 ghost use Rattle.ufs_layout.specs.Areas.{IsGeometry};
@@ -80,6 +81,7 @@ pub fn serve_named<N: Naming, T: Turns<N>>(
     ensures pool { HasPoolAlone (pool_of 0) pool.new right.new }
     ensures few { set.len pool.new ≤ most_at_rest }
     ensures served { (told : Told) × (result.answer ≡ answer.Served told) × IsNamesServed (T.tells door.old) (T.tells door.new) home.now.owners names.old names.new file result.file result.made pool.old pool.new request.ask told }
+    ensures drawn { IsToldSince request.hand.seen result.answer }
 {
     let (client, ask, _leases_back) = request.into_parts();
     let before = ask.desc;

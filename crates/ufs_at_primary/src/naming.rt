@@ -50,6 +50,8 @@ pub(crate) fn serve_names<N: Naming, T: Turns<N>>(
     ensures entry { IsEntryOf ask Primary result.entry.ticket result.entry }
     ensures client { (part : ClientPart) → HasClientAlone ask.client part client → (after : ClientPart) × IsAnsweredNames part result.entry result.desc after × HasClientAlone ask.client after result.guest }
     ensures done { IsDoneByNames (T.tells door.old) (T.tells door.new) names.old names.new file result.file result.made pool.old pool.new ask result.entry result.desc }
+    ensures later { client.seen ≤ result.entry.ticket }
+    ensures seen { result.entry.ticket < result.guest.seen }
 {
     fill(right, pool, door, FOR_A_NAME);
     let guest = lend_pool(table, right, client);

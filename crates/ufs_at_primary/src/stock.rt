@@ -39,6 +39,7 @@ impl<N: Naming> Model for Stock<N> {
 impl<N: Naming> Stock<N> {
     ghost use Rattle.std.specs.Prelude.{◌≡◌, ◌≤◌, ◌⊎◌, IfErr, IfOk, IfSome, IsSome, None, OnErr, OnOk, false, is_some, true};
     ghost use Rattle.std.specs.FinSet as set;
+    ghost use Rattle.ufs_baton.specs.Baton.{IsToldSince};
     ghost use Rattle.ufs_joint.specs.FirstHand.{HasPoolAlone, pool_of};
     ghost use Rattle.ufs_home.specs.Home.{called_for, come_on, onward};
     ghost use Rattle.ufs_home.specs.Letters.{RingsGo, letter_of};
@@ -113,6 +114,7 @@ impl<N: Naming> Stock<N> {
     pub fn excuse(&mut self, table: &HandTable<N>, request: Request<N>, memory: Memory) -> Answer<N>
         ensures excused { (told : Told) × (result ≡ answer.Served told) × IsExcusedHere self.old.home.owners request.ask told }
         ensures rest { self.new ≡ self.old }
+        ensures drawn { IsToldSince request.hand.seen result }
     {
         excuse(table, &self.home, request, memory, &mut self.right)
     }

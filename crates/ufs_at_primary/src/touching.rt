@@ -34,6 +34,7 @@ pub(crate) fn see_request<N: Naming>(
     ensures opened { (file : ℕ) → file_in request.ask.desc ≡ Some file → IsSome (fin.get names.old.value.held file) }
     ensures below { (file : ℕ) → IsSome (fin.get names.old.value.held file) → file < names.old.value.next }
     ensures few { names.old.value.next ≤ N.start.tree.next + 16 * 65536 }
+    ensures later { request.hand.seen ≤ result.hand.seen }
 {
     let (client, ask, leases_back) = request.into_parts();
     let mut guest = lend_pool(table, right, client);

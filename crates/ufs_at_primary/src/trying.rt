@@ -1,5 +1,6 @@
 // A request is served, or it is said why not.
 ghost use Rattle.std.specs.Prelude.{ℕ, ◌≡◌, ◌≢◌, ◌<◌, ◌^◌, Bool, IfNone, IfSome, Option, true};
+ghost use Rattle.ufs_baton.specs.Baton.{IsToldSince};
 ghost use Rattle.ufs_bitmap.specs.Blocks.{BlockSet};
 ghost use Rattle.ufs_joint.specs.FirstHand.{HasPoolAlone, pool_of};
 ghost use Rattle.ufs_held_names.specs.SyncAll.{AreAllLive};
@@ -14,7 +15,7 @@ ghost use Rattle.ufs_owner.specs.Owners.{owner_at};
 ghost use Rattle.ufs_owner.specs.declared.owner.Owner.TheVariants as owner;
 ghost use Rattle.ufs_at_primary.specs.All.{IsAllSynced};
 ghost use Rattle.ufs_at_primary.specs.Kinds.{IsOnFile};
-ghost use Rattle.ufs_at_primary.specs.Served.{IsTried};
+ghost use Rattle.ufs_at_primary.specs.Served.{IsTried, IsTriedSince};
 ghost use Rattle.ufs_at_primary.specs.Stock.{stock_of};
 ghost use Rattle.ufs_hand_laws.specs.Owned.{Has};
 
@@ -83,6 +84,7 @@ fn sync_lent<N: Naming, T: Turns<N>>(
     requires low { (c : FileCell) → Has c files.old.items → c.value.file.file < 2 ^ 31 }
     ensures pool { (pool : BlockSet) → HasPoolAlone (pool_of 0) pool right.old → HasPoolAlone (pool_of 0) pool right.new }
     ensures served { (told : Told) × (result ≡ says.Served told) × IsAllSynced N.start.is_visible (T.tells door.old) (T.tells door.new) names.old names.new files.old.items files.new.items request.ask told }
+    ensures drawn { IsToldSince request.hand.seen result }
 {
     serve_sync_all(
         table,
@@ -106,6 +108,7 @@ fn lacking<N: Naming>(
     requires pool { (pool : BlockSet) × HasPoolAlone (pool_of 0) pool right.old }
     ensures pool { (pool : BlockSet) → HasPoolAlone (pool_of 0) pool right.old → HasPoolAlone (pool_of 0) pool right.new }
     ensures tried { (visible : Bool) (tells : Option View) (names : NamesCell) (pool : BlockSet) → IsTried visible tells tells (stock_of names home.now pool) (stock_of names home.now pool) request result }
+    ensures drawn { IsTriedSince request.hand.seen result }
 {
     Tried::Answered(excuse(table, home, request, memory, right))
 }
@@ -119,7 +122,7 @@ impl<N: Naming> Stock<N> {
     ghost use Rattle.ufs_model.specs.declared.data.Op.TheVariants as op;
     ghost use Rattle.ufs_msg.specs.There.{is_by_hint};
     ghost use Rattle.ufs_at_primary.specs.Kinds.{IsByNames, IsOnFile};
-    ghost use Rattle.ufs_at_primary.specs.Served.{IsTried};
+    ghost use Rattle.ufs_at_primary.specs.Served.{IsTried, IsTriedSince};
 
     // A request on a file that isn't here.
     fn send_on(
@@ -132,7 +135,8 @@ impl<N: Naming> Stock<N> {
         requires kind { IsOnFile request.ask file }
         requires hinted { is_by_hint request.ask.op ≡ hinted }
         requires away { file_here self.old.home.places file ≡ None }
-        ensures { (visible : Bool) (tells : Option View) → IsTried visible tells tells self.old self.new request result }
+        ensures tried { (visible : Bool) (tells : Option View) → IsTried visible tells tells self.old self.new request result }
+        ensures drawn { IsTriedSince request.hand.seen result }
     {
         if let Some(worker) = worker_for(&self.home, file, hinted) {
             let answer = redirect(&self.home, request, file, worker);
@@ -153,7 +157,8 @@ impl<N: Naming> Stock<N> {
     ) -> Tried<N>
         requires kind { IsOnFile request.ask file }
         requires hinted { is_by_hint request.ask.op ≡ hinted }
-        ensures { IsTried N.start.is_visible (T.tells door.old) (T.tells door.new) self.old self.new request result }
+        ensures tried { IsTried N.start.is_visible (T.tells door.old) (T.tells door.new) self.old self.new request result }
+        ensures drawn { IsTriedSince request.hand.seen result }
     {
         if !self.home.has(file) {
             return self.send_on(table, request, file, hinted);
@@ -184,7 +189,8 @@ impl<N: Naming> Stock<N> {
         door: &mut T,
     ) -> Tried<N>
         requires sync { request.ask.op ≡ op.Sync }
-        ensures { IsTried N.start.is_visible (T.tells door.old) (T.tells door.new) self.old self.new request result }
+        ensures tried { IsTried N.start.is_visible (T.tells door.old) (T.tells door.new) self.old self.new request result }
+        ensures drawn { IsTriedSince request.hand.seen result }
     {
         no_file_is_out();
         if let Some(file) = self.home.some_out() {
@@ -220,7 +226,8 @@ impl<N: Naming> Stock<N> {
         requires here { IfSome needed (λ file. IsSome (file_here self.old.home.places file)) }
         requires below { (file : ℕ) → IsSome (fin.get self.old.names.value.held file) → file < self.old.names.value.next }
         requires low { self.old.names.value.next < 2 ^ 31 }
-        ensures { IsTried N.start.is_visible (T.tells door.old) (T.tells door.new) self.old self.new request result }
+        ensures tried { IsTried N.start.is_visible (T.tells door.old) (T.tells door.new) self.old self.new request result }
+        ensures drawn { IsTriedSince request.hand.seen result }
     {
         let lent = lend_touched(
             table,
@@ -256,7 +263,8 @@ impl<N: Naming> Stock<N> {
         door: &mut T,
     ) -> Tried<N>
         requires kind { IsByNames request.ask }
-        ensures { IsTried N.start.is_visible (T.tells door.old) (T.tells door.new) self.old self.new request result }
+        ensures tried { IsTried N.start.is_visible (T.tells door.old) (T.tells door.new) self.old self.new request result }
+        ensures drawn { IsTriedSince request.hand.seen result }
     {
         let request = see_request(table, &mut self.names, &mut self.right, request);
         let (request, needed) = ask_needed(&self.names, request);
@@ -277,7 +285,8 @@ impl<N: Naming> Stock<N> {
         request: Request<N>,
         door: &mut T,
     ) -> Tried<N>
-        ensures { IsTried N.start.is_visible (T.tells door.old) (T.tells door.new) self.old self.new request result }
+        ensures tried { IsTried N.start.is_visible (T.tells door.old) (T.tells door.new) self.old self.new request result }
+        ensures drawn { IsTriedSince request.hand.seen result }
     {
         let (request, kind) = kind_asked(request);
         match kind {

@@ -1,6 +1,7 @@
 -- One turn of the primary.
 use Rattle.std.specs.Prelude.{ℕ, ◌≡◌, ◌≤◌, ◌⊎◌, ◌++◌, Bool, true, List, [], ◌∷◌, length, Option, Some, None}
 use Rattle.std.proofs.Common.{inl, inr}
+use Rattle.ufs_baton.specs.Baton.{IsDrawnWith}
 use Rattle.ufs_home.specs.Letters.{Mailed, RingsGo}
 use Rattle.ufs_home.specs.Places.{file_here}
 use Rattle.ufs_joint.specs.Cells.{FileCell, View}
@@ -61,11 +62,12 @@ pub record IsUnnotedHere (before after : Option View) (s t : StockState) (r : As
   pub rest : t ≡ record s { home = t.home }
   pub store : after ≡ before
 
-module _ {N Q : Type 0} (answers : Q → ℕ → Answer N → Q → Type 0) (same : Q → Q → Type 0) (full : Q → ℕ → Type 0) (visible : Bool) (before after : Option View) where
-  -- It is served or excused, and its answer goes behind those that are kept.
+module _ {N Q : Type 0} (answers : Q → ℕ → Answer N → Q → Type 0) (same : Q → Q → Type 0) (full : Q → ℕ → Type 0) (visible : Bool) (before after : Option View) (since upto : ℕ) where
+  -- It is served or excused, its entry drawn with the baton, and its answer goes behind those that are kept.
   pub record IsServedNow (s t : PrimaryState) (r : Asked) (p q : Q) : Type 0 where
     pub told : Told
     pub served : IsServed visible before after s.stock t.stock r.ask told ⊎ IsUnnotedHere before after s.stock t.stock r told
+    pub drawn : IsDrawnWith since upto told.entry
     pub answer : AnswersGo answers same full (s.answers ++ inl told ∷ []) t.answers p q
     pub rest : t ≡ record s { stock = t.stock; answers = t.answers }
 
@@ -76,7 +78,9 @@ module _ {N Q : Type 0} (answers : Q → ℕ → Answer N → Q → Type 0) (sam
     pub away : file_here s.stock.home.places file ≡ None
     pub worker : ℕ
     pub has : owner_at s.stock.home.owners file ≡ owner.Worker worker
-    pub answer : AnswersGo answers same full (s.answers ++ inr (record { request = r; to = actor.Worker worker }) ∷ []) t.answers p q
+    pub asked : Asked
+    pub still : IsStill r asked
+    pub answer : AnswersGo answers same full (s.answers ++ inr (record { request = asked; to = actor.Worker worker }) ∷ []) t.answers p q
     pub rest : t ≡ record s { answers = t.answers }
 
   -- A file that it wants is out: it waits, and the file is asked for.
@@ -137,7 +141,7 @@ abbrev pub IsThen : {Q : Type 0} → Option PrimaryTurn → PrimaryTurn → Prim
 IsThen (Some made) o s t p q work = (o ≡ made) × (t ≡ s) × (q ≡ p)
 IsThen None o s t p q work = work
 
-module _ {N Q : Type 0} (sends : ℕ → Q → Mailed → Q → Type 0) (letters_full : Q → ℕ → Type 0) (answers : Q → ℕ → Answer N → Q → Type 0) (answers_full : Q → ℕ → Type 0) (same : Q → Q → Type 0) (workers clients : ℕ) (gets_letter : Q → Letter FileCell → Q → Type 0) (no_letter : Q → Type 0) (gets_ask : Q → Asked → Q → Type 0) (no_ask : Q → Type 0) (visible : Bool) (before after : Option View) where
+module _ {N Q : Type 0} (sends : ℕ → Q → Mailed → Q → Type 0) (letters_full : Q → ℕ → Type 0) (answers : Q → ℕ → Answer N → Q → Type 0) (answers_full : Q → ℕ → Type 0) (same : Q → Q → Type 0) (workers clients : ℕ) (gets_letter : Q → Letter FileCell → Q → Type 0) (no_letter : Q → Type 0) (gets_ask : Q → Asked → Q → Type 0) (no_ask : Q → Type 0) (visible : Bool) (before after : Option View) (since upto : ℕ) where
   -- What is kept goes; then the front letter is done; and where that made no turn, a request.
   pub record IsTurn (s t : PrimaryState) (p q : Q) (o : PrimaryTurn) : Type 0 where
     pub sent : PrimaryState
@@ -147,4 +151,4 @@ module _ {N Q : Type 0} (sends : ℕ → Q → Mailed → Q → Type 0) (letters
     pub lettered_by : Q
     pub made : Option PrimaryTurn
     pub letter : IsLetterTried same gets_letter no_letter sent lettered sent_by lettered_by made
-    pub work : IsThen made o lettered t lettered_by q (IsWorkDone answers same answers_full visible before after clients gets_ask no_ask lettered t lettered_by q o)
+    pub work : IsThen made o lettered t lettered_by q (IsWorkDone answers same answers_full visible before after since upto clients gets_ask no_ask lettered t lettered_by q o)

@@ -12,6 +12,7 @@ use crate::turn::PrimaryTurn;
 use crate::waiting::{Waiting, put_off, take_waiting};
 use std::collections::VecDeque;
 use ufs_at_primary::{Stock, Tried};
+use ufs_baton::Baton;
 use ufs_held::Parcel;
 use ufs_joint::{HandTable, Naming};
 use ufs_msg::{Answer, Letter, Request, ServerPost};
@@ -37,6 +38,7 @@ fn say<N: Naming, Q: ServerPost<N, Letter<Parcel<N>>>>(
 // Serves or excuses the request, and tells its client; or it waits.
 fn do_request<N: Naming, Q: ServerPost<N, Letter<Parcel<N>>>, T: Turns<N>>(
     table: &HandTable<N>,
+    baton: &mut Baton<N>,
     stock: &mut Stock<N>,
     answers: &mut VecDeque<Answer<N>>,
     waiting: &mut VecDeque<Waiting<N>>,
@@ -46,17 +48,20 @@ fn do_request<N: Naming, Q: ServerPost<N, Letter<Parcel<N>>>, T: Turns<N>>(
 ) -> PrimaryTurn
     requires answer { deque_len answers.old < deque_capacity answers.old }
     requires wait { deque_len waiting.old < deque_capacity waiting.old }
-    ensures done { (coming : Option FileCell) → IsRequestDone Q.answers Q.same Q.answers_full N.start.is_visible (T.tells door.old) (T.tells door.new)
+    ensures done { (coming : Option FileCell) → IsRequestDone Q.answers Q.same Q.answers_full N.start.is_visible (T.tells door.old) (T.tells door.new) baton.old baton.new
         (primary_of stock.old coming (all_said answers.old.items) waiting.old.items) (primary_of stock.new coming (all_said answers.new.items) waiting.new.items) request post.old post.new result }
     ensures store { result ≢ turn.Served → T.tells door.new ≡ T.tells door.old }
+    ensures seen { result ≢ turn.Served → baton.new ≡ baton.old }
     ensures answers { deque_len answers.new ≤ deque_capacity answers.new }
     ensures room { deque_capacity answers.new ≡ deque_capacity answers.old }
     ensures waiting { deque_len waiting.new ≤ deque_capacity waiting.new }
     ensures places { deque_capacity waiting.new ≡ deque_capacity waiting.old }
     ensures me { Q.me post.new ≡ Q.me post.old }
 {
+    let request = baton.lend(table, request);
     match stock.serve(table, request, door) {
         Tried::Answered(answer) => {
+            let answer = baton.follow(table, answer);
             say(answers, answer, post);
             PrimaryTurn::Served
         }
@@ -68,6 +73,7 @@ fn do_request<N: Naming, Q: ServerPost<N, Letter<Parcel<N>>>, T: Turns<N>>(
             Ok(()) => PrimaryTurn::Waiting { file },
             Err((memory, back)) => {
                 let answer = stock.excuse(table, back, memory);
+                let answer = baton.follow(table, answer);
                 say(answers, answer, post);
                 PrimaryTurn::Served
             }
@@ -79,6 +85,7 @@ fn do_request<N: Naming, Q: ServerPost<N, Letter<Parcel<N>>>, T: Turns<N>>(
 /// room for its answer, or for its waiting.
 pub(crate) fn serve_next<N: Naming, Q: ServerPost<N, Letter<Parcel<N>>>, T: Turns<N>>(
     table: &HandTable<N>,
+    baton: &mut Baton<N>,
     stock: &mut Stock<N>,
     answers: &mut VecDeque<Answer<N>>,
     waiting: &mut VecDeque<Waiting<N>>,
@@ -87,9 +94,10 @@ pub(crate) fn serve_next<N: Naming, Q: ServerPost<N, Letter<Parcel<N>>>, T: Turn
 ) -> PrimaryTurn
     requires answers { HasRoom (client_count N.start) (deque_len answers.old) (deque_capacity answers.old) }
     requires waiting { HasRoom (client_count N.start) (deque_len waiting.old) (deque_capacity waiting.old) }
-    ensures done { (coming : Option FileCell) → IsWorkDone Q.answers Q.same Q.answers_full N.start.is_visible (T.tells door.old) (T.tells door.new) (client_count N.start) Q.gets_ask Q.asks_empty
+    ensures done { (coming : Option FileCell) → IsWorkDone Q.answers Q.same Q.answers_full N.start.is_visible (T.tells door.old) (T.tells door.new) baton.old baton.new (client_count N.start) Q.gets_ask Q.asks_empty
         (primary_of stock.old coming (all_said answers.old.items) waiting.old.items) (primary_of stock.new coming (all_said answers.new.items) waiting.new.items) post.old post.new result }
     ensures store { result ≢ turn.Served → T.tells door.new ≡ T.tells door.old }
+    ensures seen { result ≢ turn.Served → baton.new ≡ baton.old }
     ensures answers { HasRoom (client_count N.start) (deque_len answers.new) (deque_capacity answers.new) }
     ensures waiting { HasRoom (client_count N.start) (deque_len waiting.new) (deque_capacity waiting.new) }
     ensures me { Q.me post.new ≡ Q.me post.old }
@@ -98,7 +106,7 @@ pub(crate) fn serve_next<N: Naming, Q: ServerPost<N, Letter<Parcel<N>>>, T: Turn
         return PrimaryTurn::Idle;
     }
     if let Some(request) = take_waiting(stock, waiting) {
-        return do_request(table, stock, answers, waiting, request, post, door);
+        return do_request(table, baton, stock, answers, waiting, request, post, door);
     }
     if waiting.len() >= waiting.capacity() {
         return PrimaryTurn::Idle;
@@ -106,5 +114,5 @@ pub(crate) fn serve_next<N: Naming, Q: ServerPost<N, Letter<Parcel<N>>>, T: Turn
     let Some(request) = post.take_ask() else {
         return PrimaryTurn::Idle;
     };
-    do_request(table, stock, answers, waiting, request, post, door)
+    do_request(table, baton, stock, answers, waiting, request, post, door)
 }

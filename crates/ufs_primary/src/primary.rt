@@ -7,6 +7,7 @@ use crate::waiting::Waiting;
 use std::collections::VecDeque;
 use std::marker::Model;
 use ufs_at_primary::{Ordered, Stock};
+use ufs_baton::Baton;
 use ufs_bitmap::Pool;
 use ufs_held::Parcel;
 use ufs_held_names::HeldNames;
@@ -110,15 +111,18 @@ impl<N: Naming> Primary<N> {
     pub fn poll<Q: ServerPost<N, Letter<Parcel<N>>>, T: Turns<N>>(
         &mut self,
         table: &HandTable<N>,
+        baton: &mut Baton<N>,
         post: &mut Q,
         door: &mut T,
     ) -> PrimaryTurn
         requires mine { Q.me post.old ≡ primary }
         ensures mine { Q.me post.new ≡ Q.me post.old }
         ensures turn { IsTurn (λ w p m q. Q.sends p (Worker w) (letter_of m) q) (λ p w. Q.letters_full p (Worker w)) Q.answers Q.answers_full Q.same (worker_count N.start) (client_count N.start) Q.gets_letter Q.letters_empty Q.gets_ask Q.asks_empty
-            N.start.is_visible (T.tells door.old) (T.tells door.new) self.old self.new post.old post.new result }
+            N.start.is_visible (T.tells door.old) (T.tells door.new) baton.old baton.new self.old self.new post.old post.new result }
         // no other turn comes to the store
         ensures store { result ≢ turn.Served → T.tells door.new ≡ T.tells door.old }
+        // no other turn draws an entry
+        ensures seen { result ≢ turn.Served → baton.new ≡ baton.old }
     {
         self.stock.send_letters(post);
         send_answers(&mut self.answers, post);
@@ -127,6 +131,7 @@ impl<N: Naming> Primary<N> {
         }
         serve_next(
             table,
+            baton,
             &mut self.stock,
             &mut self.answers,
             &mut self.waiting,

@@ -1,13 +1,15 @@
 -- The pool's hand goes with a client's, and comes back.
-use Rattle.std.proofs.Common.{◌≡◌, ℕ, cond, [], ◌∷◌, ◌++◌, ap, ◌∙◌}
+use Rattle.std.proofs.Common.{◌≡◌, ◌≤◌, ℕ, Bool, true, false, arith, leb, refl, cond, [], ◌∷◌, ◌++◌, ap, ◌∙◌}
+use Rattle.std.proofs.lemmas.Bool.{leb-true}
 use Rattle.ufs_bitmap.specs.Blocks.{BlockSet}
 use Rattle.ufs_held.specs.Asking.{IsGuest}
+use Rattle.ufs_held.proofs.After as held
 use Rattle.ufs_held.proofs.After.{only_none, without_none}
 use Rattle.ufs_joint.specs.Cells.{View, both_of, given_of, kept_of}
 use Rattle.ufs_model.specs.declared.data.PartName.TheVariants.{File, Names}
 use Rattle.ufs_msg.specs.Requests.{HasClientAlone}
 use Rattle.ufs_hand_laws.specs.Owned.{only, without}
-use Rattle.ufs_hand_laws.specs.Parts.{ClientPart, is_file, is_names}
+use Rattle.ufs_hand_laws.specs.Parts.{ClientPart, is_file, is_names, later}
 use Rattle.ufs_hand_laws.proofs.Keys.{itself}
 use Rattle.ufs_joint.specs.FirstHand.{HasPoolAlone}
 use Rattle.ufs_serving.specs.Pools.{HasNone}
@@ -65,3 +67,15 @@ module _ (own guest : View) (n : ℕ) (pool : BlockSet) (c : ℕ) (part : Client
     names = without_none all.names ∙ (λ i. none.names i ++ came.names i);
     store = without_none all.store ∙ (λ i. none.store i ++ came.store i);
   }
+
+-- ---- what was seen
+
+pub later_right : (a b : ℕ) → b ≤ later a b
+later_right = held.later_right
+
+pub later_left : (a b : ℕ) → a ≤ later a b
+later_left a b = by (leb a b) refl
+  where
+    by : (d : Bool) → leb a b ≡ d → a ≤ cond d b a
+    by true e = leb-true a b e
+    by false e = omega arith

@@ -1,5 +1,5 @@
 // What a server knows of a request on a file.
-ghost use Rattle.std.specs.Prelude.{◌≡◌, Some, true};
+ghost use Rattle.std.specs.Prelude.{◌≡◌, ◌≤◌, Some, true};
 ghost use Rattle.ufs_held.specs.Asking.{Asks};
 ghost use Rattle.ufs_model.specs.Asks.{file_in};
 ghost use Rattle.ufs_model.specs.FileCalls.{is_on_file};
@@ -31,6 +31,7 @@ pub fn know_on_file<N: Naming>(table: &HandTable<N>, hand: &mut Hand<N>, ask: &A
     requires on_file { is_on_file ask.now.op ≡ true }
     ensures asked { IsAsked N.start ask.now hand.new }
     ensures asks { (part : ClientPart) → HasClientAlone ask.now.client part hand.new → Asks part ask.now }
+    ensures later { hand.old.seen ≤ hand.new.seen }
 {
     // For the prover alone.
     let _ = ask;
@@ -43,6 +44,7 @@ pub fn know<N: Naming>(table: &HandTable<N>, hand: &mut Hand<N>, ask: &Ask)
     requires hinted { IsByHint ask.now }
     ensures asked { IsAsked N.start ask.now hand.new }
     ensures asks { (part : ClientPart) → HasClientAlone ask.now.client part hand.new → Asks part ask.now }
+    ensures later { hand.old.seen ≤ hand.new.seen }
 {
     know_on_file(table, hand, ask);
 }

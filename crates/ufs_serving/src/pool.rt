@@ -33,6 +33,8 @@ pub fn lend_pool<N: Naming>(table: &HandTable<N>, right: &mut Hand<N>, client: H
     requires client { (c : ℕ) × (part : ClientPart) × HasClientAlone c part client }
     ensures guest { (n : ℕ) (pool : BlockSet) (c : ℕ) (part : ClientPart) → HasPoolAlone n pool right.old → HasClientAlone c part client → IsGuest c part n pool result }
     ensures none { HasNone right.new }
+    ensures later { client.seen ≤ result.seen }
+    ensures kept { client.seen ≤ right.new.seen }
 {
     right.join(table, client);
     let none = right.split(table, PartName::Names);
@@ -50,6 +52,8 @@ pub fn take_pool<N: Naming>(
     requires guest { (c : ℕ) × (part : ClientPart) × (pool : BlockSet) × IsGuest c part number pool guest }
     ensures client { (c : ℕ) (part : ClientPart) (pool : BlockSet) → IsGuest c part number pool guest → HasClientAlone c part result }
     ensures pool { (c : ℕ) (part : ClientPart) (pool : BlockSet) → IsGuest c part number pool guest → HasPoolAlone number pool right.new }
+    ensures later { guest.seen ≤ result.seen }
+    ensures own { right.old.seen ≤ result.seen }
 {
     right.join(table, guest);
     let own = right.split(table, PartName::File(number));

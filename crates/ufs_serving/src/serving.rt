@@ -1,5 +1,5 @@
 // A request that commits nothing, on a file that a server has.
-ghost use Rattle.std.specs.Prelude.{◌≡◌, ◌≢◌, ◌≤◌, IsSome, false};
+ghost use Rattle.std.specs.Prelude.{◌≡◌, ◌≢◌, ◌<◌, ◌≤◌, IsSome, false};
 ghost use Rattle.std.specs.FinSet as set;
 ghost use Rattle.ufs_file.specs.Hand.{IsEntryOf, IsOf};
 ghost use Rattle.ufs_held.specs.Asking.{Asks, IsAnswered};
@@ -47,6 +47,8 @@ pub fn serve_change<N: Naming, T: Turns<N>>(
     ensures done { IsServedAt (T.tells door.old) (T.tells door.new) held result.0 pool.old pool.new ask result.1.entry result.1.desc }
     ensures number { result.0.value.file.file ≡ held.value.file.file }
     ensures born { result.0.born ≡ held.born }
+    ensures later { client.seen ≤ result.1.entry.ticket }
+    ensures seen { result.1.entry.ticket < result.1.guest.seen }
 {
     let Some(desc) = ask.desc else { unreachable!() };
     let (mut held, wanted) = measured(held, &ask.op, desc);

@@ -1,5 +1,5 @@
 // An `fsync` of a file that a server has.
-ghost use Rattle.std.specs.Prelude.{ℕ, ◌≡◌, ◌≢◌, true};
+ghost use Rattle.std.specs.Prelude.{ℕ, ◌≡◌, ◌≢◌, ◌<◌, ◌≤◌, true};
 ghost use Rattle.ufs_file.specs.Hand.{IsEntryOf, IsOf};
 ghost use Rattle.ufs_held.specs.Asking.{Asks, IsAnswered};
 ghost use Rattle.ufs_model.specs.declared.data.Op.TheVariants as op;
@@ -41,6 +41,8 @@ pub fn serve_sync<N: Naming, T: Turns<N>>(
     ensures client { (part : ClientPart) → HasClientAlone ask.client part client → (after : ClientPart) × IsAnswered part result.1.entry result.1.desc after × HasClientAlone ask.client after result.1.guest }
     ensures done { IsSyncedAt N.start.is_visible (T.tells door.old) (T.tells door.new) held result.0 pool.now pool.now ask result.1.entry result.1.desc }
     ensures number { result.0.value.file.file ≡ held.value.file.file }
+    ensures later { client.seen ≤ result.1.entry.ticket }
+    ensures seen { result.1.entry.ticket < result.1.guest.seen }
 {
     // For the prover alone.
     let _ = pool;

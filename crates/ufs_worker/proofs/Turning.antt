@@ -1,6 +1,7 @@
 -- What a turn leaves, put together.
 use Rattle.std.proofs.Common.{◌≡◌, ℕ, ◌++◌, List, [], ◌∷◌, inl, inr, Bool, true, false, is_some, Option, Some, None, refl, ap, subst}
 use Rattle.std.specs.FinMap as fin
+use Rattle.ufs_baton.specs.Baton.{IsDrawnWith}
 use Rattle.ufs_bitmap.specs.Blocks.{BlockSet}
 use Rattle.ufs_joint.specs.Cells.{FileCell, View}
 use Rattle.ufs_model.specs.declared.data.Actor.TheVariants as actor
@@ -64,18 +65,18 @@ module _ {Q : Type 0} (sends : Q → FileCell → Q → Type 0) (same : Q → Q 
     next_is None w v p q x is next = next
     next_is (Some c) w v p q x is next = absurd cc
 
-module _ {N Q : Type 0} (answers : Q → ℕ → Answer N → Q → Type 0) (same : Q → Q → Type 0) (full : Q → ℕ → Type 0) (visible : Bool) (before after : Option View) where
+module _ {N Q : Type 0} (answers : Q → ℕ → Answer N → Q → Type 0) (same : Q → Q → Type 0) (full : Q → ℕ → Type 0) (visible : Bool) (before after : Option View) (since upto : ℕ) where
   pub is_served : (o : Option FileCell) (number : ℕ) (shelf then : ShelfState) (coming : Option FileCell) (pool left : BlockSet) (old new : List Said) (r : Asked) (file : ℕ) (s : Said) (p q : Q) → is_some o ≡ true
-      → ((c : FileCell) → o ≡ Some c → (d : FileCell) × (told : Told) × (s ≡ inl told) × IsServedBy visible before after (actor.Worker number) c d pool left r.ask told × (then ≡ record shelf { files = fin.insert shelf.files file d }))
+      → ((c : FileCell) → o ≡ Some c → (d : FileCell) × (told : Told) × (s ≡ inl told) × IsServedBy visible before after (actor.Worker number) c d pool left r.ask told × IsDrawnWith since upto told.entry × (then ≡ record shelf { files = fin.insert shelf.files file d }))
       → AnswersGo answers same full (old ++ s ∷ []) new p q
-      → IsRequestDone answers same full visible before after o (worker_of number shelf coming pool old) (worker_of number then coming left new) r file p q turn.Served
+      → IsRequestDone answers same full visible before after since upto o (worker_of number shelf coming pool old) (worker_of number then coming left new) r file p q turn.Served
   is_served None number shelf then coming pool left old new r file s p q is served goes = absurd cc
   is_served (Some c) number shelf then coming pool left old new r file s p q is served goes =
       let x = served c refl in
-      (refl, (x.0, x.1, x.3, (λ i. worker_of number (x.4 i) coming left new), subst (λ (a : Said). AnswersGo answers same full (old ++ a ∷ []) new p q) x.2 goes))
+      (refl, (x.0, x.1, x.3, x.4, (λ i. worker_of number (x.5 i) coming left new), subst (λ (a : Said). AnswersGo answers same full (old ++ a ∷ []) new p q) x.2 goes))
 
   pub is_redirected : (o : Option FileCell) (number : ℕ) (shelf : ShelfState) (coming : Option FileCell) (pool : BlockSet) (old new : List Said) (r : Asked) (file : ℕ) (p q : Q) → is_some o ≡ false
       → AnswersGo answers same full (old ++ inr (record { request = r; to = actor.Primary }) ∷ []) new p q
-      → IsRequestDone answers same full visible before after o (worker_of number shelf coming pool old) (worker_of number shelf coming pool new) r file p q (turn.Redirected file)
+      → IsRequestDone answers same full visible before after since upto o (worker_of number shelf coming pool old) (worker_of number shelf coming pool new) r file p q (turn.Redirected file)
   is_redirected None number shelf coming pool old new r file p q is goes = (refl, refl, goes)
   is_redirected (Some c) number shelf coming pool old new r file p q is goes = absurd cc

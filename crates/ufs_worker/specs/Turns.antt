@@ -3,6 +3,7 @@ use Rattle.std.specs.Prelude.{ℕ, ◌≡◌, ◌⊎◌, ◌++◌, [], ◌∷◌
 use Rattle.std.proofs.Common.{inl, inr}
 use Rattle.std.specs.FinMap as fin
 use Rattle.ufs_base.specs.declared.memory.Memory.{Memory}
+use Rattle.ufs_baton.specs.Baton.{IsDrawnWith}
 use Rattle.ufs_model.specs.Asks.{file_in}
 use Rattle.ufs_model.specs.declared.data.Actor.TheVariants as actor
 use Rattle.ufs_joint.specs.Cells.{FileCell, View}
@@ -51,19 +52,19 @@ module _ {Q : Type 0} (sends : Q → FileCell → Q → Type 0) (same : Q → Q 
 -- ---- a request
 
 module _ {N Q : Type 0} (answers : Q → ℕ → Answer N → Q → Type 0) (same : Q → Q → Type 0) (full : Q → ℕ → Type 0) where
-  -- A request on a file that isn't here is to go to the primary, as it is; one on a file that is, is served. Its answer goes behind those
-  -- that are kept.
-  abbrev pub IsRequestDone : (visible : Bool) (before after : Option View) → Option FileCell → WorkerState → WorkerState → Asked → ℕ → Q → Q → WorkerTurn → Type 0
-  IsRequestDone visible before after None w v r file p q o =
+  -- A request on a file that isn't here is to go to the primary, as it is; one on a file that is, is served, and its entry drawn with the
+  -- baton. Its answer goes behind those that are kept.
+  abbrev pub IsRequestDone : (visible : Bool) (before after : Option View) (since upto : ℕ) → Option FileCell → WorkerState → WorkerState → Asked → ℕ → Q → Q → WorkerTurn → Type 0
+  IsRequestDone visible before after since upto None w v r file p q o =
       (o ≡ turn.Redirected file) × (v ≡ record w { answers = v.answers }) × AnswersGo answers same full (w.answers ++ inr (record { request = r; to = actor.Primary }) ∷ []) v.answers p q
-  IsRequestDone visible before after (Some c) w v r file p q o =
-      (o ≡ turn.Served) × ((d : FileCell) × (told : Told) × IsServedBy visible before after (actor.Worker w.number) c d w.pool v.pool r.ask told
+  IsRequestDone visible before after since upto (Some c) w v r file p q o =
+      (o ≡ turn.Served) × ((d : FileCell) × (told : Told) × IsServedBy visible before after (actor.Worker w.number) c d w.pool v.pool r.ask told × IsDrawnWith since upto told.entry
       × (v ≡ record w { files = fin.insert w.files file d; pool = v.pool; answers = v.answers }) × AnswersGo answers same full (w.answers ++ inl told ∷ []) v.answers p q)
 
   module _ (gets : Q → Asked → Q → Type 0) (none : Q → Type 0) where
     -- The front request of the ring is done, or there is none, or memory for its answer is wanting.
-    abbrev pub IsAskDone : (visible : Bool) (before after : Option View) → WorkerState → WorkerState → Q → Q → WorkerTurn → Type 0
-    IsAskDone visible before after w v p q o = ((r : Asked) × (file : ℕ) × (m : Q) × gets p r m × (file_in r.ask.desc ≡ Some file) × IsRequestDone visible before after (fin.get w.files file) w v r file m q o)
+    abbrev pub IsAskDone : (visible : Bool) (before after : Option View) (since upto : ℕ) → WorkerState → WorkerState → Q → Q → WorkerTurn → Type 0
+    IsAskDone visible before after since upto w v p q o = ((r : Asked) × (file : ℕ) × (m : Q) × gets p r m × (file_in r.ask.desc ≡ Some file) × IsRequestDone visible before after since upto (fin.get w.files file) w v r file m q o)
         ⊎ ((same p q × none p × (o ≡ turn.Idle) × (v ≡ w)) ⊎ ((memory : Memory) × (o ≡ turn.Memory memory) × (v ≡ w) × (q ≡ p)))
 
 -- ---- the turn
@@ -81,7 +82,7 @@ module _ {N Q : Type 0} (sends : Q → FileCell → Q → Type 0) (letters_full 
     pub answer : AnswersGo answers same answers_full w.answers v.answers mid q
     pub rest : v ≡ record w { letters = v.letters; answers = v.answers }
 
-  module _ (gets_letter : Q → Letter FileCell → Q → Type 0) (no_letter : Q → Type 0) (gets_ask : Q → Asked → Q → Type 0) (no_ask : Q → Type 0) (visible : Bool) (before after : Option View) where
+  module _ (gets_letter : Q → Letter FileCell → Q → Type 0) (no_letter : Q → Type 0) (gets_ask : Q → Asked → Q → Type 0) (no_ask : Q → Type 0) (visible : Bool) (before after : Option View) (since upto : ℕ) where
     -- Then the front letter is done; and where that made no turn, the front request.
     pub record IsTurn (w v : WorkerState) (p q : Q) (o : WorkerTurn) : Type 0 where
       pub sent : WorkerState
@@ -91,4 +92,4 @@ module _ {N Q : Type 0} (sends : Q → FileCell → Q → Type 0) (letters_full 
       pub lettered_by : Q
       pub made : Option WorkerTurn
       pub letter : IsFrontDone sends same letters_full gets_letter no_letter sent.coming sent lettered sent_by lettered_by made
-      pub work : IsThen made o lettered v lettered_by q (IsAskDone answers same answers_full gets_ask no_ask visible before after lettered v lettered_by q o)
+      pub work : IsThen made o lettered v lettered_by q (IsAskDone answers same answers_full gets_ask no_ask visible before after since upto lettered v lettered_by q o)

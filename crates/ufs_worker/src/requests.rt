@@ -1,6 +1,7 @@
 // A request that came to a worker which has its file.
 ghost use Rattle.std.specs.Prelude.{◌≡◌, ◌<◌, ◌≤◌, ◌^◌, IfSome, IsSome, Some, true};
 ghost use Rattle.std.specs.FinSet as set;
+ghost use Rattle.ufs_baton.specs.Baton.{IsToldSince};
 ghost use Rattle.ufs_file.specs.Hand.{IsEntryOf, IsOf};
 ghost use Rattle.ufs_held.specs.Asking.{Asks, IsAnswered};
 ghost use Rattle.ufs_joint.specs.Cells.{FileCell};
@@ -51,6 +52,8 @@ fn serve_asked<N: Naming, T: Turns<N>>(
     ensures done { IsDoneAt N.start.is_visible (T.tells door.old) (T.tells door.new) held result.0 pool.old pool.new ask result.1.entry result.1.desc (asks_commit ask.op) }
     ensures number { result.0.value.file.file ≡ held.value.file.file }
     ensures born { result.0.born ≡ held.born }
+    ensures later { client.seen ≤ result.1.entry.ticket }
+    ensures seen { result.1.entry.ticket < result.1.guest.seen }
 {
     let by = Actor::Worker(me);
     let number = pool_number(me);
@@ -78,6 +81,7 @@ pub(crate) fn serve_request<N: Naming, T: Turns<N>>(
     ensures pool { HasPoolAlone (pool_of me) pool.new right.new }
     ensures few { set.len pool.new ≤ most_at_rest }
     ensures served { (told : Told) × (result.1 ≡ answer.Served told) × IsServedBy N.start.is_visible (T.tells door.old) (T.tells door.new) (Worker me) parcel result.0 pool.old pool.new request.ask told }
+    ensures drawn { IsToldSince request.hand.seen result.1 }
 {
     let (mut client, ask, _leases_back) = request.into_parts();
     know(table, &mut client, &ask);
@@ -109,6 +113,7 @@ pub(crate) fn serve_in<N: Naming, T: Turns<N>>(
     ensures pool { HasPoolAlone (pool_of me) pool.new right.new }
     ensures few { set.len pool.new ≤ most_at_rest }
     ensures served { IfSome place.old (λ c. (d : FileCell) × (told : Told) × (result ≡ answer.Served told) × IsServedBy N.start.is_visible (T.tells door.old) (T.tells door.new) (Worker me) c d pool.old pool.new request.ask told × (place.new ≡ Some d)) }
+    ensures drawn { IsToldSince request.hand.seen result }
 {
     let Some(parcel) = place.take() else {
         unreachable!()

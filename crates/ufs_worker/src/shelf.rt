@@ -41,6 +41,7 @@ impl<N: Naming> Shelf<N> {
     ghost use Rattle.std.specs.Prelude.{◌≡◌, ◌≤◌, ◌++◌, [], ◌∷◌, IfErr, IsSome, OnErr, OnOk, Some, is_some};
     ghost use Rattle.std.specs.FinMap as fin;
     ghost use Rattle.std.specs.FinSet as set;
+    ghost use Rattle.ufs_baton.specs.Baton.{IsToldSince};
     ghost use Rattle.ufs_joint.specs.Cells.{FileCell};
     ghost use Rattle.ufs_model.specs.Asks.{file_in};
     ghost use Rattle.ufs_model.specs.declared.data.Actor.TheVariants.{Primary, Worker};
@@ -127,6 +128,7 @@ impl<N: Naming> Shelf<N> {
         ensures few { set.len pool.new ≤ most_at_rest }
         ensures served { (c : FileCell) → fin.get self.old.files file ≡ Some c → (d : FileCell) × (told : Told) × (result ≡ answer.Served told)
             × IsServedBy N.start.is_visible (T.tells door.old) (T.tells door.new) (Worker me) c d pool.old pool.new request.ask told × (self.new ≡ record self.old { files = fin.insert self.old.files file d }) }
+        ensures drawn { IsToldSince request.hand.seen result }
     {
         match self.places.get_mut(&file) {
             Some(place) => serve_in(table, place, request, me, pool, right, door),

@@ -7,6 +7,7 @@ use std::alloc::Global;
 use std::collections::VecDeque;
 use std::marker::Model;
 use ufs_base::Memory;
+use ufs_baton::Baton;
 use ufs_bitmap::Pool;
 use ufs_held::Parcel;
 use ufs_joint::{Hand, HandTable, Naming};
@@ -97,6 +98,7 @@ impl<N: Naming> Worker<N> {
     pub fn poll<Q: ServerPost<N, Letter<Parcel<N>>>, T: Turns<N>>(
         &mut self,
         table: &HandTable<N>,
+        baton: &mut Baton<N>,
         post: &mut Q,
         door: &mut T,
     ) -> WorkerTurn
@@ -104,14 +106,16 @@ impl<N: Naming> Worker<N> {
         ensures mine { Q.me post.new ≡ Q.me post.old }
         ensures number { self.new.number ≡ self.old.number }
         ensures turn { IsTurn (λ p c q. Q.sends p Primary (letter.Parcel c) q) (λ p c. Q.letters_full p Primary) Q.answers Q.answers_full Q.same Q.gets_letter Q.letters_empty Q.gets_ask Q.asks_empty
-            N.start.is_visible (T.tells door.old) (T.tells door.new) self.old self.new post.old post.new result }
+            N.start.is_visible (T.tells door.old) (T.tells door.new) baton.old baton.new self.old self.new post.old post.new result }
         // no other turn comes to the store
         ensures store { result ≢ turn.Served → T.tells door.new ≡ T.tells door.old }
+        // no other turn draws an entry
+        ensures seen { result ≢ turn.Served → baton.new ≡ baton.old }
     {
         self.send_kept(post);
         match self.take_letter(post) {
             Some(turn) => turn,
-            None => self.serve_front(table, post, door),
+            None => self.serve_front(table, baton, post, door),
         }
     }
 
@@ -210,14 +214,16 @@ impl<N: Naming> Worker<N> {
     fn serve_front<Q: ServerPost<N, Letter<Parcel<N>>>, T: Turns<N>>(
         &mut self,
         table: &HandTable<N>,
+        baton: &mut Baton<N>,
         post: &mut Q,
         door: &mut T,
     ) -> WorkerTurn
         requires mine { Q.me post.old ≡ worker self.old.number }
         ensures mine { Q.me post.new ≡ Q.me post.old }
         ensures number { self.new.number ≡ self.old.number }
-        ensures done { IsAskDone Q.answers Q.same Q.answers_full Q.gets_ask Q.asks_empty N.start.is_visible (T.tells door.old) (T.tells door.new) self.old self.new post.old post.new result }
+        ensures done { IsAskDone Q.answers Q.same Q.answers_full Q.gets_ask Q.asks_empty N.start.is_visible (T.tells door.old) (T.tells door.new) baton.old baton.new self.old self.new post.old post.new result }
         ensures store { result ≢ turn.Served → T.tells door.new ≡ T.tells door.old }
+        ensures seen { result ≢ turn.Served → baton.new ≡ baton.old }
     {
         if let Err(refused) = self.answers.reserve(1) {
             return WorkerTurn::Memory(Memory::from(refused));
@@ -227,6 +233,7 @@ impl<N: Naming> Worker<N> {
         };
         let (request, file) = file_asked(request);
         if self.shelf.has(file) {
+            let request = baton.lend(table, request);
             let answer = self.shelf.serve(
                 table,
                 request,
@@ -236,6 +243,7 @@ impl<N: Naming> Worker<N> {
                 &mut self.right,
                 door,
             );
+            let answer = baton.follow(table, answer);
             self.answers.push_back_reserved(answer);
             send_answers(&mut self.answers, post);
             return WorkerTurn::Served;

@@ -1,4 +1,5 @@
-use Rattle.std.proofs.Common.{ℕ, None, ap, arith, refl, sym, subst, ◌∙◌}
+use Rattle.std.proofs.Common.{ℕ, None, ap, arith, refl, sym, subst, ◌∙◌, ◌≤◌}
+use Rattle.ufs_baton.specs.Baton.{IsDrawnWith}
 use Rattle.ufs_joint.specs.FirstHand.{HasPoolAlone}
 use Rattle.ufs_held.specs.Asking.{IsGuest}
 use Rattle.ufs_held_names.specs.Dirs.{answered}
@@ -87,3 +88,16 @@ returns-clause-served g c =
             lease = refl;
           }),
     )
+
+pub returns-clause-drawn : goal.returns-clause-drawn
+returns-clause-drawn g c =
+    let ticket = c.sync-entry.result.entry.ticket in
+    let a = c.lend_pool-guest.ensures.later in
+    let b = c.sync-entry.ensures.later in
+    let d = c.sync-entry.ensures.seen in
+    let e = c.take_pool-guest.ensures.later in
+    let l : c.into_parts-client.result.0.seen ≤ ticket = omega (arith, a, b) in
+    subst (λ (t : Told). IsDrawnWith c.args.request.hand.seen t.hand.seen t.entry) (sym c.new.ensures) (record {
+      later = subst (λ (r : Asked). r.hand.seen ≤ ticket) c.into_parts-client.ensures.same l;
+      seen = omega (arith, d, e);
+    })

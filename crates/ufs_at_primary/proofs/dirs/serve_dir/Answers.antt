@@ -1,4 +1,5 @@
-use Rattle.std.proofs.Common.{ℕ, None, ap, refl, sym, subst}
+use Rattle.std.proofs.Common.{ℕ, None, ap, refl, sym, subst, ◌≤◌, arith}
+use Rattle.ufs_baton.specs.Baton.{IsDrawnWith}
 use Rattle.ufs_joint.specs.FirstHand.{HasPoolAlone}
 use Rattle.ufs_held.specs.Asking.{IsGuest}
 use Rattle.ufs_held_names.specs.Dirs.{answered}
@@ -62,3 +63,16 @@ returns-clause-served g c =
       subst (λ (q : Ask). IsDirServed g.N.Naming.start.is_visible (tells c.args.door.now) (tells c.sync_dir-entry.new.door) c.args.names.now c.sync_dir-entry.new.names q told) ask
           (record { of_ask = e.entry; done = e.done; desc = refl; owner = refl; lease = refl }),
     )
+
+pub returns-clause-drawn : goal.returns-clause-drawn
+returns-clause-drawn g c =
+    let ticket = c.sync_dir-entry.result.entry.ticket in
+    let a = c.lend_pool-guest.ensures.later in
+    let b = c.sync_dir-entry.ensures.later in
+    let d = c.sync_dir-entry.ensures.seen in
+    let e = c.take_pool-guest.ensures.later in
+    let l : c.into_parts-client.result.0.seen ≤ ticket = omega (arith, a, b) in
+    subst (λ (t : Told). IsDrawnWith c.args.request.hand.seen t.hand.seen t.entry) (sym c.new.ensures) (record {
+      later = subst (λ (r : Asked). r.hand.seen ≤ ticket) c.into_parts-client.ensures.same l;
+      seen = omega (arith, d, e);
+    })

@@ -1,4 +1,5 @@
-use Rattle.std.proofs.Common.{◌≡◌, None, Some, true, ap, sym, subst, refl}
+use Rattle.std.proofs.Common.{◌≡◌, None, Some, true, ap, sym, subst, refl, ◌≤◌, arith}
+use Rattle.ufs_baton.specs.Baton.{IsToldSince}
 use Rattle.ufs_file.specs.Hand.{IsOf}
 use Rattle.ufs_model.specs.FileCalls.{is_on_file}
 use Rattle.ufs_model.specs.declared.data.Ask.{Ask}
@@ -45,3 +46,14 @@ returns-clause-served g c =
       subst (λ (q : Ask). IsServedHere g.N.Naming.start.is_visible (g.T.Turns.tells c.args.door.now) (g.T.Turns.tells c.serve_asked-held.new.door) c.args.names.now c.serve_asked-held.new.names c.args.held c.serve_asked-held.result.0 c.args.pool.now c.serve_asked-held.new.pool q told) ask
           (record { of_ask = s.entry; done = s.done; owner = refl; lease = refl; number = s.number }),
     )
+
+pub returns-clause-drawn : goal.returns-clause-drawn
+returns-clause-drawn g c =
+    let a = c.know_on_file.ensures.later in
+    let b = c.serve_asked-held.ensures.later in
+    let ticket = c.serve_asked-held.result.1.entry.ticket in
+    let l : c.into_parts-client.result.0.seen ≤ ticket = omega (arith, a, b) in
+    subst (IsToldSince c.args.request.hand.seen) (sym c.served_answer.ensures) (record {
+      later = subst (λ (r : Asked). r.hand.seen ≤ ticket) c.into_parts-client.ensures.same l;
+      seen = c.serve_asked-held.ensures.seen;
+    })

@@ -1,4 +1,4 @@
-use Rattle.std.proofs.Common.{refl}
+use Rattle.std.proofs.Common.{refl, arith}
 use Rattle.ufs_held.specs.Asking.{IsAnswered}
 use Rattle.ufs_serving.proofs.Visits.{client_back, pool_back, visited}
 use Rattle.ufs_at_primary.proofs.here.sync_here.Goals as goal
@@ -51,3 +51,15 @@ returns-clause-done g c =
       same_pool = refl;
       same_desc = e.desc;
     }
+
+pub returns-clause-later : goal.returns-clause-later
+returns-clause-later g c =
+    let a = c.lend_pool-guest.ensures.later in
+    let b = c.fsync-entry.ensures.later in
+    omega (arith, a, b)
+
+pub returns-clause-seen : goal.returns-clause-seen
+returns-clause-seen g c =
+    let a = c.fsync-entry.ensures.seen in
+    let b = c.take_pool-guest.ensures.later in
+    omega (arith, a, b)

@@ -1,4 +1,5 @@
-use Rattle.std.proofs.Common.{ℕ, None, ap, arith, refl, sym, subst, ◌∙◌}
+use Rattle.std.proofs.Common.{ℕ, None, ap, arith, refl, sym, subst, ◌∙◌, ◌≤◌}
+use Rattle.ufs_baton.specs.Baton.{IsDrawnWith}
 use Rattle.ufs_held_names.specs.Asked.{IsNamedApart, IsNeeded, number_of}
 use Rattle.ufs_model.specs.declared.data.Ask.{Ask}
 use Rattle.ufs_msg.specs.Answers.{Told}
@@ -52,3 +53,11 @@ returns-clause-served g c =
       subst (λ (q : Ask). IsNamesServed (tells c.args.door.now) (tells s.new.door) c.args.home.now.owners c.args.names.now s.new.names c.args.file s.result.file s.result.made c.args.pool.now s.new.pool q told) ask
           (record { of_ask = s.ensures.entry; done = s.ensures.done; owner = c.told_server-owner.ensures.is; lease = refl }),
     )
+
+pub returns-clause-drawn : goal.returns-clause-drawn
+returns-clause-drawn g c =
+    let s = c.serve_names-entry in
+    subst (λ (t : Told). IsDrawnWith c.args.request.hand.seen t.hand.seen t.entry) (sym c.new.ensures) (record {
+      later = subst (λ (r : Asked). r.hand.seen ≤ s.result.entry.ticket) c.into_parts-client.ensures.same s.ensures.later;
+      seen = s.ensures.seen;
+    })

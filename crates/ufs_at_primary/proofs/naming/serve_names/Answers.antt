@@ -89,3 +89,15 @@ returns-clause-done g c =
       same_desc = e.desc;
       no_desc = e.no_desc;
     }
+
+pub returns-clause-later : goal.returns-clause-later
+returns-clause-later g c =
+    let a = c.lend_pool-guest.ensures.later in
+    let b = c.serve-entry.ensures.later in
+    omega (arith, a, b)
+
+pub returns-clause-seen : goal.returns-clause-seen
+returns-clause-seen g c =
+    let a = c.serve-entry.ensures.seen in
+    let b = c.take_pool-guest.ensures.later in
+    omega (arith, a, b)

@@ -1,4 +1,4 @@
-use Rattle.std.proofs.Common.{◌≡◌, ℕ, Some, sym, subst}
+use Rattle.std.proofs.Common.{◌≡◌, ℕ, Some, sym, subst, ◌≤◌, arith}
 use Rattle.std.specs.Prelude.{IsSome}
 use Rattle.std.specs.FinMap as fin
 use Rattle.ufs_joint.specs.FirstHand.{HasPoolAlone}
@@ -65,3 +65,10 @@ returns-clause-needed g c =
 pub returns-clause-opened : goal.returns-clause-opened
 returns-clause-opened g c =
     subst (λ (q : Asked). (file : ℕ) → file_in q.ask.desc ≡ Some file → IsSome (fin.get c.args.names.now.value.held file)) c.into_parts-client.ensures.same c.see.ensures.opened
+
+pub returns-clause-later : goal.returns-clause-later
+returns-clause-later g c =
+    let a = c.lend_pool-guest.ensures.kept in
+    let b = c.take_pool-client.ensures.own in
+    let l : c.into_parts-client.result.0.seen ≤ c.take_pool-client.result.seen = omega (arith, a, b) in
+    subst (λ (r : Asked). r.hand.seen ≤ c.new.result.hand.seen) c.into_parts-client.ensures.same (subst (λ (r : Asked). c.into_parts-client.result.0.seen ≤ r.hand.seen) (sym c.new.ensures) l)

@@ -1,4 +1,4 @@
-use Rattle.std.proofs.Common.{◌≡◌, ◌≤◌, ◌+◌, ℕ, max, Bool, true, false, List, length, Option, Some, None, ap, refl, sym, subst, ◌∙◌}
+use Rattle.std.proofs.Common.{◌≡◌, ◌≤◌, ◌+◌, ℕ, max, Bool, true, false, List, length, Option, Some, None, ap, arith, refl, sym, subst, ◌∙◌}
 use Rattle.std.specs.FinSet as set
 use Rattle.ufs_bitmap.specs.Blocks.{BlockSet}
 use Rattle.ufs_file_commits.specs.Serving.{IsServedKept}
@@ -142,3 +142,15 @@ returns-clause-number g c = c.serve-entry.ensures.number ∙ ap (λ (q : FileCel
 
 pub returns-clause-born : goal.returns-clause-born
 returns-clause-born g c = c.serve-entry.ensures.born ∙ ap (λ (q : FileCell). q.born) c.measured-held.ensures.same
+
+pub returns-clause-later : goal.returns-clause-later
+returns-clause-later g c =
+    let a = c.lend_pool-guest.ensures.later in
+    let b = c.serve-entry.ensures.later in
+    omega (arith, a, b)
+
+pub returns-clause-seen : goal.returns-clause-seen
+returns-clause-seen g c =
+    let a = c.serve-entry.ensures.seen in
+    let b = c.take_pool-guest.ensures.later in
+    omega (arith, a, b)

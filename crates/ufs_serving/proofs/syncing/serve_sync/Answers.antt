@@ -1,4 +1,4 @@
-use Rattle.std.proofs.Common.{refl}
+use Rattle.std.proofs.Common.{refl, arith}
 use Rattle.ufs_held.specs.Asking.{IsAnswered}
 use Rattle.ufs_serving.proofs.Visits.{client_back, pool_back, visited}
 use Rattle.ufs_serving.proofs.syncing.serve_sync.Goals as goal
@@ -36,3 +36,15 @@ pub returns-clause-done : goal.returns-clause-done
 returns-clause-done g c =
     let e = c.sync-entry.ensures in
     record { replied = e.replied; committed = e.committed; known = e.known; kept = e.kept; rest = e.rest; freed = e.freed; unfreed = e.unfreed; halts = e.halts; halted = e.halted; same_pool = refl; same_desc = e.desc }
+
+pub returns-clause-later : goal.returns-clause-later
+returns-clause-later g c =
+    let a = c.lend_pool-guest.ensures.later in
+    let b = c.sync-entry.ensures.later in
+    omega (arith, a, b)
+
+pub returns-clause-seen : goal.returns-clause-seen
+returns-clause-seen g c =
+    let a = c.sync-entry.ensures.seen in
+    let b = c.take_pool-guest.ensures.later in
+    omega (arith, a, b)

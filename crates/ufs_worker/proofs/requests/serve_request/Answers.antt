@@ -1,4 +1,5 @@
-use Rattle.std.proofs.Common.{◌<◌, ◌^◌, ℕ, None, Some, ap, sym, subst, ◌∙◌, refl}
+use Rattle.std.proofs.Common.{◌<◌, ◌≤◌, ◌^◌, ℕ, arith, None, Some, ap, sym, subst, ◌∙◌, refl}
+use Rattle.ufs_baton.specs.Baton.{IsToldSince}
 use Rattle.ufs_file.specs.Hand.{IsOf}
 use Rattle.ufs_joint.specs.Cells.{FileCell}
 use Rattle.ufs_model.specs.declared.data.Ask.{Ask}
@@ -60,3 +61,14 @@ returns-clause-served g c =
           (λ i. (c.into_held-held.ensures.same i, sym c.new.ensures i, ask i))
           (record { of_ask = s.entry; done = s.done; owner = refl; lease = refl; number = s.number; born = s.born }),
     )
+
+pub returns-clause-drawn : goal.returns-clause-drawn
+returns-clause-drawn g c =
+    let a = c.know.ensures.later in
+    let b = c.serve_asked-held.ensures.later in
+    let ticket = c.serve_asked-held.result.1.entry.ticket in
+    let l : c.into_parts-client.result.0.seen ≤ ticket = omega (arith, a, b) in
+    subst (IsToldSince c.args.request.hand.seen) (sym c.served_answer.ensures) (record {
+      later = subst (λ (r : Asked). r.hand.seen ≤ ticket) c.into_parts-client.ensures.same l;
+      seen = c.serve_asked-held.ensures.seen;
+    })

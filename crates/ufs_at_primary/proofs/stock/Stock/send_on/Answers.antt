@@ -11,8 +11,8 @@ use Rattle.ufs_at_primary.proofs.stock.Stock.send_on.Goals as goal
 pub redirect-answer-requires : goal.redirect-answer-requires
 redirect-answer-requires g c = record { kind = c.requires.kind; hinted = c.requires.hinted ∙ c.in-Some.ensures.hinted; has = c.in-Some.ensures.has }
 
-pub returns-in-Some : goal.returns-in-Some
-returns-in-Some g c = λ visible tells. (
+pub returns-in-Some-clause-tried : goal.returns-in-Some-clause-tried
+returns-in-Some-clause-tried g c = λ visible tells. (
   record {
     kind = c.requires.kind;
     hinted = c.requires.hinted ∙ c.in-Some.ensures.hinted;
@@ -34,8 +34,8 @@ invariant_of-self g c =
     let e = c.see_request-request.ensures in
     record { formed = h.formed; its = h.its; numbers = h.numbers; hand = e.pool c.self.inside.pool h.hand; few = h.few; here = subst (λ (n : NamesCell). AreHere n c.self.inside.home) (sym e.names) h.here }
 
-pub returns : goal.returns
-returns g c = λ visible tells.
+pub returns-clause-tried : goal.returns-clause-tried
+returns-clause-tried g c = λ visible tells.
     let f = c.self.inside in
     let e = c.see_request-request.ensures in
     let kind = c.requires.kind in

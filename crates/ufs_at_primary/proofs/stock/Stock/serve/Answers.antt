@@ -1,4 +1,5 @@
 use Rattle.std.proofs.Common.{◌≡◌, ap, refl, sym, subst, ◌∙◌}
+use Rattle.ufs_baton.specs.Baton.{IsToldSince}
 use Rattle.ufs_msg.specs.Answers.{Told}
 use Rattle.ufs_msg.specs.Requests.{Asked}
 use Rattle.ufs_msg.specs.There.{is_by_hint}
@@ -6,7 +7,7 @@ use Rattle.ufs_msg.specs.declared.answer.Answer.TheVariants as answer
 use Rattle.ufs_at_primary.specs.Dirs.{IsDirServed}
 use Rattle.ufs_at_primary.specs.Kinds.{IsByNames, IsKind, IsOnFile, IsOnNone}
 use Rattle.ufs_at_primary.specs.Stock.{StockState, stock_of}
-use Rattle.ufs_at_primary.specs.Served.{IsTried, OnNone}
+use Rattle.ufs_at_primary.specs.Served.{IsTried, IsTriedSince, OnNone}
 use Rattle.ufs_at_primary.specs.declared.tried.Tried.TheVariants as tried
 use Rattle.ufs_at_primary.proofs.AtHome.{here_tried}
 use Rattle.ufs_at_primary.proofs.stock.Stock.serve.Goals as goal
@@ -46,22 +47,34 @@ serve_all-requires g c =
     let k = subst (IsKind c.args.request.ask) c.in-All.is c.kind_asked-request.ensures.kind in
     record { sync = ap (λ (q : Asked). q.ask.op) c.kind_asked-request.ensures.same ∙ k }
 
-pub returns-in-OnFile : goal.returns-in-OnFile
-returns-in-OnFile g c =
-    subst (λ (q : Asked). IsTried g.N.Naming.start.is_visible (g.T.Turns.tells c.args.door.now) (g.T.Turns.tells c.serve_on_file.new.door) c.args.self.now c.serve_on_file.new.self q c.serve_on_file.result) c.kind_asked-request.ensures.same c.serve_on_file.ensures
+pub returns-in-OnFile-clause-tried : goal.returns-in-OnFile-clause-tried
+returns-in-OnFile-clause-tried g c =
+    subst (λ (q : Asked). IsTried g.N.Naming.start.is_visible (g.T.Turns.tells c.args.door.now) (g.T.Turns.tells c.serve_on_file.new.door) c.args.self.now c.serve_on_file.new.self q c.serve_on_file.result) c.kind_asked-request.ensures.same c.serve_on_file.ensures.tried
 
-pub returns-in-Names : goal.returns-in-Names
-returns-in-Names g c =
-    subst (λ (q : Asked). IsTried g.N.Naming.start.is_visible (g.T.Turns.tells c.args.door.now) (g.T.Turns.tells c.serve_by_names.new.door) c.args.self.now c.serve_by_names.new.self q c.serve_by_names.result) c.kind_asked-request.ensures.same c.serve_by_names.ensures
+pub returns-in-Names-clause-tried : goal.returns-in-Names-clause-tried
+returns-in-Names-clause-tried g c =
+    subst (λ (q : Asked). IsTried g.N.Naming.start.is_visible (g.T.Turns.tells c.args.door.now) (g.T.Turns.tells c.serve_by_names.new.door) c.args.self.now c.serve_by_names.new.self q c.serve_by_names.result) c.kind_asked-request.ensures.same c.serve_by_names.ensures.tried
 
-pub returns-in-All : goal.returns-in-All
-returns-in-All g c =
-    subst (λ (q : Asked). IsTried g.N.Naming.start.is_visible (g.T.Turns.tells c.args.door.now) (g.T.Turns.tells c.serve_all.new.door) c.args.self.now c.serve_all.new.self q c.serve_all.result) c.kind_asked-request.ensures.same c.serve_all.ensures
+pub returns-in-All-clause-tried : goal.returns-in-All-clause-tried
+returns-in-All-clause-tried g c =
+    subst (λ (q : Asked). IsTried g.N.Naming.start.is_visible (g.T.Turns.tells c.args.door.now) (g.T.Turns.tells c.serve_all.new.door) c.args.self.now c.serve_all.new.self q c.serve_all.result) c.kind_asked-request.ensures.same c.serve_all.ensures.tried
 
-pub returns-in-OnNone : goal.returns-in-OnNone
-returns-in-OnNone g c =
+pub returns-in-OnNone-clause-tried : goal.returns-in-OnNone-clause-tried
+returns-in-OnNone-clause-tried g c =
     let f = c.self.inside in
     let k = subst (IsKind c.args.request.ask) c.in-OnNone.is c.kind_asked-request.ensures.kind in
     let s = subst (λ (q : Asked). (told : Told) × (c.serve_dir.result ≡ answer.Served told) × IsDirServed g.N.Naming.start.is_visible (g.T.Turns.tells c.args.door.now) (g.T.Turns.tells c.serve_dir.new.door) f.names c.serve_dir.new.names q.ask told) c.kind_asked-request.ensures.same c.serve_dir.ensures.served in
     subst (λ (x : StockState). IsTried g.N.Naming.start.is_visible (g.T.Turns.tells c.args.door.now) (g.T.Turns.tells c.serve_dir.new.door) x (stock_of c.serve_dir.new.names f.home f.pool) c.args.request (tried.Answered c.serve_dir.result)) c.self.view_is
     (s.0, s.1, OnNone (record { kind = k; served = s.2; rest = refl }))
+
+pub returns-in-OnFile-clause-drawn : goal.returns-in-OnFile-clause-drawn
+returns-in-OnFile-clause-drawn g c = subst (λ (q : Asked). IsTriedSince q.hand.seen c.serve_on_file.result) c.kind_asked-request.ensures.same c.serve_on_file.ensures.drawn
+
+pub returns-in-Names-clause-drawn : goal.returns-in-Names-clause-drawn
+returns-in-Names-clause-drawn g c = subst (λ (q : Asked). IsTriedSince q.hand.seen c.serve_by_names.result) c.kind_asked-request.ensures.same c.serve_by_names.ensures.drawn
+
+pub returns-in-All-clause-drawn : goal.returns-in-All-clause-drawn
+returns-in-All-clause-drawn g c = subst (λ (q : Asked). IsTriedSince q.hand.seen c.serve_all.result) c.kind_asked-request.ensures.same c.serve_all.ensures.drawn
+
+pub returns-in-OnNone-clause-drawn : goal.returns-in-OnNone-clause-drawn
+returns-in-OnNone-clause-drawn g c = subst (λ (q : Asked). IsToldSince q.hand.seen c.serve_dir.result) c.kind_asked-request.ensures.same c.serve_dir.ensures.drawn

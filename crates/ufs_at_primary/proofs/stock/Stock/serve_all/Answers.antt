@@ -9,14 +9,14 @@ use Rattle.ufs_at_primary.proofs.Outcomes.{on_all, tried_from}
 use Rattle.ufs_at_primary.proofs.Trials.{away_still, same_still}
 use Rattle.ufs_at_primary.proofs.stock.Stock.serve_all.Goals as goal
 
-pub returns-in-Some : goal.returns-in-Some
-returns-in-Some g c = (same_still c.args.request, record { out = subst (λ (s : StockState). owner_at s.home.owners c.in-Some.file ≢ owner.Primary) c.self.view_is c.in-Some.ensures; wants = OfAll c.requires.sync }, refl, refl)
+pub returns-in-Some-clause-tried : goal.returns-in-Some-clause-tried
+returns-in-Some-clause-tried g c = (same_still c.args.request, record { out = subst (λ (s : StockState). owner_at s.home.owners c.in-Some.file ≢ owner.Primary) c.self.view_is c.in-Some.ensures; wants = OfAll c.requires.sync }, refl, refl)
 
 pub lacking-requires : goal.lacking-requires
 lacking-requires g c = record { pool = (c.self.inside.pool, c.self.invariant.hand) }
 
-pub returns-in-Err : goal.returns-in-Err
-returns-in-Err g c =
+pub returns-in-Err-clause-tried : goal.returns-in-Err-clause-tried
+returns-in-Err-clause-tried g c =
     let f = c.self.inside in
     let tells = g.T.Turns.tells c.args.door.now in
     let t = stock_of f.names c.lend_all.new.self f.pool in
@@ -41,8 +41,8 @@ put_back_all-requires g c =
     let lent = c.in-Ok.ensures.lent in
     away_still c.lend_all.new.self.places c.in-Ok.files.items c.sync_lent-answer.new.files.items done.numbers lent.away
 
-pub returns : goal.returns
-returns g c =
+pub returns-clause-tried : goal.returns-clause-tried
+returns-clause-tried g c =
     let f = c.self.inside in
     let e = c.sync_lent-answer in
     let before = g.T.Turns.tells c.args.door.now in

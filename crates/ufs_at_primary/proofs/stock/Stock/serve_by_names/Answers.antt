@@ -1,4 +1,4 @@
-use Rattle.std.proofs.Common.{◌≡◌, ◌<◌, ◌^◌, ℕ, Some, ap, arith, refl, sym, subst, ◌∙◌}
+use Rattle.std.proofs.Common.{◌≡◌, ◌<◌, ◌^◌, ℕ, Some, ap, arith, refl, sym, subst, ◌∙◌, ◌≤◌}
 use Rattle.std.specs.Prelude.{IfOk, IfSome, IsSome}
 use Rattle.std.specs.FinMap as fin
 use Rattle.ufs_held_names.specs.Asked.{IsNeeded}
@@ -12,7 +12,7 @@ use Rattle.ufs_at_primary.specs.Stock.{AreHere, StockState, stock_of}
 use Rattle.ufs_at_primary.specs.declared.tried.Tried.TheVariants as tried
 use Rattle.ufs_at_primary.proofs.AtHome.{here_tried}
 use Rattle.ufs_at_primary.proofs.Outcomes.{tried_from}
-use Rattle.ufs_at_primary.proofs.Trials.{is_out, tried_as}
+use Rattle.ufs_at_primary.proofs.Trials.{is_out, since_before, tried_as}
 use Rattle.ufs_at_primary.proofs.stock.Stock.serve_by_names.Goals as goal
 
 pub see_request-request-requires : goal.see_request-request-requires
@@ -31,8 +31,8 @@ invariant_of-self g c =
     let e = c.see_request-request.ensures in
     record { formed = h.formed; its = h.its; numbers = h.numbers; hand = c.lacking.ensures.pool f.pool (e.pool f.pool h.hand); few = h.few; here = subst (λ (n : NamesCell). AreHere n f.home) (sym e.names) h.here }
 
-pub returns-in-Err : goal.returns-in-Err
-returns-in-Err g c =
+pub returns-in-Err-clause-tried : goal.returns-in-Err-clause-tried
+returns-in-Err-clause-tried g c =
     let f = c.self.inside in
     let e = c.see_request-request in
     let q = c.ask_needed-request in
@@ -49,8 +49,8 @@ invariant_of-self-in-Some g c =
     let e = c.see_request-request.ensures in
     record { formed = h.formed; its = h.its; numbers = h.numbers; hand = e.pool f.pool h.hand; few = h.few; here = subst (λ (n : NamesCell). AreHere n f.home) (sym e.names) h.here }
 
-pub returns-in-Some : goal.returns-in-Some
-returns-in-Some g c =
+pub returns-in-Some-clause-tried : goal.returns-in-Some-clause-tried
+returns-in-Some-clause-tried g c =
     let f = c.self.inside in
     let e = c.see_request-request in
     let q = c.ask_needed-request in
@@ -72,8 +72,8 @@ serve_touching-requires-clause-needed g c =
     let found = subst (λ x. IfOk x (IsNeeded e.new.names.value e.result.ask)) c.in-Ok.is q.ensures.needed in
     subst (λ (r : Asked). IsNeeded e.new.names.value r.ask c.in-Ok.needed) (sym q.ensures.same) found
 
-pub returns : goal.returns
-returns g c =
+pub returns-clause-tried : goal.returns-clause-tried
+returns-clause-tried g c =
     let f = c.self.inside in
     let e = c.see_request-request in
     let q = c.ask_needed-request in
@@ -82,4 +82,26 @@ returns g c =
     let before = g.T.Turns.tells c.args.door.now in
     let after = g.T.Turns.tells x.new.door in
     tried_as visible before after c.args.self.now x.new.self c.args.request q.result.0 x.result (subst (IsStill c.args.request) (sym q.ensures.same) e.ensures.still) c.requires.kind
-    (tried_from visible before after (stock_of e.new.names f.home f.pool) c.args.self.now x.new.self q.result.0 x.result ((λ i. stock_of (e.ensures.names i) f.home f.pool) ∙ c.self.view_is) x.ensures)
+    (tried_from visible before after (stock_of e.new.names f.home f.pool) c.args.self.now x.new.self q.result.0 x.result ((λ i. stock_of (e.ensures.names i) f.home f.pool) ∙ c.self.view_is) x.ensures.tried)
+
+-- what the request's hand has seen once it was seen by the names
+seen_then : (s q : Asked) (since : ℕ) → q ≡ s → since ≤ s.hand.seen → since ≤ q.hand.seen
+seen_then s q since same less = subst (λ (r : Asked). since ≤ r.hand.seen) (sym same) less
+
+pub returns-in-Err-clause-drawn : goal.returns-in-Err-clause-drawn
+returns-in-Err-clause-drawn g c =
+    let e = c.see_request-request in
+    let q = c.ask_needed-request in
+    since_before c.lacking.result c.args.request.hand.seen q.result.0.hand.seen (seen_then e.result q.result.0 c.args.request.hand.seen q.ensures.same e.ensures.later) c.lacking.ensures.drawn
+
+pub returns-in-Some-clause-drawn : goal.returns-in-Some-clause-drawn
+returns-in-Some-clause-drawn g c =
+    let e = c.see_request-request in
+    let q = c.ask_needed-request in
+    seen_then e.result q.result.0 c.args.request.hand.seen q.ensures.same e.ensures.later
+
+pub returns-clause-drawn : goal.returns-clause-drawn
+returns-clause-drawn g c =
+    let e = c.see_request-request in
+    let q = c.ask_needed-request in
+    since_before c.serve_touching.result c.args.request.hand.seen q.result.0.hand.seen (seen_then e.result q.result.0 c.args.request.hand.seen q.ensures.same e.ensures.later) c.serve_touching.ensures.drawn

@@ -16,8 +16,8 @@ use Rattle.ufs_at_primary.proofs.stock.Stock.serve_on_file.Goals as goal
 pub send_on-requires-clause-away : goal.send_on-requires-clause-away
 send_on-requires-clause-away g c = subst (λ (s : StockState). file_here s.home.places c.args.file ≡ None) c.self.view_is (none_is _ (sym c.has.ensures ∙ c.if-not-has.true))
 
-pub returns-then-not-has : goal.returns-then-not-has
-returns-then-not-has g c = c.send_on.ensures g.N.Naming.start.is_visible (g.T.Turns.tells c.args.door.now)
+pub returns-then-not-has-clause-tried : goal.returns-then-not-has-clause-tried
+returns-then-not-has-clause-tried g c = c.send_on.ensures.tried g.N.Naming.start.is_visible (g.T.Turns.tells c.args.door.now)
 
 pub lend-requires : goal.lend-requires
 lend-requires g c = sym c.has.ensures ∙ c.if-not-has.false
@@ -45,15 +45,15 @@ put_back-requires-clause-low g c =
     let here = s.2 in
     subst (λ (n : ℕ). n < 2 ^ 31) (sym here.number) c.in-Ok.ensures.low
 
-pub returns-in-Err : goal.returns-in-Err
-returns-in-Err g c =
+pub returns-in-Err-clause-tried : goal.returns-in-Err-clause-tried
+returns-in-Err-clause-tried g c =
     let f = c.self.inside in
     let tells = g.T.Turns.tells c.args.door.now in
     let t = stock_of f.names c.lend.new.self f.pool in
     tried_from g.N.Naming.start.is_visible tells tells t c.args.self.now t c.args.request c.lacking.result ((λ i. stock_of f.names (c.in-Err.ensures.kept i) f.pool) ∙ c.self.view_is) (c.lacking.ensures.tried g.N.Naming.start.is_visible tells f.names f.pool)
 
-pub returns : goal.returns
-returns g c =
+pub returns-clause-tried : goal.returns-clause-tried
+returns-clause-tried g c =
     let f = c.self.inside in
     let e = c.serve_here-held in
     let before = g.T.Turns.tells c.args.door.now in

@@ -22,8 +22,8 @@ lend_touched-lent-requires-clause-here g c = subst (λ (s : StockState). IfSome 
 pub lacking-requires : goal.lacking-requires
 lacking-requires g c = record { pool = (c.self.inside.pool, c.self.invariant.hand) }
 
-pub returns-in-Err : goal.returns-in-Err
-returns-in-Err g c =
+pub returns-in-Err-clause-tried : goal.returns-in-Err-clause-tried
+returns-in-Err-clause-tried g c =
     let f = c.self.inside in
     let e = c.lend_touched-lent in
     let tells = g.T.Turns.tells c.args.door.now in
@@ -73,8 +73,8 @@ put_after-requires-clause-same g c =
     let done = named.done in
     still_same c.serve_named-answer.result.file c.in-Ok.lent.1 c.args.needed s.0.entry.ticket (is_excused s.0.entry.reply) c.in-Ok.ensures.number c.in-Ok.ensures.low done.kept_file done.file
 
-pub returns : goal.returns
-returns g c =
+pub returns-clause-tried : goal.returns-clause-tried
+returns-clause-tried g c =
     let f = c.self.inside in
     let l = c.lend_touched-lent in
     let n = l.new.names in

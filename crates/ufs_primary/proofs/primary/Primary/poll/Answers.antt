@@ -13,7 +13,7 @@ returns-in-Some-clause-turn g c =
     let f = c.self.inside in
     let kept = all_said c.send_answers.new.kept.items in
     subst (λ (s : PrimaryState). IsTurn (λ w p m q. g.Q.ServerPost.sends p (Worker w) (letter_of m) q) (λ p w. g.Q.ServerPost.letters_full p (Worker w)) g.Q.ServerPost.answers g.Q.ServerPost.answers_full g.Q.ServerPost.same (worker_count g.N.Naming.start) (client_count g.N.Naming.start) g.Q.ServerPost.gets_letter g.Q.ServerPost.letters_empty g.Q.ServerPost.gets_ask g.Q.ServerPost.asks_empty
-    g.N.Naming.start.is_visible (g.T.Turns.tells c.args.door.now) (g.T.Turns.tells c.args.door.now) s (primary_of c.take_letter.new.stock c.take_letter.new.coming kept f.waiting.items) c.args.post.now c.take_letter.new.post c.in-Some.turn) c.self.view_is
+    g.N.Naming.start.is_visible (g.T.Turns.tells c.args.door.now) (g.T.Turns.tells c.args.door.now) c.args.baton.now c.args.baton.now s (primary_of c.take_letter.new.stock c.take_letter.new.coming kept f.waiting.items) c.args.post.now c.take_letter.new.post c.in-Some.turn) c.self.view_is
     (record {
       sent = primary_of c.send_letters.new.self f.coming kept f.waiting.items;
       sent_by = c.send_answers.new.post;
@@ -30,7 +30,7 @@ returns-clause-turn g c =
     let f = c.self.inside in
     let kept = all_said c.send_answers.new.kept.items in
     subst (λ (s : PrimaryState). IsTurn (λ w p m q. g.Q.ServerPost.sends p (Worker w) (letter_of m) q) (λ p w. g.Q.ServerPost.letters_full p (Worker w)) g.Q.ServerPost.answers g.Q.ServerPost.answers_full g.Q.ServerPost.same (worker_count g.N.Naming.start) (client_count g.N.Naming.start) g.Q.ServerPost.gets_letter g.Q.ServerPost.letters_empty g.Q.ServerPost.gets_ask g.Q.ServerPost.asks_empty
-    g.N.Naming.start.is_visible (g.T.Turns.tells c.args.door.now) (g.T.Turns.tells c.serve_next.new.door) s (primary_of c.serve_next.new.stock c.take_letter.new.coming (all_said c.serve_next.new.answers.items) c.serve_next.new.waiting.items) c.args.post.now c.serve_next.new.post c.serve_next.result) c.self.view_is
+    g.N.Naming.start.is_visible (g.T.Turns.tells c.args.door.now) (g.T.Turns.tells c.serve_next.new.door) c.args.baton.now c.serve_next.new.baton s (primary_of c.serve_next.new.stock c.take_letter.new.coming (all_said c.serve_next.new.answers.items) c.serve_next.new.waiting.items) c.args.post.now c.serve_next.new.post c.serve_next.result) c.self.view_is
     (record {
       sent = primary_of c.send_letters.new.self f.coming kept f.waiting.items;
       sent_by = c.send_answers.new.post;
