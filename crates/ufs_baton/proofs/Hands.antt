@@ -1,11 +1,18 @@
 -- A hand without the store's cell is split there, and one without a cell is joined.
 use Rattle.std.proofs.Common.{◌≡◌, ◌≤◌, ℕ, leb, arith, Bool, true, false, cond, List, [], ◌∷◌, ◌++◌, Option, Some, None, refl, sym, ap, ◌∙◌, subst}
-use Rattle.std.proofs.lemmas.Bool.{leb-false}
+use Rattle.std.proofs.lemmas.Bool.{leb-false, leb-true}
 use Rattle.ufs_hand_laws.specs.Owned.{only, without}
-use Rattle.ufs_hand_laws.specs.Parts.{either, is_store, later}
+use Rattle.ufs_hand_laws.specs.Parts.{ClientPart, either, is_store, later}
 use Rattle.ufs_joint.specs.Cells.{Start, StoreCell, View, both_of, given_of, kept_of}
 use Rattle.ufs_model.specs.declared.data.Ask.{Ask}
 use Rattle.ufs_model.specs.declared.data.PartName.TheVariants.{Store}
+use Rattle.ufs_model.specs.declared.data.Actor.{Actor}
+use Rattle.ufs_model.specs.declared.data.Desc.{Desc}
+use Rattle.ufs_model.specs.declared.data.Entry.{Entry}
+use Rattle.ufs_model.specs.declared.data.Lease.{Lease}
+use Rattle.ufs_msg.specs.Answers.{Told}
+use Rattle.ufs_msg.specs.declared.answer.Answer.{Answer}
+use Rattle.ufs_msg.specs.declared.answer.Answer.TheVariants.{Redirect, Served}
 use Rattle.ufs_msg.specs.Requests.{HasClientAlone, IsAsked}
 use Rattle.ufs_baton.specs.Baton.{HasNothing, IsToldOf}
 
@@ -21,14 +28,14 @@ app_none : {A : Type 0} (xs : List A) → xs ++ [] ≡ xs
 app_none [] = refl
 app_none (x ∷ xs) = ap (λ ys. x ∷ ys) (app_none xs)
 
-later_right : (a b : ℕ) → b ≤ later a b
+pub later_right : (a b : ℕ) → b ≤ later a b
 later_right a b = by (leb a b) refl
   where
     by : (d : Bool) → leb a b ≡ d → b ≤ cond d b a
     by true e = omega arith
     by false e = let l = leb-false a b e in omega (arith, l)
 
-later_left : (a b : ℕ) → a ≤ later a b
+pub later_left : (a b : ℕ) → a ≤ later a b
 later_left a b = by (leb a b) refl
   where
     by : (d : Bool) → leb a b ≡ d → a ≤ cond d b a
@@ -129,3 +136,16 @@ told_asked k ask n v w told asked = record {
   dropped = asked.dropped;
   unleased = asked.unleased;
 }
+
+-- ---- an answer
+
+abbrev pub told_as : View → Entry → Option Desc → Option Actor → Option Lease → Told
+told_as hand entry desc owner lease = record { hand = hand; entry = entry; desc = desc; owner = owner; lease = lease }
+
+told_in : {N : Type 0} → Told → Answer N → Told
+told_in none (Served told) = told
+told_in none (Redirect sent) = none
+
+pub same_told : {N : Type 0} (s t : Told) → ◌≡◌ {A = Answer N} (Served s) (Served t) → s ≡ t
+unfolding told_in
+same_told s t is = ap (told_in s) is
