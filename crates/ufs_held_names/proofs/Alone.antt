@@ -27,6 +27,7 @@ use Rattle.ufs_held.specs.Drawn.{fresh_of}
 use Rattle.ufs_held.specs.Held.{IsHeld, first_cell}
 use Rattle.ufs_held.proofs.After.{came_below}
 use Rattle.ufs_held_names.specs.Asked.{number_of}
+use Rattle.ufs_client.specs.Played.{tells_fault}
 use Rattle.ufs_held_names.specs.Come.{HasCome, files_of}
 use Rattle.ufs_held_names.specs.Drawn.{made_in, made_number, names_left, names_then, new_cell, new_cells, parted}
 use Rattle.ufs_held_names.specs.HeldNames.{HoldsNames, first_names, noted_in}

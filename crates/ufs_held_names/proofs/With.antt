@@ -27,6 +27,7 @@ use Rattle.ufs_held.specs.Asking.{IsGuest}
 use Rattle.ufs_held.specs.Drawn.{fresh_of}
 use Rattle.ufs_held.specs.Held.{HasFileAlone, IsHeld, first_cell}
 use Rattle.ufs_held.proofs.After.{came_below}
+use Rattle.ufs_client.specs.Played.{tells_fault}
 use Rattle.ufs_held_names.specs.Come.{HasCome, IsStillThere, commits_of, files_of, files_then}
 use Rattle.ufs_held_names.specs.Drawn.{known_in, known_number, names_left, names_then, next_cell, next_cells, parted}
 use Rattle.ufs_held_names.specs.HeldNames.{HoldsNames, first_names, noted_in}
