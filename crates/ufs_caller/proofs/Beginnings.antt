@@ -33,6 +33,7 @@ use Rattle.ufs_caller.specs.Turns.{AnswersItself, HasKept, IsOwn, Sends}
 use Rattle.ufs_caller.specs.declared.told.Told.{Told}
 use Rattle.ufs_caller.specs.declared.trip.Trip.{Trip}
 use Rattle.ufs_caller.proofs.Homes.{ask_for, entries_many, own_same}
+use Rattle.ufs_caller.proofs.Made.{none_listed}
 use Rattle.ufs_caller.proofs.Places.{no_trip, request_is, some_same}
 use Rattle.ufs_caller.proofs.Servers.{server_there, used_there}
 use Rattle.ufs_caller.proofs.Tries.{seen}
@@ -181,6 +182,7 @@ module _ (k : Start) (number : ℕ) (told : List Told) (table : Descs) (left lef
           request = request;
           away = is_away;
           there = subst (IsServerThere k) (sym to_is) (server_there k hints tied.servers (file_by_hint ask));
+          via = none_listed k go.via via_is;
           file = file_is ∙ ap file_in desc_is;
           kept_may = λ x e. subst (MayGo number (length told) table request go.to) (some_same r x e) (record {
             ask = by_r;

@@ -1,4 +1,5 @@
--- Each answer is by the client itself, or by a server that is there. Where no worker is there, that is the primary.
+-- Each answer is by the client itself, or by a server that is there, and so is each that sent its request on. Where no worker is there,
+-- that is the primary.
 use Rattle.std.proofs.Common.{◌≡◌, ◌≤◌, ◌⊎◌, ℕ, inl, inr, ⊎_elim, Bool, true, false, List, [], ◌∷◌, ◌++◌, refl, sym, ap, ◌∙◌, subst, arith}
 use Rattle.std.specs.Prelude.{if◌then◌else◌}
 use Rattle.ufs_client.specs.Own.{AreServedFrom, is_own, server_of}
@@ -12,14 +13,29 @@ use Rattle.ufs_model.specs.declared.data.Entry.{Entry}
 use Rattle.ufs_msg.specs.There.{IsServerThere, MayHaveServed, worker_count}
 use Rattle.ufs_hand_laws.specs.Owned.{Has}
 use Rattle.ufs_hand_laws.proofs.Owning.{has_append}
-use Rattle.ufs_caller.specs.Tied.{AreMadeThere}
+use Rattle.ufs_caller.specs.Lists.{IsListed}
+use Rattle.ufs_caller.specs.Tied.{AreListedThere, AreMadeThere, IsMadeThere}
 use Rattle.ufs_caller.specs.declared.told.Told.{Told}
 
-pub made_more : (k : Start) (number : ℕ) (told told' : List Told) (x : Told) → told' ≡ told ++ x ∷ [] → MayHaveServed k number x.entry.by → AreMadeThere k number told → AreMadeThere k number told'
+pub made_more : (k : Start) (number : ℕ) (told told' : List Told) (x : Told) → told' ≡ told ++ x ∷ [] → IsMadeThere k number x → AreMadeThere k number told → AreMadeThere k number told'
 made_more k number told told' x is one made y has = ⊎_elim
     (λ (old : Has y told). made y old)
-    (⊎_elim (λ (new : y ≡ x). subst (λ (z : Told). MayHaveServed k number z.entry.by) (sym new) one) (λ none. absurd none))
+    (⊎_elim (λ (new : y ≡ x). subst (IsMadeThere k number) (sym new) one) (λ none. absurd none))
     (has_append y told (x ∷ []) (subst (Has y) is has))
+
+-- ---- who sent it on
+
+pub none_listed : (k : Start) (via : List Actor) → via ≡ [] → AreListedThere k via
+none_listed k via none server has = absurd (subst (Has server) none has)
+
+pub listed_there : (k : Start) (via next : List Actor) (to : Actor) → IsListed via to next → AreListedThere k via → IsServerThere k to → AreListedThere k next
+listed_there k via next to listed there its server has = ⊎_elim more (λ (same : next ≡ via). there server (subst (Has server) same has)) listed.may
+  where
+    more : next ≡ via ++ to ∷ [] → IsServerThere k server
+    more is = ⊎_elim
+        (λ (old : Has server via). there server old)
+        (⊎_elim (λ (new : server ≡ to). subst (IsServerThere k) (sym new) its) (λ none. absurd none))
+        (has_append server via (to ∷ []) (subst (Has server) is has))
 
 -- ---- with no worker
 

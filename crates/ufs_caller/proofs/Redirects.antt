@@ -18,6 +18,7 @@ use Rattle.ufs_caller.specs.Turns.{AreRenewed, HasSent, SendsOn}
 use Rattle.ufs_caller.specs.declared.told.Told.{Told}
 use Rattle.ufs_caller.specs.declared.trip.Trip.{Trip}
 use Rattle.ufs_caller.proofs.Homes.{entries_many, own_same}
+use Rattle.ufs_caller.proofs.Made.{listed_there}
 use Rattle.ufs_caller.proofs.Places.{request_is, some_same}
 use Rattle.ufs_caller.proofs.Servers.{some_renewed}
 use Rattle.ufs_caller.proofs.Tries.{errand_at, seen}
@@ -81,6 +82,7 @@ module _ (k : Start) (number : ℕ) (told : List Told) (table : Descs) (left : L
           request = place.request;
           away = away;
           there = subst (IsServerThere k) (sym to') there;
+          via = listed_there k trip.via trip'.via trip.to via' place.via place.there;
           file = file' ∙ place.file;
           kept_may = λ y e. subst (MayGo number (length told) table place.request trip'.to) (some_same r y e) (record { ask = by_r; may = subst (λ (s : Actor). MayServe s r.ask) (sym to') may_r });
         };

@@ -55,6 +55,7 @@ module _ (k : Start) (number : ℕ) (told : List Told) (table : Descs) (left : L
         request = was.request;
         away = was.away;
         there = was.there;
+        via = was.via;
         file = was.file;
         kept_may = λ r e. was.kept_may r (only r e);
       }

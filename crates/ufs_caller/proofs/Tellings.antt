@@ -142,7 +142,7 @@ module _ (k : Start) (entry : Entry) (told : List Told) (table : Descs) (left : 
       ranged = λ n t. back.ranged n (subst IsSome (sym (table_same n)) t);
       place = (subst (λ (es : List Entry). IsHome entry.client es table' hand') (sym (ap entries_in told_is ∙ entries_after told x)) home, not_kept k entry.client told table left hand kept o hints room tied trip is a view sent);
       servers = told_renewed k hints tied.servers file owner hints' there renewed;
-      made = made_more k entry.client told told' x told_is (inr by) tied.made;
+      made = made_more k entry.client told told' x told_is (record { by = inr by; via = was.via }) tied.made;
       bounded = tied.bounded;
       few = omega (arith, many, few_was);
       room_is = omega (arith, many, room_was, same_room);

@@ -27,9 +27,18 @@ pub record IsItsForm (k : Start) (geometry : Geometry) : Type 0 where
 abbrev pub AreServersThere : Start → Pairs → Type 0
 AreServersThere k hints = (file : ℕ) (server : Actor) → Contains hints (file, server) → IsServerThere k server
 
--- each answer is by the client itself, or by a server that is there
+-- each of these servers is there
+abbrev pub AreListedThere : Start → List Actor → Type 0
+AreListedThere k via = (server : Actor) → Has server via → IsServerThere k server
+
+-- The answer is by the client itself, or by a server that is there; and so is each that sent its request on, as far as it is listed.
+pub record IsMadeThere (k : Start) (number : ℕ) (x : Told) : Type 0 where
+  pub by : MayHaveServed k number x.entry.by
+  pub via : AreListedThere k x.via
+
+-- each answer is
 abbrev pub AreMadeThere : Start → ℕ → List Told → Type 0
-AreMadeThere k number told = (x : Told) → Has x told → MayHaveServed k number x.entry.by
+AreMadeThere k number told = (x : Told) → Has x told → IsMadeThere k number x
 
 -- a request that was given back is the one that was asked, and may go where it is to go
 pub record MayGo (number seq : ℕ) (table : Descs) (request : Op) (to : Actor) (r : Asked) : Type 0 where
@@ -40,6 +49,7 @@ pub record IsTripTied (k : Start) (number : ℕ) (told : List Told) (table : Des
   pub request : Op
   pub away : IsAway number (entries_in told) table request hand
   pub there : IsServerThere k trip.to
+  pub via : AreListedThere k trip.via
   pub file : trip.file ≡ file_asked table request
   pub kept_may : (r : Asked) → kept ≡ Some r → MayGo number (length told) table request trip.to r
 

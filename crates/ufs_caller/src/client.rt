@@ -105,7 +105,7 @@ impl<N: Naming> Client<N> {
     }
 
     /// Its hand and its answers, where no request is under way. The hand's part of the client has just these answers, each made by itself
-    /// or by a server that is there.
+    /// or by a server that is there; and so is each server that sent its request on.
     pub fn into_parts(self) -> (Hand<N>, Vec<Told>)
         requires idle { self.errand ≡ None }
         ensures told { result.1.items ≡ self.told }

@@ -4,7 +4,7 @@ use Rattle.ufs_model.specs.declared.data.Entry.{Entry}
 use Rattle.ufs_caller.specs.Callers.{entries_in}
 use Rattle.ufs_caller.specs.Hands.{IsHome}
 use Rattle.ufs_caller.proofs.Homes.{ask_for, entries_after, entries_many, fds_after, home_after, range_after}
-use Rattle.ufs_caller.proofs.Made.{made_more}
+use Rattle.ufs_caller.proofs.Made.{made_more, none_listed}
 use Rattle.ufs_caller.proofs.own.answer_itself.Goals as goal
 
 pub draw_own-entry-requires-clause-both : goal.draw_own-entry-requires-clause-both
@@ -25,7 +25,8 @@ returns-clause-home g c =
 
 pub returns-clause-made : goal.returns-clause-made
 returns-clause-made g c =
-    made_more g.N.Naming.start c.args.ask.client c.args.told.now.items _ (record { entry = c.draw_own-entry.result; via = c.new.result }) c.push_reserved.ensures.items (inl c.draw_own-entry.ensures.made.by) c.requires.made
+    made_more g.N.Naming.start c.args.ask.client c.args.told.now.items _ (record { entry = c.draw_own-entry.result; via = c.new.result }) c.push_reserved.ensures.items
+    (record { by = inl c.draw_own-entry.ensures.made.by; via = none_listed g.N.Naming.start _ c.new.ensures }) c.requires.made
 
 pub returns-clause-ranged : goal.returns-clause-ranged
 returns-clause-ranged g c =
