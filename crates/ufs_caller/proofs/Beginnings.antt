@@ -5,8 +5,9 @@ use Rattle.std.specs.FinMap as fin
 use Rattle.std.specs.List.{AllByRecursion}
 use Rattle.std.specs.FinMap.{get-empty}
 use Rattle.std.specs.Ordering.{nat_cmp}
+use Rattle.std.proofs.lemmas.List.{length-append}
 use Rattle.ufs_client.specs.Own.{IsOwnAnswer, is_own}
-use Rattle.ufs_fds.specs.Descriptors.{AreOf, Descs}
+use Rattle.ufs_fds.specs.Descriptors.{AreInRange, AreOf, Descs}
 use Rattle.ufs_hints.specs.Hints.{Pairs}
 use Rattle.ufs_model.specs.Asks.{IsAsk, desc_of_fd, fd_asked, fd_named, file_in, is_last}
 use Rattle.ufs_model.specs.Bounds.{IsBounded}
@@ -28,7 +29,7 @@ use Rattle.ufs_hand_laws.specs.Parts.{AskedPart}
 use Rattle.ufs_caller.specs.Callers.{Caller, IsAskBy, entries_in, file_asked, file_by_hint, file_hinted, server_for, server_of_file, used_for}
 use Rattle.ufs_caller.specs.Hands.{HasAskedAlone, IsAskFor, IsAway, IsHome, request_in, tickets_in}
 use Rattle.ufs_caller.specs.Own.{IsMadeBy}
-use Rattle.ufs_caller.specs.Tied.{AreServersThere, IsPlaceTied, IsTied, MayGo, errand_of, seen_of}
+use Rattle.ufs_caller.specs.Tied.{AreMadeThere, AreServersThere, IsPlaceTied, IsTied, MayGo, errand_of, seen_of}
 use Rattle.ufs_caller.specs.Turns.{AnswersItself, HasKept, IsOwn, Sends}
 use Rattle.ufs_caller.specs.declared.told.Told.{Told}
 use Rattle.ufs_caller.specs.declared.trip.Trip.{Trip}
@@ -97,7 +98,32 @@ module _ (k : Start) (number : ℕ) (told : List Told) (table : Descs) (left lef
     next_of : a.left ≡ request ∷ left'
     next_of = ap (λ (c : Caller). c.left) (sym view) ∙ next
 
+    one_is : one (is_some trip) ≡ 0
+    one_is = ap (λ (t : Option Trip). one (is_some t)) none_under_way
+
+    next_many : length left ≡ 1 + length left'
+    next_many = let e : length left ≡ Rattle.std.proofs.Common.suc (length left') = ap (length {A = Op}) next in omega (arith, e)
+
     -- ---- it answers itself
+
+    module _ (told' : List Told) (table' : Descs) (hand' : View) (room' : ℕ) (x : Told) (told_is : told' ≡ told ++ x ∷ []) (home' : IsHome ask.client (entries_in told') table' hand')
+        (ranged : AreInRange table') (made : AreMadeThere k ask.client told') (same_room : room' ≡ room) where
+      many : length told' ≡ length told + 1
+      many = ap (length {A = Told}) told_is ∙ length-append told (x ∷ [])
+
+      pub tied_own : IsTied k number told' table' left' hand' kept trip hints room'
+      tied_own = record {
+        low = tied.low;
+        there = tied.there;
+        closed = tied.closed;
+        ranged = ranged;
+        place = subst (IsPlaceTied k number told' table' hand' kept) (sym none_under_way) (subst (λ (n : ℕ). IsHome n (entries_in told') table' hand') client home', place_home.1);
+        servers = tied.servers;
+        made = subst (λ (n : ℕ). AreMadeThere k n told') client made;
+        bounded = all_bounded.1;
+        few = let m = many in let w = one_is in let n = next_many in let f = tied.few in omega (arith, m, w, n, f);
+        room_is = let m = many in let w = one_is in let n = next_many in let f = tied.room_is in omega (arith, m, w, n, f, same_room);
+      }
 
     module _ (reply : Reply) (desc : Option Desc) (own : (t : PosixTree) → IsAsk t ask → is_own t ask.client ask.op ≡ true) (is : (t : PosixTree) → IsAsk t ask → IsOwnAnswer t ask.client ask.op reply desc)
         (told' : List Told) (table' : Descs) (hand' : View) (entry : Entry) (told_is : told' ≡ told ++ record { entry = entry; via = [] } ∷ []) (made : IsMadeBy ask reply entry) (late : hand.seen ≤ entry.ticket) (within : entry.ticket < hand'.seen)
@@ -159,12 +185,6 @@ module _ (k : Start) (number : ℕ) (told : List Told) (table : Descs) (left lef
 
       by_r : IsAskBy number (length told) table request r.ask
       by_r = subst (IsAskBy number (length told) table request) (sym r_is) by_ask
-
-      one_is : one (is_some trip) ≡ 0
-      one_is = ap (λ (t : Option Trip). one (is_some t)) none_under_way
-
-      next_many : length left ≡ 1 + length left'
-      next_many = let e : length left ≡ Rattle.std.proofs.Common.suc (length left') = ap (length {A = Op}) next in omega (arith, e)
 
       few_was : length told + (1 + length left') ≤ 65536
       few_was = let w = one_is in let n = next_many in let f = tied.few in omega (arith, w, n, f)

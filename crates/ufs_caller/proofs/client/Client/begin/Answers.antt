@@ -1,4 +1,4 @@
-use Rattle.std.proofs.Common.{◌≡◌, ℕ, false, ◌∷◌, ◌++◌, Option, Some, None, is_some, refl, sym, subst, ap, ◌∙◌}
+use Rattle.std.proofs.Common.{◌≡◌, ℕ, false, [], ◌∷◌, ◌++◌, Option, Some, None, is_some, refl, sym, subst, ap, ◌∙◌}
 use Rattle.std.specs.Option.{option_to_list}
 use Rattle.std.specs.Vec.{vec_capacity}
 use Rattle.ufs_client.specs.Own.{is_own}
@@ -10,7 +10,7 @@ use Rattle.ufs_msg.specs.Requests.{Asked}
 use Rattle.ufs_caller.specs.Tied.{AreMadeThere, IsTied}
 use Rattle.ufs_caller.specs.Turns.{HasKept, Sends}
 use Rattle.ufs_caller.specs.declared.trip.Trip.{Trip}
-use Rattle.ufs_caller.proofs.Beginnings.{answers, bounded, for, has_kept, home, sends, tells_of, tied_ready}
+use Rattle.ufs_caller.proofs.Beginnings.{answers, bounded, for, has_kept, home, sends, tells_of, tied_own, tied_ready}
 use Rattle.ufs_caller.proofs.Tries.{seen}
 use Rattle.ufs_caller.proofs.Turning.{sent_turn}
 use Rattle.ufs_caller.proofs.client.Client.begin.Goals as goal
@@ -35,6 +35,24 @@ answer_itself-requires-clause-home g c =
 
 pub answer_itself-requires-clause-made : goal.answer_itself-requires-clause-made
 answer_itself-requires-clause-made g c = subst (λ (n : ℕ). AreMadeThere g.N.Naming.start n c.self.inside.told.items) (sym c.ask-ask.ensures.client) c.self.invariant.0.made
+
+pub invariant_of-self-in-Some-answer_own : goal.invariant_of-self-in-Some-answer_own
+invariant_of-self-in-Some-answer_own g c =
+    let k = g.N.Naming.start in
+    let s = c.self.inside in
+    let tied = c.self.invariant.0 in
+    let room = vec_capacity s.told in
+    let ask = c.ask-ask.result in
+    let left = c.pop_front.new.self.items in
+    let next : s.left.items ≡ c.in-Some.op ∷ left = c.pop_front.ensures.items ∙ ap (λ (r : Option Op). option_to_list r ++ left) c.in-Some.is in
+    let e = c.ask-ask.ensures in
+    let seq = e.seq ∙ c.len.ensures ∙ s.told.ok.0 in
+    let tells = tells_of ask c.in-Some.op s.fds e.asked e.desc e.fd e.last in
+    let own = c.answer_itself.ensures in (
+      tied_own k s.number s.told.items s.fds s.left.items left s.hand s.kept s.trip s.hints room tied c.args.self.now c.self.view_is c.requires.idle ask c.in-Some.op e.client seq e.asked next tells
+          c.answer_itself.new.told.items c.answer_itself.new.fds c.answer_itself.new.hand (vec_capacity c.answer_itself.new.told) (record { entry = own.told.0; via = [] }) own.told.1 own.home own.ranged own.made own.capacity,
+      c.self.invariant.1,
+    )
 
 pub returns-in-Some-answer_own-clause-turn : goal.returns-in-Some-answer_own-clause-turn
 returns-in-Some-answer_own-clause-turn g c =
