@@ -3,15 +3,18 @@ use Rattle.std.proofs.Common.{◌≡◌, ⊎_elim, ℕ, zero, suc, ◌+◌, ◌�
 use Rattle.std.specs.Prelude.{slice_get, None, Some}
 use Rattle.ufs_caller.specs.Callers.{Caller}
 use Rattle.ufs_caller.specs.Hands.{IsHome}
+use Rattle.ufs_caller.specs.Tied.{AreMadeThere}
+use Rattle.ufs_caller.specs.declared.told.Told.{Told}
 use Rattle.ufs_fds.specs.Descriptors.{Descs}
 use Rattle.ufs_bitmap.specs.Blocks.{BlockSet}
 use Rattle.ufs_joint.specs.FirstHand.{Beginning, HasPoolAlone, client_of, each_of, pool_of, start_first}
 use Rattle.ufs_gathered.specs.Gathered.{AreHomeFrom, HasFilesToo, HasPoolsAlone, all_in, clients_in}
 use Rattle.ufs_held.specs.Together.{HasThemToo, under_numbers}
-use Rattle.ufs_joint.specs.Cells.{FileCell, View, both_of}
+use Rattle.ufs_joint.specs.Cells.{FileCell, Start, View, both_of}
 use Rattle.ufs_joint.specs.Whole.{no_blocks}
 use Rattle.ufs_model.specs.declared.data.Entry.{Entry}
 use Rattle.ufs_msg.specs.There.{client_count, worker_count}
+use Rattle.ufs_rounds.specs.Made.{AreMadeFrom}
 use Rattle.ufs_rounds.specs.Rest.{AreDoneFrom}
 use Rattle.ufs_hand_laws.specs.Owned.{Has, count, named, one}
 use Rattle.ufs_hand_laws.specs.Whole.{idle_client}
@@ -63,6 +66,11 @@ home_push n [] [] entries v m home is this = (subst (λ (k : ℕ). (table : Desc
 home_push n [] (u ∷ hands) entries v m home is this = absurd home
 home_push n (t ∷ lists) [] entries v m home is this = absurd home
 home_push n (t ∷ lists) (u ∷ hands) entries v m home is this = (home.0, home_push (suc n) lists hands entries v m home.1 (omega (arith, is)) this)
+
+-- the next one's answers were made so too
+pub made_push : (k : Start) (n : ℕ) (lists : List (List Told)) (told : List Told) (m : ℕ) → AreMadeFrom k n lists → m ≡ n + length lists → AreMadeThere k m told → AreMadeFrom k n (lists ++ told ∷ [])
+made_push k n [] told m made is this = (subst (λ (c : ℕ). AreMadeThere k c told) (omega (arith, is)) this, tt)
+made_push k n (t ∷ lists) told m made is this = (made.0, made_push k (suc n) lists told m made.1 (omega (arith, is)) this)
 
 -- ---- pools
 

@@ -2,6 +2,7 @@ pub mod Mounting
 pub mod Back
 pub mod Played
 pub mod Numbers
+pub mod Made
 pub mod Scripts
 pub mod Rings
 pub mod Moves

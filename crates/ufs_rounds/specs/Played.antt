@@ -1,29 +1,44 @@
 -- What is known of a session that was played by turns and has ended, by what its clients were given to ask.
-use Rattle.std.specs.Prelude.{ℕ, ◌≡◌, Bool, List, Ok, Result}
+use Rattle.std.specs.Prelude.{ℕ, ◌≡◌, ◌↔◌, Bool, IfSome, List, length, Ok, Err, Result, Some}
 use Rattle.ufs_disk.specs.Moments.{Moments}
+use Rattle.ufs_brink.specs.Closes.{closing_fault}
 use Rattle.ufs_brink.specs.declared.closing.CloseFault.{CloseFault}
+use Rattle.ufs_brink.specs.declared.closing.CloseFault.TheVariants as cause
 use Rattle.ufs_gathered.specs.Ended.{AnswerAll, AnswerFirst}
 use Rattle.ufs_gathered.specs.Finished.{HasFinished}
-use Rattle.ufs_joint.specs.Cells.{Start}
+use Rattle.ufs_hand_laws.specs.Owned.{Has}
+use Rattle.ufs_joint.specs.Cells.{Start, View}
 use Rattle.ufs_model.specs.History.{IsComplete, IsInOrder}
 use Rattle.ufs_model.specs.declared.data.Actor.{Actor}
 use Rattle.ufs_model.specs.declared.data.Entry.{Entry}
 use Rattle.ufs_model.specs.declared.data.Op.{Op}
+use Rattle.ufs_msg.specs.There.{MayHaveServed}
+use Rattle.ufs_store.specs.Refusals.{IsTold}
+use Rattle.ufs_turns.specs.Lent.{stop_in, tally_in}
 use Rattle.ufs_rounds.specs.Rest.{IsPlayed}
 use Rattle.ufs_rounds.specs.Scripts.{lists_of}
 use Rattle.ufs_rounds.specs.Turns.{GlobalState}
 
--- The session was finished so, with these transcripts: each answers the requests of its client's script, in order, and so does the one
--- history of which they are.
+-- The session was finished so, with these transcripts, one of each script: each answers the requests of its client's script, in order, and
+-- so does the one history of which they are. Each entry is by its client or by a server that is there.
 pub record HasPlayed (k : Start) (origin : Moments) (keeps : Bool) (scripts : List (List Op)) (tickets : ℕ) (lists : List (List Entry)) (sectors faults : ℕ) (now : Moments) (ended : Result (Unit {0}) CloseFault) : Type 0 where
   pub finished : HasFinished k origin keeps tickets lists sectors faults now ended
+  pub each : length lists ≡ length scripts
+  pub made : (e : Entry) → Has e finished.session.history → MayHaveServed k e.client e.by
   pub first : AnswerFirst scripts lists
   pub ordered : IsInOrder scripts finished.session.history
   pub all : AnswerAll scripts lists
   pub complete : IsComplete scripts finished.session.history
 
--- It was played to the end from this state on, first by the schedule, and these were the transcripts then.
-pub record IsPlayedOut {N : Type 0} (k : Start) (schedule : List Actor) (s : GlobalState N) (lists : List (List Entry)) : Type 0 where
+-- The store was so before the end, which tells that it has stopped where it had, and else one fault of the device at most: by that alone
+-- the count goes on.
+pub record IsEndOf (faults : ℕ) (ended : Result (Unit {0}) CloseFault) (before : View) : Type 0 where
+  pub stopped : (fault : ℕ) → (ended ≡ Err (cause.Stopped fault)) ↔ (stop_in before.store ≡ Some fault)
+  pub counted : IsTold (tally_in before.store).faults faults (closing_fault ended)
+
+-- It was played to the end from this state on, first by the schedule, and these were the transcripts then. So it ended.
+pub record IsPlayedOut {N : Type 0} (k : Start) (schedule : List Actor) (s : GlobalState N) (lists : List (List Entry)) (faults : ℕ) (ended : Result (Unit {0}) CloseFault) : Type 0 where
   pub last : GlobalState N
   pub played : IsPlayed k schedule s last (Ok tt)
   pub are : lists ≡ lists_of last.clients
+  pub end : IfSome last.store (IsEndOf faults ended)

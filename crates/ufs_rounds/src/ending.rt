@@ -2,6 +2,7 @@
 ghost use Rattle.std.specs.List.{AllByRecursion};
 ghost use Rattle.std.specs.Prelude.{ℕ, ◌≡◌, ◌<◌, ◌↔◌, Err, IfErr, IfOk, List, OnErr, Some, map};
 ghost use Rattle.ufs_caller.specs.Callers.{entries_in};
+ghost use Rattle.ufs_brink.specs.Closes.{closing_fault};
 ghost use Rattle.ufs_brink.specs.declared.closing.CloseFault.TheVariants as cause;
 ghost use Rattle.ufs_gathered.specs.Ended.{AnswerFirst};
 ghost use Rattle.ufs_gathered.specs.Finished.{HasFinished};
@@ -10,13 +11,15 @@ ghost use Rattle.ufs_joint.specs.FirstHand.{Beginning, start_first};
 ghost use Rattle.ufs_layout.specs.Areas.{IsGeometry};
 ghost use Rattle.ufs_model.specs.declared.data.Entry.{Entry};
 ghost use Rattle.ufs_rounds.specs.Back.{AreBackHere};
+ghost use Rattle.ufs_rounds.specs.Made.{AreAllMadeThere};
 ghost use Rattle.ufs_rounds.specs.Numbers.{IsThere};
 ghost use Rattle.ufs_rounds.specs.Played.{HasPlayed, IsPlayedOut};
 ghost use Rattle.ufs_rounds.specs.Rest.{IsAtRest, IsPlayed};
 ghost use Rattle.ufs_rounds.specs.Scripts.{lists_of, scripts_of};
 ghost use Rattle.ufs_rounds.specs.View.{global_of};
+ghost use Rattle.ufs_store.specs.Refusals.{IsTold};
 ghost use Rattle.ufs_store.specs.State.{StoreState};
-ghost use Rattle.ufs_turns.specs.Lent.{stop_in};
+ghost use Rattle.ufs_turns.specs.Lent.{stop_in, tally_in};
 
 use crate::gathering::AtRest;
 use crate::rounds::Unfinished;
@@ -69,6 +72,7 @@ fn finish_rest<N: Naming, D: Disk, L: Ledger>(
     ensures finished { (lists : List (List Entry)) → AreHome lists rest.clients.items
         → HasFinished N.start N.origin D.keeps result.1.tickets lists (D.size result.1.disk) (D.faults result.1.disk) (D.moments result.1.disk) result.1.ended }
     ensures stopped { (fault : ℕ) → (result.1.ended ≡ Err (cause.Stopped fault)) ↔ (stop_in store.store ≡ Some fault) }
+    ensures counted { IsTold (tally_in store.store).faults (D.faults result.1.disk) (closing_fault result.1.ended) }
 {
     let AtRest {
         names,
@@ -108,7 +112,9 @@ impl<N: Naming, D: Disk, L: Ledger> Session<N, D, L> {
         requires rest { IsAtRest self.participants.clients.items self.participants.primary }
         ensures finished { HasFinished N.start N.origin D.keeps result.tickets (lists_of self.participants.clients.items) (D.size result.disk) (D.faults result.disk) (D.moments result.disk) result.ended }
         ensures told { map (λ t. entries_in t.items) result.told.items ≡ lists_of self.participants.clients.items }
+        ensures made { AreAllMadeThere N.start (map (λ t. t.items) result.told.items) }
         ensures stopped { (fault : ℕ) → (result.ended ≡ Err (cause.Stopped fault)) ↔ (stop_in self.store.store ≡ Some fault) }
+        ensures counted { IsTold (tally_in self.store.store).faults (D.faults result.disk) (closing_fault result.ended) }
     {
         let Session {
             table,
@@ -134,12 +140,15 @@ impl<N: Naming, D: Disk, L: Ledger> Session<N, D, L> {
     }
 
     /// Ends the session where no request is under way and no file is out: everything is committed, and the image is made clean. The
-    /// transcripts are those of one history, of which the disk keeps its promise. Else the session comes back, and may go on.
+    /// transcripts are those of one history, of which the disk keeps its promise. The end tells one fault of the device at most, by which
+    /// alone the count goes on. Else the session comes back, and may go on.
     pub fn finish(self, alloc: Global) -> Result<Played<D>, Session<N, D, L>>
         requires start { (b : Beginning) × (s : StoreState) × (N.start ≡ start_first b s) }
         ensures finished { IfOk result (λ p. HasFinished N.start N.origin D.keeps p.tickets (lists_of self.participants.clients.items) (D.size p.disk) (D.faults p.disk) (D.moments p.disk) p.ended) }
         ensures told { IfOk result (λ p. map (λ t. entries_in t.items) p.told.items ≡ lists_of self.participants.clients.items) }
+        ensures made { IfOk result (λ p. AreAllMadeThere N.start (map (λ t. t.items) p.told.items)) }
         ensures stopped { IfOk result (λ p. (fault : ℕ) → (p.ended ≡ Err (cause.Stopped fault)) ↔ (stop_in self.store.store ≡ Some fault)) }
+        ensures counted { IfOk result (λ p. IsTold (tally_in self.store.store).faults (D.faults p.disk) (closing_fault p.ended)) }
         ensures under_way { OnErr result (IsAtRest self.participants.clients.items self.participants.primary → ⊥) }
         ensures back { IfErr result (λ s. s ≡ self) }
     {
@@ -156,7 +165,8 @@ impl<N: Naming, D: Disk, L: Ledger> Session<N, D, L> {
         requires start { (b : Beginning) × (s : StoreState) × (N.start ≡ start_first b s) }
         requires there { AllByRecursion (IsThere N.start) schedule.now }
         ensures played { IfOk result (λ p. HasPlayed N.start N.origin D.keeps (scripts_of self.participants.clients.items) p.tickets (map (λ t. entries_in t.items) p.told.items) (D.size p.disk) (D.faults p.disk) (D.moments p.disk) p.ended) }
-        ensures turns { IfOk result (λ p. IsPlayedOut N.start schedule.now (global_of self.participants (Some self.store)) (map (λ t. entries_in t.items) p.told.items)) }
+        ensures made { IfOk result (λ p. AreAllMadeThere N.start (map (λ t. t.items) p.told.items)) }
+        ensures turns { IfOk result (λ p. IsPlayedOut N.start schedule.now (global_of self.participants (Some self.store)) (map (λ t. entries_in t.items) p.told.items) (D.faults p.disk) p.ended) }
         ensures under_way { IfErr result (λ u. IsAtRest u.session.participants.clients.items u.session.participants.primary → ⊥) }
         ensures so_far { IfErr result (λ u. IsPlayed N.start schedule.now (global_of self.participants (Some self.store)) (global_of u.session.participants (Some u.session.store)) (Err u.why)) }
         ensures first { IfErr result (λ u. AnswerFirst (scripts_of self.participants.clients.items) (lists_of u.session.participants.clients.items)) }

@@ -9,6 +9,7 @@ ghost use Rattle.ufs_joint.specs.FirstHand.{Beginning, client_of, each_of, pool_
 ghost use Rattle.ufs_joint.specs.Whole.{no_blocks};
 ghost use Rattle.ufs_owner.specs.Owners.{count_out};
 ghost use Rattle.ufs_rounds.specs.Back.{AreBackHere};
+ghost use Rattle.ufs_rounds.specs.Made.{AreAllMadeThere};
 ghost use Rattle.ufs_rounds.specs.Numbers.{AreWorkers};
 ghost use Rattle.ufs_rounds.specs.Rest.{AreDoneFrom, AreIdle};
 ghost use Rattle.ufs_rounds.specs.Scripts.{lists_of};
@@ -48,6 +49,7 @@ fn gather_clients<N: Naming>(
     requires told_room { vec_len told.old + length clients.items ≤ vec_capacity told.old }
     ensures home { AreHome (map (λ t. entries_in t.items) told.new.items) hands.new.items }
     ensures told { map (λ t. entries_in t.items) told.new.items ≡ lists_of clients.items }
+    ensures made { AreAllMadeThere N.start (map (λ t. t.items) told.new.items) }
     ensures counts { (n : ℕ) → count eqb n (clients_in hands.new.items) ≡ count eqb n (each_of client_of idle_client (length clients.items)) }
 {
     for client in clients {
@@ -78,6 +80,7 @@ impl<N: Naming> Participants<N> {
         requires here { count_out self.primary.stock.home.owners ≡ 0 }
         ensures home { AreHome (map (λ t. entries_in t.items) result.told.items) result.clients.items }
         ensures told { map (λ t. entries_in t.items) result.told.items ≡ lists_of self.clients.items }
+        ensures made { AreAllMadeThere N.start (map (λ t. t.items) result.told.items) }
         ensures back { AreBackHere N.start result.names result.home result.pools result.clients.items }
         ensures names { result.names ≡ self.primary.stock.names }
     {

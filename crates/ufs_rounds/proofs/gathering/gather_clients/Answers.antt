@@ -8,11 +8,13 @@ use Rattle.ufs_joint.specs.FirstHand.{client_of, each_of}
 use Rattle.ufs_gathered.specs.Gathered.{AreHome, clients_in}
 use Rattle.ufs_joint.specs.Cells.{View}
 use Rattle.ufs_model.specs.declared.data.Entry.{Entry}
+use Rattle.ufs_caller.specs.Tied.{AreMadeThere}
+use Rattle.ufs_rounds.specs.Made.{AreAllMadeThere}
 use Rattle.ufs_rounds.specs.Rest.{AreDoneFrom}
 use Rattle.ufs_rounds.specs.Scripts.{lists_of}
 use Rattle.ufs_hand_laws.specs.Owned.{count}
 use Rattle.ufs_hand_laws.specs.Whole.{idle_client}
-use Rattle.ufs_rounds.proofs.Together.{home_push, length_map, length_push, map_push, one_further, push_on}
+use Rattle.ufs_rounds.proofs.Together.{home_push, length_map, length_push, made_push, map_push, one_further, push_on}
 use Rattle.ufs_rounds.proofs.gathering.gather_clients.Goals as goal
 
 pub loop-client-init : goal.loop-client-init
@@ -28,6 +30,7 @@ loop-client-init g c =
       done = subst (λ (k : ℕ). AreDoneFrom k c.into_iter-client-iterator.result.rest.items) (sym none) (subst (AreDoneFrom 0) (sym gives) c.requires.done);
       home = subst (λ (x : List (List Entry) × List View). AreHome x.0 x.1) (λ i. (map (λ (t : Vec Told Global). entries_in t.items) (sym told i), sym hands i)) tt;
       told = λ i. map (λ (t : Vec Told Global). entries_in t.items) (told i) ++ lists_of (gives i);
+      made = subst (λ (ts : List (Vec Told Global)). AreAllMadeThere g.N.Naming.start (map (λ (t : Vec Told Global). t.items) ts)) (sym told) tt;
       counts = λ n. ap (λ (vs : List View). count eqb n (clients_in vs)) hands ∙ sym (ap (λ (k : ℕ). count eqb n (each_of client_of idle_client k)) none);
       long = ap length hands ∙ sym none;
       all = omega (arith, few, none);
@@ -47,6 +50,7 @@ loop-client-preserved g c =
     let parts = c.into_parts-hand in
     let k : ℕ = length l.told.items in
     let f = λ (t : Vec Told Global). entries_in t.items in
+    let answers = λ (t : Vec Told Global). t.items in
     let d = subst (AreDoneFrom k) next l.invariant.done in
     let grown = ap length c.push_reserved-in-loop-client.ensures.items ∙ length_push l.told.items parts.result.1 in
     let longer = ap length c.push_reserved.ensures.items ∙ length_push l.hands.items parts.result.0 in
@@ -63,12 +67,17 @@ loop-client-preserved g c =
     let a' = c.push_reserved-in-loop-client.ensures.len in
     let b' = c.push_reserved-in-loop-client.ensures.capacity in
     let tall = length_map f l.told.items in
+    let as_tall = length_map answers l.told.items in
+    let all_listed = ap (map answers) c.push_reserved-in-loop-client.ensures.items ∙ map_push answers l.told.items parts.result.1 in
     record {
       done = subst (λ (n : ℕ). AreDoneFrom n rest) (sym grown) d.2;
       home = subst (λ (x : List (List Entry) × List View). AreHome x.0 x.1) (λ i. (sym listed i, sym c.push_reserved.ensures.items i))
           (home_push 0 (map f l.told.items) l.hands.items (f parts.result.1) parts.result.0 k l.invariant.home (omega (arith, tall))
           (client.fds, subst (λ (x : ℕ × List Entry). IsHome x.0 x.1 client.fds parts.result.0) (λ i. (d.0 i, sym same i)) home));
       told = (λ i. listed i ++ lists_of rest) ∙ push_on (map f l.told.items) (f parts.result.1) (lists_of rest) ∙ (λ i. map f l.told.items ++ (same i ∷ lists_of rest)) ∙ (λ i. map f l.told.items ++ lists_of (sym next i)) ∙ l.invariant.told;
+      made = subst (AreAllMadeThere g.N.Naming.start) (sym all_listed)
+          (made_push g.N.Naming.start 0 (map answers l.told.items) (answers parts.result.1) k l.invariant.made (omega (arith, as_tall))
+          (subst (λ (x : ℕ × List Told). AreMadeThere g.N.Naming.start x.0 x.1) (λ i. (d.0 i, sym parts.ensures.told i)) parts.ensures.made));
       counts = λ n.
           ap (λ (vs : List View). count eqb n (clients_in vs)) c.push_reserved.ensures.items
           ∙ one_further (λ (v : View). v.clients) client_of idle_client home.self l.hands.items parts.result.0 k (home.both.clients ∙ (λ i. (d.0 i, home.self) ∷ [])) l.invariant.counts n
@@ -81,3 +90,6 @@ loop-client-preserved g c =
 
 pub returns-clause-home : goal.returns-clause-home
 returns-clause-home g c = c.loop-client.invariant.home
+
+pub returns-clause-made : goal.returns-clause-made
+returns-clause-made g c = c.loop-client.invariant.made

@@ -3,6 +3,7 @@ use Rattle.std.specs.Vec.{vec_capacity, vec_len}
 use Rattle.ufs_caller.specs.Callers.{entries_in}
 use Rattle.ufs_joint.specs.FirstHand.{client_of, each_of}
 use Rattle.ufs_gathered.specs.Gathered.{AreHome, clients_in}
+use Rattle.ufs_rounds.specs.Made.{AreAllMadeThere}
 use Rattle.ufs_rounds.specs.Rest.{AreDoneFrom}
 use Rattle.ufs_rounds.specs.Scripts.{lists_of}
 use Rattle.ufs_hand_laws.specs.Owned.{count}
@@ -14,6 +15,7 @@ invariant-loop-client g l = record {
   done : AreDoneFrom (length l.told.items) l.client-iterator.rest.items;
   home : AreHome (map (λ t. entries_in t.items) l.told.items) l.hands.items;
   told : map (λ t. entries_in t.items) l.told.items ++ lists_of l.client-iterator.rest.items ≡ lists_of l.fn.clients.items;
+  made : AreAllMadeThere g.N.Naming.start (map (λ t. t.items) l.told.items);
   counts : (n : ℕ) → count eqb n (clients_in l.hands.items) ≡ count eqb n (each_of client_of idle_client (length l.told.items));
   long : length l.hands.items ≡ length l.told.items;
   all : length l.told.items + length l.client-iterator.rest.items ≡ length l.fn.clients.items;

@@ -1,11 +1,17 @@
-use Rattle.std.proofs.Common.{Some, subst}
+use Rattle.std.proofs.Common.{List, Some, map, subst}
+use Rattle.std.specs.declared.alloc.Global.{Global}
+use Rattle.std.specs.declared.vec.Vec.{Vec}
+use Rattle.ufs_caller.specs.declared.told.Told.{Told}
 use Rattle.ufs_rounds.specs.Rest.{IsPlayed}
 use Rattle.ufs_rounds.specs.View.{global_of}
-use Rattle.ufs_rounds.proofs.Playing.{has_played}
+use Rattle.ufs_rounds.proofs.Playing.{both_maps, has_played}
 use Rattle.ufs_rounds.proofs.session.Session.play.Goals as goal
 
 pub returns-in-Ok-clause-played : goal.returns-in-Ok-clause-played
-returns-in-Ok-clause-played g c = has_played _ _ _ _ _ _ _ _ _ _ _ c.end.ensures.told c.end.ensures.finished c.play-played.ensures.first c.in-Ok.ensures.all
+returns-in-Ok-clause-played g c =
+    let told : List (Vec Told Global) = c.end.result.told.items in
+    has_played _ _ _ _ _ _ (map (λ (t : Vec Told Global). t.items) told) c.play-played.new.self.clients.items _ _ _ _ c.end.ensures.told (both_maps (λ (t : Vec Told Global). t.items) told) c.play-played.ensures.scripts c.end.ensures.made c.end.ensures.finished
+    c.play-played.ensures.first c.in-Ok.ensures.all
 
 pub returns-in-Ok-clause-turns : goal.returns-in-Ok-clause-turns
 returns-in-Ok-clause-turns g c =
@@ -14,4 +20,5 @@ returns-in-Ok-clause-turns g c =
       last = last;
       played = subst (IsPlayed g.N.Naming.start c.args.schedule.now (global_of c.args.self.participants (Some c.args.self.store)) last) c.in-Ok.is c.play-played.ensures.played;
       are = c.end.ensures.told;
+      end = record { stopped = c.end.ensures.stopped; counted = c.end.ensures.counted };
     }
