@@ -12,3 +12,7 @@ pub mod Together
 pub mod Dealt
 pub mod Beginnings
 mod Playing
+pub mod Alone
+pub mod AloneClients
+pub mod AlonePrimary
+pub mod AloneRounds

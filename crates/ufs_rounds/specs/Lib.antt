@@ -11,4 +11,5 @@ pub mod Steps
 pub mod Rest
 pub mod Rounds
 pub mod View
+pub mod Alone
 pub mod Dealing

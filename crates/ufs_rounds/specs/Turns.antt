@@ -17,6 +17,7 @@ use Rattle.ufs_worker.specs.Turns as worker
 use Rattle.ufs_worker.specs.Worker.{WorkerState}
 use Rattle.ufs_worker.specs.declared.turn.WorkerTurn.{WorkerTurn}
 use Rattle.ufs_worker.specs.declared.turn.WorkerTurn.TheVariants as worker_turn
+use Rattle.ufs_rounds.specs.Numbers.{AreClients}
 use Rattle.ufs_rounds.specs.Rings.{Answers, Asks, Gets, HasNoAnswer, HasNoLetter, HasNoRequest, Hears, IsAnswerFull, IsAskFull, IsLetterFull, IsQuiet, Reads, Rings, Sends}
 use Rattle.ufs_rounds.specs.declared.turned.Turned.{Turned}
 use Rattle.ufs_rounds.specs.declared.turned.Turned.TheVariants as turned
@@ -57,12 +58,13 @@ module _ {N : Type 0} where
   IsFirstTurn k before after p q o s t = primary.IsTurn (λ w r m z. Sends r (actor.Worker w) (letter_of m) z) (λ r w. IsLetterFull r (actor.Worker w)) Answers IsAnswerFull IsQuiet (worker_count k) (client_count k) Reads HasNoLetter Gets HasNoRequest
       k.is_visible before after s t p q o
 
-  -- The rings are lent to the client, whose turn it is.
+  -- The rings are lent to the client, whose turn it is. It keeps its number.
   pub record IsClientTurn (number : ℕ) (old new : List Caller) (p q : Rings N) (o : Turn) : Type 0 where
     pub lent : Rings N
     pub quiet : IsQuiet p lent
     pub mine : lent.client ≡ number
     pub goes : GoesOnAt (IsCallerTurn lent q o) old number new
+    pub numbers : AreClients new
 
   -- The same of a worker, from 1 on. It comes to the store only where it serves.
   pub record IsWorkerTurn (visible : Bool) (before after : Option View) (number : ℕ) (old new : List WorkerState) (p q : Rings N) (o : WorkerTurn) : Type 0 where
