@@ -83,6 +83,9 @@ set_else (x ∷ xs) zero (suc j) w not = refl
 set_else (x ∷ xs) (suc i) zero w not = refl
 set_else (x ∷ xs) (suc i) (suc j) w not = set_else xs i j w (λ e. not (ap suc e))
 
+some_one : {A : Type 0} (x y : A) → Some x ≡ Some y → x ≡ y
+some_one x y e = cc
+
 -- ---- requests of clients
 
 other : (a b : ℕ) → (a ≡ b → ⊥) → eqb a b ≡ false
@@ -138,9 +141,6 @@ module _ {N : Type 0} where
     pub hears_here : (ring old : Buffer (Answer N)) → slice_get q.answers client ≡ Some ring → slice_get p.answers client ≡ Some old → length old.items ≡ length ring.items + heard
     pub hears_else : (other : ℕ) → (other ≡ client → ⊥) → slice_get q.answers other ≡ slice_get p.answers other
     pub sum : weigh held p.answers ≡ weigh held q.answers + heard
-
-  some_one : {A : Type 0} (x y : A) → Some x ≡ Some y → x ≡ y
-  some_one x y e = cc
 
   module _ (client : ℕ) (p q : Rings N) (answers : q.answers ≡ p.answers) where
     was_same : (place : ℕ) (ring : Buffer (Answer N)) → slice_get q.answers place ≡ Some ring → (old : Buffer (Answer N)) × (slice_get p.answers place ≡ Some old) × (ring.capacity ≡ old.capacity) × ((x : Answer N) → Has x ring.items → Has x old.items)

@@ -10,7 +10,6 @@ use Rattle.ufs_caller.specs.declared.turn.Turn.{Turn}
 use Rattle.ufs_caller.specs.declared.turn.Turn.TheVariants as turn
 use Rattle.ufs_hand_laws.proofs.Keys.{itself}
 use Rattle.ufs_hand_laws.specs.Owned.{Has, one, weigh}
-use Rattle.ufs_hints.specs.Hints.{Pairs}
 use Rattle.ufs_joint.specs.Cells.{Start}
 use Rattle.ufs_model.specs.declared.data.Actor.{Actor}
 use Rattle.ufs_model.specs.declared.data.Actor.TheVariants as actor
@@ -58,24 +57,31 @@ none_some o none some = absurd (true≢false (sym some ∙ ap is_some none))
 module _ {N : Type 0} (k : Start) (none : worker_count k ≡ 0) (number : ℕ) (p lent q : Rings N) (quiet : IsQuiet p lent) (mine : lent.client ≡ number) (a b : Caller) (was : a.number ≡ number) (is : b.number ≡ number) (asks : AsksPrimary k a) (carry : CarryNoFile k p) where
   -- nothing came or went, and the client's request is as far as it was
   still : (said : Turn) → AreNear lent q → AsksPrimary k b → gone_of b.errand ≡ gone_of a.errand → (IsSome a.errand → 3 * kept_of b.errand + one (client_moved said) ≤ 3 * kept_of a.errand) → Went k number p q a b said
-  still said same asks' gone near = (0, 0, record {
-    rings = let near = near_then p lent q (near_quiet p lent quiet) same in goes_still number p q near.answers near;
-    asks = asks';
-    gone = omega (arith, gone);
-    nearer = λ some. let low = near some in omega (arith, low);
-  })
+  still said same asks' gone near = (
+    0,
+    0,
+    record {
+      rings = let near = near_then p lent q (near_quiet p lent quiet) same in goes_still number p q near.answers near;
+      asks = asks';
+      gone = omega (arith, gone);
+      nearer = λ some. let low = near some in omega (arith, low);
+    },
+  )
 
   -- its request came to the primary
   came : (said : Turn) (to : Actor) (r : Asked) → to ≡ actor.Primary → r.ask.client ≡ number → Asks lent to r q → AsksPrimary k b → gone_of b.errand ≡ gone_of a.errand + 1 → (IsSome a.errand → (3 * kept_of b.errand + 2) + one (client_moved said) ≤ 3 * kept_of a.errand)
       → Went k number p q a b said
   came said to r at own h asks' gone near =
-      let gained = subst (λ (who : Actor). HappensFor HasGained HasGained lent.requests who r q.requests) at h.0 in
-      (1, 0, record {
-        rings = goes_asked number p q (h.1 ∙ quiet.0) r own (h.2.primary ∙ quiet.2.primary) (gained.1 ∙ quiet.1.workers) (subst (λ (x : Buffer Asked). HasGained x r q.requests.primary) quiet.1.primary gained.0);
-        asks = asks';
-        gone = omega (arith, gone);
-        nearer = λ some. let low = near some in omega (arith, low);
-      })
+      let gained = subst (λ (who : Actor). HappensFor HasGained HasGained lent.requests who r q.requests) at h.0 in (
+        1,
+        0,
+        record {
+          rings = goes_asked number p q (h.1 ∙ quiet.0) r own (h.2.primary ∙ quiet.2.primary) (gained.1 ∙ quiet.1.workers) (subst (λ (x : Buffer Asked). HasGained x r q.requests.primary) quiet.1.primary gained.0);
+          asks = asks';
+          gone = omega (arith, gone);
+          nearer = λ some. let low = near some in omega (arith, low);
+        },
+      )
 
   -- whose answer was taken
   taken_there : (x : Answer N) (r : Rings N) → Hears lent x r → IsServedThere k x
@@ -163,17 +169,20 @@ module _ {N : Type 0} (k : Start) (none : worker_count k ≡ 0) (number : ℕ) (
       told s g h there =
           let had = ap gone_of h.errand ∙ ap unkept h.sent in
           let now = ap gone_of h.idle in
-          let kept = ap kept_of h.idle in
-          (0, 1, record {
-            rings = goes_heard number p q (answer.Served s) (g.2.primary ∙ quiet.2.primary) (g.1.primary ∙ quiet.1.primary) (g.1.workers ∙ quiet.1.workers)
-                (subst (λ (x : List (Buffer (Answer N)) × ℕ). HappensAt HasLost x.0 x.1 (answer.Served s) q.answers) (λ i. (quiet.0 i, mine i)) g.0);
-            asks = record {
-              hints = told_renewed k a.hints asks.hints (file_answered s.desc (file_asked a.fds h.e.request)) s.owner b.hints there h.hints;
-              errand = subst (λ (o : Option Errand). IfSome o (λ e. (e.to ≡ actor.Primary) × IfSome e.kept (λ x. x.ask.client ≡ b.number))) (sym h.idle) tt;
-            };
-            gone = omega (arith, had, now);
-            nearer = λ some. omega (arith, kept);
-          })
+          let kept = ap kept_of h.idle in (
+            0,
+            1,
+            record {
+              rings = goes_heard number p q (answer.Served s) (g.2.primary ∙ quiet.2.primary) (g.1.primary ∙ quiet.1.primary) (g.1.workers ∙ quiet.1.workers)
+                  (subst (λ (x : List (Buffer (Answer N)) × ℕ). HappensAt HasLost x.0 x.1 (answer.Served s) q.answers) (λ i. (quiet.0 i, mine i)) g.0);
+              asks = record {
+                hints = told_renewed k a.hints asks.hints (file_answered s.desc (file_asked a.fds h.e.request)) s.owner b.hints there h.hints;
+                errand = subst (λ (o : Option Errand). IfSome o (λ e. (e.to ≡ actor.Primary) × IfSome e.kept (λ x. x.ask.client ≡ b.number))) (sym h.idle) tt;
+              };
+              gone = omega (arith, had, now);
+              nearer = λ some. omega (arith, kept);
+            },
+          )
   went (turn.Full to) (inl h) =
       let idle = ap gone_of h.1.idle in
       let now = ap gone_of h.1.errand in
@@ -261,9 +270,9 @@ module _ {N : Type 0} (k : Start) (s t : GlobalState N) (w : ServesAlone k s) (n
           by false e = ⊎_elim
               (λ (x : (place ≡ number) × (h.goes.is ≡ c)). absurd (other e x.0))
               (λ (old : slice_get s.clients place ≡ Some c).
-                  let before = w.once place c ring old (sym (g.rings.hears_else place (other e)) ∙ there) in
-                  let same = g.rings.asks_else place (other e) in
-                  omega (arith, before, same))
+              let before = w.once place c ring old (sym (g.rings.hears_else place (other e)) ∙ there) in
+              let same = g.rings.asks_else place (other e) in
+              omega (arith, before, same))
               (there_now number s.clients t.clients s.rings t.rings said h place c at)
 
   -- where it asks no new request, less is left to be done

@@ -381,14 +381,14 @@ module _ {N : Type 0} (k : Start) (s t : GlobalState N) (w : ServesAlone k s) (r
     rooms_then : (client : ℕ) (ring : Buffer (Answer N)) → slice_get t.rings.answers client ≡ Some ring → ring.capacity ≡ 1
     rooms_then client ring at = ⊎_elim
         (λ (e : (client ≡ d.request.ask.client) × (d.gained.is ≡ ring)).
-            ap (λ (b : Buffer (Answer N)). b.capacity) (sym e.1) ∙ ap (λ (b : Buffer (Answer N)). b.capacity) d.gained.so.1 ∙ w.rings.rooms d.request.ask.client d.gained.was d.gained.stood)
+        ap (λ (b : Buffer (Answer N)). b.capacity) (sym e.1) ∙ ap (λ (b : Buffer (Answer N)). b.capacity) d.gained.so.1 ∙ w.rings.rooms d.request.ask.client d.gained.was d.gained.stood)
         (λ (e : slice_get s.rings.answers client ≡ Some ring). w.rings.rooms client ring e)
         (was_in client ring at)
 
     answered_then : (client : ℕ) (ring : Buffer (Answer N)) (x : Answer N) → slice_get t.rings.answers client ≡ Some ring → Has x ring.items → IsServedThere k x
     answered_then client ring x at has = ⊎_elim
         (λ (e : (client ≡ d.request.ask.client) × (d.gained.is ≡ ring)).
-            among (has_append x d.gained.was.items (d.answer ∷ []) (subst (Has x) pushed (subst (λ (b : Buffer (Answer N)). Has x b.items) (sym e.1) has))))
+        among (has_append x d.gained.was.items (d.answer ∷ []) (subst (Has x) pushed (subst (λ (b : Buffer (Answer N)). Has x b.items) (sym e.1) has))))
         (λ (e : slice_get s.rings.answers client ≡ Some ring). w.rings.answered client ring x e has)
         (was_in client ring at)
       where
@@ -410,7 +410,7 @@ module _ {N : Type 0} (k : Start) (s t : GlobalState N) (w : ServesAlone k s) (r
         by true e =
             let same = eqb-true place d.request.ask.client e in
             let is : d.gained.is ≡ ring = some_ring d.gained.is ring
-                (sym (ap (λ (l : List (Buffer (Answer N))). slice_get l d.request.ask.client) d.gained.stands ∙ set_there s.rings.answers d.request.ask.client d.gained.was d.gained.is d.gained.stood) ∙ ap (slice_get t.rings.answers) (sym same) ∙ there) in
+            (sym (ap (λ (l : List (Buffer (Answer N))). slice_get l d.request.ask.client) d.gained.stands ∙ set_there s.rings.answers d.request.ask.client d.gained.was d.gained.is d.gained.stood) ∙ ap (slice_get t.rings.answers) (sym same) ∙ there) in
             let before = w.once place c d.gained.was at (ap (slice_get s.rings.answers) same ∙ d.gained.stood) in
             let mine = ap one e in
             let long = ap held (sym is) ∙ ap length pushed ∙ length_push d.gained.was.items d.answer in
@@ -419,10 +419,10 @@ module _ {N : Type 0} (k : Start) (s t : GlobalState N) (w : ServesAlone k s) (r
         by false e = ⊎_elim
             (λ (x : (place ≡ d.request.ask.client) × (d.gained.is ≡ ring)). absurd (other e x.0))
             (λ (old : slice_get s.rings.answers place ≡ Some ring).
-                let before = w.once place c ring at old in
-                let none = ap one e in
-                let gone = lost in
-                omega (arith, before, none, gone))
+            let before = w.once place c ring at old in
+            let none = ap one e in
+            let gone = lost in
+            omega (arith, before, none, gone))
             (was_in place ring there)
 
     pub served_then : ServesAlone k t
@@ -463,13 +463,13 @@ module _ {N : Type 0} (k : Start) (s t : GlobalState N) (w : ServesAlone k s) (r
     pub primary_nearer : todo t + one (primary_moved o) ≤ todo s
     primary_nearer = ⊎_elim
         (λ (r : HasRested k s t w o).
-            let low = rested_todo r.out r.rings in
-            let none = ap (λ (x : PrimaryTurn). one (primary_moved x)) r.says in
-            omega (arith, low, none))
+        let low = rested_todo r.out r.rings in
+        let none = ap (λ (x : PrimaryTurn). one (primary_moved x)) r.says in
+        omega (arith, low, none))
         (λ (d : HasServed k s t w o).
-            let low = served_todo o d in
-            let some = ap (λ (x : PrimaryTurn). one (primary_moved x)) d.says in
-            omega (arith, low, some))
+        let low = served_todo o d in
+        let some = ap (λ (x : PrimaryTurn). one (primary_moved x)) d.says in
+        omega (arith, low, some))
         (primary_did k s t w o h)
 
     -- where it does nothing, it has no request

@@ -191,9 +191,9 @@ module _ {N : Type 0} (k : Start) where
       let b = step_then k s a.0 w m a.2 in
       let stayed = step_stays k s a.0 w m a.1 a.2 n.0 in
       ⊎_elim
-          (λ (e : Some actor.Primary ≡ who_in m). first m e a.2 n.0)
-          (λ (later : HadTurn actor.Primary ms). ⊎_elim (λ (e : a.0.rings.requests.primary.items ≡ []). inl (ap (λ (x : Buffer Asked). x.items) (sym stayed.requests) ∙ e)) (λ (e : client_count k ≡ 0). inr e) (round_empty ms a.0 t a.3 b n.1 later))
-          had
+      (λ (e : Some actor.Primary ≡ who_in m). first m e a.2 n.0)
+      (λ (later : HadTurn actor.Primary ms). ⊎_elim (λ (e : a.0.rings.requests.primary.items ≡ []). inl (ap (λ (x : Buffer Asked). x.items) (sym stayed.requests) ∙ e)) (λ (e : client_count k ≡ 0). inr e) (round_empty ms a.0 t a.3 b n.1 later))
+      had
     where
       first : (m : Step) → Some actor.Primary ≡ who_in m → IsStep k m s a.0 → does_move m ≡ false → (s.rings.requests.primary.items ≡ []) ⊎ (client_count k ≡ 0)
       first (TurnOf actor.Primary o) e h none = primary_empty k s a.0 w o h none
@@ -218,9 +218,9 @@ module _ {N : Type 0} (k : Start) where
       let b = step_then k s a.0 w m a.2 in
       let stayed = step_stays k s a.0 w m a.1 a.2 n.0 in
       ⊎_elim
-          (λ (e : Some (actor.Client number) ≡ who_in m). first m e a.1 a.2 n.0)
-          (λ (later : HadTurn (actor.Client number) ms). round_idle number ms a.0 t a.3 b n.1 (ap (λ (x : Buffer Asked). x.items) stayed.requests ∙ empty) later)
-          had
+      (λ (e : Some (actor.Client number) ≡ who_in m). first m e a.1 a.2 n.0)
+      (λ (later : HadTurn (actor.Client number) ms). round_idle number ms a.0 t a.3 b n.1 (ap (λ (x : Buffer Asked). x.items) stayed.requests ∙ empty) later)
+      had
     where
       first : (m : Step) → Some (actor.Client number) ≡ who_in m → IsOnlyHeard m s → IsStep k m s a.0 → does_move m ≡ false → ⊥
       first (TurnOf (actor.Client other) o) e heard h none = client_goes k s a.0 w other o heard h none empty

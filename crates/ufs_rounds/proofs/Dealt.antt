@@ -120,9 +120,9 @@ numbers_push number first xs x all is i y at =
     ⊎_elim (all i y) (λ (h : (i ≡ length xs) × (x ≡ y)). ap number (sym h.1) ∙ is ∙ ap first (sym h.0)) (get_push xs x i y at)
 
 -- one more client that has asked nothing
-pub nothing_push : (clients : List Caller) (c : Caller) → HaveAskedNothing clients → c.told ≡ [] → c.errand ≡ None → HaveAskedNothing (clients ++ c ∷ [])
-nothing_push [] c nothing told errand = ((told, errand), tt)
-nothing_push (d ∷ clients) c nothing told errand = (nothing.0, nothing_push clients c nothing.1 told errand)
+pub nothing_push : (clients : List Caller) (c : Caller) → HaveAskedNothing clients → c.told ≡ [] → c.errand ≡ None → c.hints ≡ [] → HaveAskedNothing (clients ++ c ∷ [])
+nothing_push [] c nothing told errand hints = ((told, errand, hints), tt)
+nothing_push (d ∷ clients) c nothing told errand hints = (nothing.0, nothing_push clients c nothing.1 told errand hints)
 
 -- the next clients are idle still
 pub idle_further : OthersStayIdle → (first count : ℕ) (v : View) → AreIdleFrom first count v → AreIdleFrom (suc first) count (record v { clients = without (eqb first) v.clients; asked = without (eqb first) v.asked })

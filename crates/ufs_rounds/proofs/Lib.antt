@@ -16,3 +16,4 @@ pub mod Alone
 pub mod AloneClients
 pub mod AlonePrimary
 pub mod AloneRounds
+pub mod AloneFirst

@@ -25,9 +25,9 @@ ArePoolsFrom first workers v = (server : ℕ) → first ≤ server → server �
 abbrev pub AreBare : List BlockSet → Type 0
 AreBare pools = AllByRecursion (λ p. p ≡ no_blocks) pools
 
--- these clients have asked nothing, and weren't answered
+-- these clients have asked nothing, weren't answered, and have no hint
 abbrev pub HaveAskedNothing : List Caller → Type 0
-HaveAskedNothing clients = AllByRecursion (λ c. (c.told ≡ []) × (c.errand ≡ None)) clients
+HaveAskedNothing clients = AllByRecursion (λ c. (c.told ≡ []) × (c.errand ≡ None) × (c.hints ≡ [])) clients
 
 -- No ring of so many workers and clients holds anything.
 pub record HoldNothing {N : Type 0} (workers clients : ℕ) (requests : Requests) (answers : List (Buffer (Answer N))) (letters : Letters) : Type 0 where

@@ -8,9 +8,11 @@ ghost use Rattle.ufs_joint.specs.Disks.{cell_of};
 ghost use Rattle.ufs_joint.specs.FirstHand.{Beginning};
 ghost use Rattle.ufs_joint.specs.Whole.{no_blocks};
 ghost use Rattle.ufs_noted.specs.declared.known.KnownFile.{KnownFile};
+ghost use Rattle.ufs_rounds.specs.Alone.{HasNothingOut, ServesAlone};
 ghost use Rattle.ufs_rounds.specs.Dealing.{AreBare, HaveAskedNothing, HoldNothing};
 ghost use Rattle.ufs_rounds.specs.Mounting.{IsMounted};
 ghost use Rattle.ufs_rounds.specs.Scripts.{scripts_of};
+ghost use Rattle.ufs_rounds.specs.View.{global_of};
 ghost use Rattle.ufs_turns.specs.HeldStore.{HasStoreAlone};
 
 use crate::dealing::{deal_clients, deal_primary, deal_workers};
@@ -36,6 +38,8 @@ pub struct Unbegun<D: Disk> {
 impl<N: Naming, D: Disk, L: Ledger> Session<N, D, L> {
     /// Begins a session over an image that was mounted: its first hand is dealt to clients and servers, the files are at the primary,
     /// nobody has asked anything, and no ring has a message. All memory that this takes is taken before a hand is dealt.
+    ///
+    /// Without a worker the primary serves alone, so that the session can be played to its end (`alone`).
     pub fn begin(
         alloc: Global,
         ready: Ready<D>,
@@ -55,6 +59,7 @@ impl<N: Naming, D: Disk, L: Ledger> Session<N, D, L> {
         ensures nothing { IfOk result (λ s. HaveAskedNothing s.participants.clients.items) }
         ensures rings { IfOk result (λ s. HoldNothing workers (length scripts) s.participants.post.requests s.participants.post.clients.items s.participants.post.letters) }
         ensures owners { IfOk result (λ s. s.participants.primary.stock.home.owners ≡ fin.empty) }
+        ensures alone { workers ≡ 0 → IfOk result (λ s. ServesAlone N.start (global_of s.participants (Some s.store))) }
         ensures store { IfOk result (λ s. HasStoreAlone (cell_of 0 [] (⟦<Store<D> as Door>⟧.store ready.store)) s.store) }
         ensures back { IfErr result (λ u. u.ready ≡ ready) }
     {
@@ -95,6 +100,8 @@ fn deal_all<N: Naming, D: Disk, L: Ledger>(
     ensures nothing { HaveAskedNothing result.participants.clients.items }
     ensures post { result.participants.post ≡ room.post }
     ensures owners { result.participants.primary.stock.home.owners ≡ fin.empty }
+    ensures out { HasNothingOut result.participants.primary }
+    ensures staff { length result.participants.workers.items ≡ length room.pools.items }
     ensures store { HasStoreAlone (cell_of 0 [] (⟦<Store<D> as Door>⟧.store ready.store)) result.store }
 {
     dealt_law();

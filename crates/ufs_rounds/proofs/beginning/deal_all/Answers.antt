@@ -137,6 +137,16 @@ deal_clients-requires-clause-idle g c =
 pub returns-clause-owners : goal.returns-clause-owners
 returns-clause-owners g c = ap (λ (p : PrimaryState). p.stock.home.owners) c.deal_primary-primary.ensures.primary ∙ c.requires.owners
 
+pub returns-clause-out : goal.returns-clause-out
+returns-clause-out g c =
+    let is = c.deal_primary-primary.ensures.primary in
+    record {
+      owners = ap (λ (p : PrimaryState). p.stock.home.owners) is ∙ c.requires.owners;
+      coming = ap (λ (p : PrimaryState). p.coming) is;
+      answers = ap (λ (p : PrimaryState). p.answers) is;
+      waiting = ap (λ (p : PrimaryState). p.waiting) is;
+    }
+
 -- ---- each is there
 
 pub invariant_of-result-clause-every_client : goal.invariant_of-result-clause-every_client

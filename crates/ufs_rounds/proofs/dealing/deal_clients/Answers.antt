@@ -82,7 +82,7 @@ loop-room-preserved g c =
           ∙ l.invariant.scripts;
       all = omega (arith, long, fewer, all);
       room = omega (arith, long, fewer, room, wide);
-      nothing = subst HaveAskedNothing (sym items) (nothing_push l.clients.items client l.invariant.nothing (ap (λ (x : Caller). x.told) made.1) (ap (λ (x : Caller). x.errand) made.1));
+      nothing = subst HaveAskedNothing (sym items) (nothing_push l.clients.items client l.invariant.nothing (ap (λ (x : Caller). x.told) made.1) (ap (λ (x : Caller). x.errand) made.1) (ap (λ (x : Caller). x.hints) made.1));
       idle = subst (λ (x : ℕ × View). AreIdleFrom x.0 (length c.args.rooms.items) x.1) (λ i. ((ap suc number ∙ sym long) i, sym left i))
           (idle_further c.dealt_law.ensures.others c.len-number.result (length c.args.rooms.items) l.hand (subst (λ (n : ℕ). AreIdleFrom n (length c.args.rooms.items) l.hand) (sym number) l.invariant.idle));
     }

@@ -4,6 +4,7 @@ use Rattle.std.specs.declared.vec.Vec.{Vec}
 use Rattle.ufs_caller.specs.declared.told.Told.{Told}
 use Rattle.ufs_rounds.specs.Rest.{IsPlayed}
 use Rattle.ufs_rounds.specs.View.{global_of}
+use Rattle.ufs_rounds.proofs.AloneRounds.{plays_on}
 use Rattle.ufs_rounds.proofs.Playing.{both_maps, has_played}
 use Rattle.ufs_rounds.proofs.session.Session.play.Goals as goal
 
@@ -22,3 +23,9 @@ returns-in-Ok-clause-turns g c =
       are = c.end.ensures.told;
       end = record { stopped = c.end.ensures.stopped; counted = c.end.ensures.counted };
     }
+
+pub returns-in-Err-clause-ended : goal.returns-in-Err-clause-ended
+returns-in-Err-clause-ended g c alone =
+    let first = global_of c.args.self.participants (Some c.args.self.store) in
+    let last = global_of c.play-played.new.self (Some c.play-played.new.door.held) in
+    absurd (plays_on g.N.Naming.start c.args.schedule.now first last c.in-Err.why alone c.in-Err.ensures.under_way (subst (IsPlayed g.N.Naming.start c.args.schedule.now first last) c.in-Err.is c.play-played.ensures.played))
