@@ -2,6 +2,9 @@
 use Rattle.std.proofs.Common.{◌≡◌, ◌⊎◌, inl, inr, ⊎_elim, ℕ, zero, suc, ◌+◌, ◌-◌, ◌*◌, ◌≤◌, ◌<◌, Bool, true, false, eqb, eqb-true, length, set, slice_get, List, [], ◌∷◌, ◌++◌, Option, None, Some, IfSome, refl, ap, sym, ◌∙◌, subst, true≢false, arith}
 use Rattle.std.proofs.lemmas.Option.{slice_get_within}
 use Rattle.std.specs.FinMap as fin
+use Rattle.std.specs.FinMap.{get-empty}
+use Rattle.std.specs.Ordering.{nat_cmp}
+use Rattle.std.specs.Prelude.{unwrap_or}
 use Rattle.circular_buffer.specs.Buffer.{Buffer}
 use Rattle.ufs_at_primary.specs.Named.{server_at, server_told}
 use Rattle.ufs_at_primary.specs.Served.{All, ByNames, IsServed, Lacked, OnFile, OnNone}
@@ -27,7 +30,8 @@ use Rattle.ufs_msg.specs.There.{IsServerThere, client_count, worker_count}
 use Rattle.ufs_msg.specs.declared.answer.Answer.{Answer}
 use Rattle.ufs_msg.specs.declared.answer.Answer.TheVariants as answer
 use Rattle.ufs_msg.specs.declared.letter.Letter.{Letter}
-use Rattle.ufs_owner.specs.Owners.{Files, owner_at}
+use Rattle.ufs_owner.specs.Owners.{Files, nothing_known, owner_at}
+use Rattle.ufs_owner.specs.declared.owner.Standing.{Standing}
 use Rattle.ufs_owner.specs.declared.owner.Owner.{Owner}
 use Rattle.ufs_owner.specs.declared.owner.Owner.TheVariants as owner
 use Rattle.ufs_primary.specs.Letters as front
@@ -82,25 +86,25 @@ module _ {A Q : Type 0} (sends : Q → A → Q → Type 0) (same : Q → Q → T
 
 -- ---- owners
 
-primary_owns : (owners : Files) (file : ℕ) → owners ≡ fin.empty → owner_at owners file ≡ owner.Primary
-primary_owns owners file none = ap (λ (o : Files). owner_at o file) none
+pub primary_owns : (owners : Files) (file : ℕ) → owners ≡ fin.empty → owner_at owners file ≡ owner.Primary
+primary_owns owners file none = ap (λ (o : Files). owner_at o file) none ∙ ap (λ (o : Option Standing). (unwrap_or o nothing_known).owner) (get-empty nat_cmp file)
+
+primary_named : (o : Owner) (who : Actor) → o ≡ owner.Primary → Some (server_named o) ≡ Some who → actor.Primary ≡ who
+primary_named o who same e = some_who (ap (λ (x : Owner). Some (server_named x)) (sym same) ∙ e)
+  where
+    some_who : Some actor.Primary ≡ Some who → actor.Primary ≡ who
+    some_who e' = cc
 
 -- no owner is told but the primary
 pub told_there : (k : Start) (owners : Files) (before after : Option ℕ) → owners ≡ fin.empty → (who : Actor) → server_told owners before after ≡ Some who → IsServerThere k who
 told_there k owners before after none who is = at after is
   where
+    clash : None ≡ Some who → ⊥
+    clash e = cc
+
     one : (o : Option ℕ) → server_at owners o ≡ Some who → IsServerThere k who
     one None e = absurd (clash e)
-      where
-        clash : None ≡ Some who → ⊥
-        clash e' = cc
-    one (Some file) e = subst (IsServerThere k) (named (owner_at owners file) (primary_owns owners file none) e) tt
-      where
-        named : (o : Owner) → o ≡ owner.Primary → Some (server_named o) ≡ Some who → actor.Primary ≡ who
-        named o same e' = some_who (ap (λ (x : Owner). Some (server_named x)) (sym same) ∙ e')
-
-        some_who : Some actor.Primary ≡ Some who → actor.Primary ≡ who
-        some_who e' = cc
+    one (Some file) e = subst (IsServerThere k) (primary_named (owner_at owners file) who (primary_owns owners file none) e) tt
 
     at : (o : Option ℕ) → server_told owners before o ≡ Some who → IsServerThere k who
     at None e = one before e
@@ -320,7 +324,7 @@ module _ {N : Type 0} (k : Start) (s t : GlobalState N) (w : ServesAlone k s) wh
         none_of n none low = omega (arith, none, low)
 
         by : primary.IsWorkDone Answers IsQuiet IsAnswerFull k.is_visible s.store t.store (client_count k) Gets HasNoRequest h.goes.lettered t.primary h.goes.lettered_by t.rings o → HasRested o ⊎ HasServed o
-        by (inl x) = nothing_at h.goes.lettered.waiting x.taken.taken.place x.taken.taken.one out_lettered.waiting x.taken.taken.oldest.at
+        by (inl x) = nothing_at h.goes.lettered.waiting x.taken.taken.place x.taken.one out_lettered.waiting x.taken.taken.oldest.at
         by (inr (inl x)) = inr (front_done o x)
         by (inr (inr (inl x))) = inl (rested o x.says x.rest (near_quiet h.goes.lettered_by t.rings x.nothing) (inl ((λ i. (sym near_lettered.requests i).items) ∙ none_got h.goes.lettered_by h.goes.lettered_by.server no_ring x.empty)))
         by (inr (inr (inr x))) = inl (rested o x.says x.rest (near_same h.goes.lettered_by t.rings x.nothing) (inr (full x.many)))

@@ -2,7 +2,8 @@
 use Rattle.std.proofs.Common.{◌≡◌, ◌⊎◌, inl, inr, ⊎_elim, ℕ, zero, suc, ◌+◌, ◌*◌, ◌≤◌, ◌<◌, Bool, true, false, is_some, length, map, slice_get, List, [], ◌∷◌, ◌++◌, Option, None, Some, IsSome, Result, Ok, Err, refl, ap, sym, ◌∙◌, subst, true≢false, arith}
 use Rattle.std.proofs.lemmas.Option.{slice_get_within}
 use Rattle.std.specs.FinMap as fin
-use Rattle.std.specs.Prelude.{◌||◌}
+use Rattle.std.specs.Ordering.{nat_cmp}
+use Rattle.std.specs.Prelude.{◌||◌, count_by, not}
 use Rattle.circular_buffer.specs.Buffer.{Buffer}
 use Rattle.ufs_at_primary.specs.Orders.{IsFileOrdered, IsReadied}
 use Rattle.ufs_at_primary.specs.Stock.{StockState}
@@ -16,14 +17,16 @@ use Rattle.ufs_home.specs.Moves.{IsMoved, IsOrdered, moved_here, order_of}
 use Rattle.ufs_home.specs.declared.moved.Moved.{Moved}
 use Rattle.ufs_home.specs.declared.moved.Moved.TheVariants as moved
 use Rattle.ufs_joint.specs.Cells.{Start}
+use Rattle.ufs_model.proofs.Facts.Rising.{entries-empty}
 use Rattle.ufs_model.specs.declared.data.Actor.{Actor}
 use Rattle.ufs_model.specs.declared.data.Actor.TheVariants as actor
 use Rattle.ufs_msg.specs.Requests.{Asked}
 use Rattle.ufs_msg.specs.There.{client_count, worker_count}
 use Rattle.ufs_msg.specs.declared.answer.Answer.{Answer}
-use Rattle.ufs_owner.specs.Owners.{Files, count_out, owner_at}
+use Rattle.ufs_owner.specs.Owners.{count_out, is_primary}
 use Rattle.ufs_owner.specs.declared.owner.Owner.{Owner}
 use Rattle.ufs_owner.specs.declared.owner.Owner.TheVariants as owner
+use Rattle.ufs_owner.specs.declared.owner.Standing.{Standing}
 use Rattle.ufs_rounds.specs.Alone.{HasNothingOut, ServesAlone, gone_of, unkept}
 use Rattle.ufs_rounds.specs.Moves.{first_lack}
 use Rattle.ufs_rounds.specs.Rest.{AreIdle, EndsQuietly, GoesOn, HasSettled, HaveTurns, IsAtRest, IsInOrder, IsOnlyHeard, IsPlayed, IsQuietRound, IsWhy}
@@ -154,6 +157,10 @@ module _ {N : Type 0} (k : Start) (s t : GlobalState N) (w : ServesAlone k s) wh
   client_goes number (turned.Worker o) heard h none empty = absurd h
   client_goes number (turned.Primary o) heard h none empty = absurd h
 
+none_here : (a b : Bool) → (a || b) ≡ false → (a ≡ false) × (b ≡ false)
+none_here true b e = absurd (true≢false e)
+none_here false b e = (refl, e)
+
 -- ---- steps, one after the other
 
 module _ {N : Type 0} (k : Start) where
@@ -167,10 +174,6 @@ module _ {N : Type 0} (k : Start) where
       let rest = steps_nearer ms a.0 t a.3 (step_then k s a.0 w m a.2) in
       let first = step_nearer k s a.0 w m a.1 a.2 in
       omega (arith, rest, first)
-
-  none_here : (a b : Bool) → (a || b) ≡ false → (a ≡ false) × (b ≡ false)
-  none_here true b e = absurd (true≢false e)
-  none_here false b e = (refl, e)
 
   stayed_then : (s u t : GlobalState N) → (a : ServesAlone k s) (b : ServesAlone k u) → HasStayed k s u a → HasStayed k u t b → HasStayed k s t a
   stayed_then s u t a b x y = record { clients = y.clients ∙ x.clients; requests = y.requests ∙ x.requests; answers = y.answers ∙ x.answers }
@@ -238,6 +241,9 @@ module _ {N : Type 0} (k : Start) where
           clash e' = cc
 
 -- ---- rounds come to rest
+
+none_counted : count_out fin.empty ≡ 0
+none_counted = ap (λ (es : List (ℕ × Standing)). count_by (λ (standing : Standing). not (is_primary standing.owner)) (map {B = Standing} (λ (e : ℕ × Standing). e.1) es)) (entries-empty nat_cmp Standing)
 
 module _ {N : Type 0} (k : Start) where
   few_held : (s : GlobalState N) → ServesAlone k s → todo s ≤ 96
@@ -311,7 +317,7 @@ module _ {N : Type 0} (k : Start) where
     none_out none idle = out (record { idle = idle; here = none })
 
   nothing_out : (t : GlobalState N) → ServesAlone k t → count_out t.primary.stock.home.owners ≡ 0
-  nothing_out t w = ap count_out w.nothing_out.owners
+  nothing_out t w = ap count_out w.nothing_out.owners ∙ none_counted
 
   pub settles : (s t : GlobalState N) (why : Unfinished) → ServesAlone k s → (IsAtRest t.clients t.primary → ⊥) → HasSettled k s t (Err why) → ⊥
   settles s t why w out h = by why h.why

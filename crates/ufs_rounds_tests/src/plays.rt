@@ -18,6 +18,8 @@ const C1: Step = Step::Turn(Actor::Client(1));
 
 const W1: Step = Step::Turn(Actor::Worker(1));
 
+const W2: Step = Step::Turn(Actor::Worker(2));
+
 const P: Step = Step::Turn(Actor::Primary);
 
 const ONE: &str = "client 0\nopen /f rw creat\nwrite 3 6162\nfsync 3\nstat /f\nend\n";
@@ -45,6 +47,25 @@ fn no_step_is_needed(rt: HostRuntime) {
     let played = played_new(&rt, TWO, 2, &[]);
     same(&rt, played.tickets, 7);
     holds(&rt, played.ended == Ok(()));
+    same(&rt, reply_of(&played, 1, 1), Seen::Bytes(4));
+    holds(&rt, has_bytes(&rt, played.disk, b"abcd"));
+}
+
+// The file goes to the first worker between two writes, from there to the second one, and comes back.
+#[test]
+fn a_file_moves_between_two_writes(rt: HostRuntime) {
+    let to_first = Step::Move { file: 0, to: 1 };
+    let to_second = Step::Move { file: 0, to: 2 };
+    let back = Step::Move { file: 0, to: 0 };
+    let steps = [
+        C0, P, C0, C0, P, C0, to_first, P, W1, C0, P, C0, W1, C0, to_second, P, W1, P, P, W2, C1,
+        P, C0, W1, C0, P, C0, W2, C0, back, P, W2, P, C1,
+    ];
+    let played = played_new(&rt, TWO, 2, &steps);
+    same(&rt, played.tickets, 7);
+    holds(&rt, played.ended == Ok(()));
+    same(&rt, server_of(&played, 0, 1), Actor::Primary);
+    same(&rt, server_of(&played, 0, 2), Actor::Worker(1));
     same(&rt, reply_of(&played, 1, 1), Seen::Bytes(4));
     holds(&rt, has_bytes(&rt, played.disk, b"abcd"));
 }
@@ -96,6 +117,17 @@ fn reply_of(played: &Played<PlainDisk>, client: usize, seq: usize) -> Seen {
             None => Seen::Else,
         },
         None => Seen::Else,
+    }
+}
+
+// and by whom.
+fn server_of(played: &Played<PlainDisk>, client: usize, seq: usize) -> Actor {
+    match played.told.as_slice().get(client) {
+        Some(told) => match told.as_slice().get(seq) {
+            Some(one) => one.entry.by,
+            None => Actor::Client(255),
+        },
+        None => Actor::Client(255),
     }
 }
 
