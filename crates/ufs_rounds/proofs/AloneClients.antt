@@ -54,7 +54,7 @@ module _ {N : Type 0} (k : Start) (number : ℕ) (p q : Rings N) (a b : Caller) 
 none_some : {X : Type 0} (o : Option Errand) → o ≡ None → IsSome o → X
 none_some o none some = absurd (true≢false (sym some ∙ ap is_some none))
 
-module _ {N : Type 0} (k : Start) (none : worker_count k ≡ 0) (number : ℕ) (p lent q : Rings N) (quiet : IsQuiet p lent) (mine : lent.client ≡ number) (a b : Caller) (was : a.number ≡ number) (is : b.number ≡ number) (asks : AsksPrimary k a) (carry : CarryNoFile k p) where
+module _ {N : Type 0} (k : Start) (none : worker_count k ≡ 0) (since upto number : ℕ) (p lent q : Rings N) (quiet : IsQuiet p lent) (mine : lent.client ≡ number) (a b : Caller) (was : a.number ≡ number) (is : b.number ≡ number) (asks : AsksPrimary k a) (carry : CarryNoFile k p) where
   -- nothing came or went, and the client's request is as far as it was
   still : (said : Turn) → AreNear lent q → AsksPrimary k b → gone_of b.errand ≡ gone_of a.errand → (IsSome a.errand → 3 * kept_of b.errand + one (client_moved said) ≤ 3 * kept_of a.errand) → Went k number p q a b said
   still said same asks' gone near = (
@@ -148,7 +148,7 @@ module _ {N : Type 0} (k : Start) (none : worker_count k ≡ 0) (number : ℕ) (
 
   -- ---- each turn
 
-  went : (said : Turn) → IsCallerTurn lent q said a b → Went k number p q a b said
+  went : (said : Turn) → IsCallerTurn since upto lent q said a b → Went k number p q a b said
   went (turn.Sent to) (inl h) =
       let idle = ap gone_of h.1.idle in
       let now = ap gone_of h.1.errand in
@@ -211,13 +211,13 @@ module _ {N : Type 0} (k : Start) (none : worker_count k ≡ 0) (number : ℕ) (
 abbrev pub todo : {N : Type 0} → GlobalState N → ℕ
 todo s = 3 * weigh (λ c. kept_of c.errand) s.clients + (2 * length s.rings.requests.primary.items + weigh held s.rings.answers)
 
-module _ {N : Type 0} (k : Start) (s t : GlobalState N) (w : ServesAlone k s) (number : ℕ) (said : Turn) (h : IsClientTurn number s.clients t.clients s.rings t.rings said) (rest : t ≡ record s { clients = t.clients; rings = t.rings }) where
+module _ {N : Type 0} (k : Start) (s t : GlobalState N) (w : ServesAlone k s) (number : ℕ) (said : Turn) (h : IsClientTurn s.seen t.seen number s.clients t.clients s.rings t.rings said) (rest : t ≡ record s { clients = t.clients; rings = t.rings; seen = t.seen }) where
   here : slice_get t.clients number ≡ Some h.goes.is
   here = ap (λ (l : List Caller). slice_get l number) h.goes.stands ∙ set_there s.clients number h.goes.was h.goes.is h.goes.stood
 
   pub client_went : Went k number s.rings t.rings h.goes.was h.goes.is said
   client_went =
-      went k w.none_there number s.rings h.lent t.rings h.quiet h.mine h.goes.was h.goes.is (w.numbers number h.goes.was h.goes.stood) (h.numbers number h.goes.is here) (w.ask number h.goes.was h.goes.stood) w.rings said h.goes.goes
+      went k w.none_there s.seen t.seen number s.rings h.lent t.rings h.quiet h.mine h.goes.was h.goes.is (w.numbers number h.goes.was h.goes.stood) (h.numbers number h.goes.is here) (w.ask number h.goes.was h.goes.stood) w.rings said h.goes.goes
 
   some_caller : (x y : Caller) → Some x ≡ Some y → x ≡ y
   some_caller x y e = cc
@@ -294,7 +294,7 @@ module _ {N : Type 0} (k : Start) (s t : GlobalState N) (w : ServesAlone k s) (n
 
   sent_on : (to : Actor) (stays : Bool) → caller.SentOnGoes Asks Hears IsQuiet IsAskFull HasNoAnswer h.lent to stays t.rings h.goes.was h.goes.is → ⊥
   sent_on to stays g =
-      not_sent_on k w.none_there number s.rings h.lent t.rings h.quiet h.mine h.goes.was h.goes.is a_number b_number (w.ask number h.goes.was h.goes.stood) w.rings to stays g
+      not_sent_on k w.none_there s.seen t.seen number s.rings h.lent t.rings h.quiet h.mine h.goes.was h.goes.is a_number b_number (w.ask number h.goes.was h.goes.stood) w.rings to stays g
 
   -- Where the primary has no request, a client with a request under way does something.
   pub client_moves : s.rings.requests.primary.items ≡ [] → IsSome h.goes.was.errand → client_moved said ≡ false → ⊥
@@ -311,7 +311,7 @@ module _ {N : Type 0} (k : Start) (s t : GlobalState N) (w : ServesAlone k s) (n
           let none = ap length empty in
           omega (arith, f, same, room, none)
 
-      by : (o : Turn) → IsCallerTurn h.lent t.rings o h.goes.was h.goes.is → client_moved o ≡ false → ⊥
+      by : (o : Turn) → IsCallerTurn s.seen t.seen h.lent t.rings o h.goes.was h.goes.is → client_moved o ≡ false → ⊥
       by (turn.Sent to) g e = true≢false e
       by (turn.Resent to) g e = true≢false e
       by turn.Local g e = true≢false e
@@ -320,7 +320,7 @@ module _ {N : Type 0} (k : Start) (s t : GlobalState N) (w : ServesAlone k s) (n
       by (turn.Full to) (inr (inl g)) e = sent_on to true g
       by (turn.Full to) (inr (inr g)) e =
           no_room to
-          (kept_to k w.none_there number s.rings h.lent t.rings h.quiet h.mine h.goes.was h.goes.is a_number b_number (w.ask number h.goes.was h.goes.stood) w.rings to g.1.0 (Some g.1.0) g.0 g.1.1)
+          (kept_to k w.none_there s.seen t.seen number s.rings h.lent t.rings h.quiet h.mine h.goes.was h.goes.is a_number b_number (w.ask number h.goes.was h.goes.stood) w.rings to g.1.0 (Some g.1.0) g.0 g.1.1)
           g.1.2.1
       by turn.Waiting g e =
           let had = ap gone_of g.0.errand ∙ ap unkept g.0.sent in
@@ -340,7 +340,7 @@ module _ {N : Type 0} (k : Start) (s t : GlobalState N) (w : ServesAlone k s) (n
       again : (e : Errand) (r : Asked) → h.goes.was.errand ≡ Some e → e.kept ≡ Some r → record h.goes.was { errand = Some (record e { kept = Some r }) } ≡ h.goes.was
       again e r at kept = λ i. record h.goes.was { errand = ((λ j. Some (record e { kept = sym kept j })) ∙ sym at) i }
 
-      by : (o : Turn) → IsCallerTurn h.lent t.rings o h.goes.was h.goes.is → client_moved o ≡ false → (t.clients ≡ s.clients) × (t.rings.requests.primary ≡ s.rings.requests.primary) × (t.rings.answers ≡ s.rings.answers)
+      by : (o : Turn) → IsCallerTurn s.seen t.seen h.lent t.rings o h.goes.was h.goes.is → client_moved o ≡ false → (t.clients ≡ s.clients) × (t.rings.requests.primary ≡ s.rings.requests.primary) × (t.rings.answers ≡ s.rings.answers)
       by (turn.Sent to) g e = absurd (true≢false e)
       by (turn.Resent to) g e = absurd (true≢false e)
       by turn.Local g e = absurd (true≢false e)

@@ -198,7 +198,7 @@ module _ {N : Type 0} (k : Start) (s t : GlobalState N) (w : ServesAlone k s) wh
       let many : full.0.capacity ≤ length full.0.items = full.2 in
       omega (arith, once, asked, mine, few, room, many)
 
-  module _ (o : PrimaryTurn) (h : IsPrimaryTurn k s.store t.store s.primary t.primary s.rings t.rings o) where
+  module _ (o : PrimaryTurn) (h : IsPrimaryTurn k s.store t.store s.seen t.seen s.primary t.primary s.rings t.rings o) where
     letters_went : (h.goes.sent.stock.home.letters ≡ s.primary.stock.home.letters) × (h.goes.sent.stock.home.owners ≡ s.primary.stock.home.owners) × (h.goes.kept.mid ≡ h.lent)
     letters_went = subst
         (λ (n : ℕ). RingsGo (λ w r m z. Sends r (actor.Worker w) (letter_of m) z) IsQuiet (λ r w. IsLetterFull r (actor.Worker w)) n s.primary.stock.home.letters h.goes.sent.stock.home.letters s.primary.stock.home.owners h.goes.sent.stock.home.owners h.lent h.goes.kept.mid)
@@ -257,7 +257,7 @@ module _ {N : Type 0} (k : Start) (s t : GlobalState N) (w : ServesAlone k s) wh
     at_primary file = primary_owns h.goes.lettered.stock.home.owners file out_lettered.owners
 
     -- the front request
-    front_done : (o : PrimaryTurn) → primary.IsFront Answers IsQuiet IsAnswerFull k.is_visible s.store t.store (client_count k) Gets HasNoRequest h.goes.lettered t.primary h.goes.lettered_by t.rings o → HasServed o
+    front_done : (o : PrimaryTurn) → primary.IsFront Answers IsQuiet IsAnswerFull k.is_visible s.store t.store s.seen t.seen (client_count k) Gets HasNoRequest h.goes.lettered t.primary h.goes.lettered_by t.rings o → HasServed o
     front_done did.Served f = by f.done.served
       where
         lost : HasLost h.goes.lettered_by.requests.primary f.request f.mid.requests.primary × (f.mid.requests.workers.items ≡ h.goes.lettered_by.requests.workers.items)
@@ -317,13 +317,13 @@ module _ {N : Type 0} (k : Start) (s t : GlobalState N) (w : ServesAlone k s) wh
 
     pub primary_did : HasRested o ⊎ HasServed o
     primary_did = by (subst
-        (λ (m : Option PrimaryTurn). primary.IsThen m o h.goes.lettered t.primary h.goes.lettered_by t.rings (primary.IsWorkDone Answers IsQuiet IsAnswerFull k.is_visible s.store t.store (client_count k) Gets HasNoRequest h.goes.lettered t.primary h.goes.lettered_by t.rings o))
+        (λ (m : Option PrimaryTurn). primary.IsThen m o h.goes.lettered t.primary h.goes.lettered_by t.rings (primary.IsWorkDone Answers IsQuiet IsAnswerFull k.is_visible s.store t.store s.seen t.seen (client_count k) Gets HasNoRequest h.goes.lettered t.primary h.goes.lettered_by t.rings o))
         no_letter.1 h.goes.work)
       where
         none_of : (n : ℕ) → n ≡ 0 → client_count k ≤ n → client_count k ≡ 0
         none_of n none low = omega (arith, none, low)
 
-        by : primary.IsWorkDone Answers IsQuiet IsAnswerFull k.is_visible s.store t.store (client_count k) Gets HasNoRequest h.goes.lettered t.primary h.goes.lettered_by t.rings o → HasRested o ⊎ HasServed o
+        by : primary.IsWorkDone Answers IsQuiet IsAnswerFull k.is_visible s.store t.store s.seen t.seen (client_count k) Gets HasNoRequest h.goes.lettered t.primary h.goes.lettered_by t.rings o → HasRested o ⊎ HasServed o
         by (inl x) = nothing_at h.goes.lettered.waiting x.taken.taken.place x.taken.one out_lettered.waiting x.taken.taken.oldest.at
         by (inr (inl x)) = inr (front_done o x)
         by (inr (inr (inl x))) = inl (rested o x.says x.rest (near_quiet h.goes.lettered_by t.rings x.nothing) (inl ((λ i. (sym near_lettered.requests i).items) ∙ none_got h.goes.lettered_by h.goes.lettered_by.server no_ring x.empty)))
@@ -335,7 +335,7 @@ module _ {N : Type 0} (k : Start) (s t : GlobalState N) (w : ServesAlone k s) wh
 
 -- ---- the state behind the primary's turn
 
-module _ {N : Type 0} (k : Start) (s t : GlobalState N) (w : ServesAlone k s) (rest : t ≡ record s { primary = t.primary; rings = t.rings; store = t.store }) where
+module _ {N : Type 0} (k : Start) (s t : GlobalState N) (w : ServesAlone k s) (rest : t ≡ record s { primary = t.primary; rings = t.rings; seen = t.seen; store = t.store }) where
   module _ (out : HasNothingOut t.primary) (near : AreNear s.rings t.rings) where
     pub rested_then : ServesAlone k t
     rested_then = subst (ServesAlone k) (sym rest) (record {
@@ -459,7 +459,7 @@ module _ {N : Type 0} (k : Start) (s t : GlobalState N) (w : ServesAlone k s) (r
         let long = ap length pushed ∙ length_push d.gained.was.items d.answer in
         omega (arith, held_same, less, sum, more, long)
 
-  module _ (o : PrimaryTurn) (h : IsPrimaryTurn k s.store t.store s.primary t.primary s.rings t.rings o) where
+  module _ (o : PrimaryTurn) (h : IsPrimaryTurn k s.store t.store s.seen t.seen s.primary t.primary s.rings t.rings o) where
     pub primary_then : ServesAlone k t
     primary_then = ⊎_elim (λ (r : HasRested k s t w o). rested_then r.out r.rings) (λ (d : HasServed k s t w o). served_then o d) (primary_did k s t w o h)
 

@@ -57,9 +57,9 @@ but_more client a b c ab bc place z other at =
 
 -- ---- a client's turn
 
-module _ {N : Type 0} (p q : Rings N) (a b : Caller) where
+module _ {N : Type 0} (since upto : ℕ) (p q : Rings N) (a b : Caller) where
   -- with a request under way it asks no new one
-  left_same : (o : Turn) → IsCallerTurn p q o a b → (e : Errand) → a.errand ≡ Some e → b.left ≡ a.left
+  left_same : (o : Turn) → IsCallerTurn since upto p q o a b → (e : Errand) → a.errand ≡ Some e → b.left ≡ a.left
   left_same (turn.Sent to) (inl h) e is = clash a.errand e h.1.idle is
   left_same (turn.Sent to) (inr h) e is = ap (λ (c : Caller). c.left) h.1.all
   left_same (turn.Resent to) (inl h) e is = h.5.left
@@ -76,7 +76,7 @@ module _ {N : Type 0} (p q : Rings N) (a b : Caller) where
   fewer request left rest is = let long = ap (λ (l : List Op). length l) is in omega (arith, long)
 
   -- with none it asks the next one, where it isn't done
-  asks_next : (o : Turn) → IsCallerTurn p q o a b → a.errand ≡ None → (o ≡ turn.Done → ⊥) → length b.left < length a.left
+  asks_next : (o : Turn) → IsCallerTurn since upto p q o a b → a.errand ≡ None → (o ≡ turn.Done → ⊥) → length b.left < length a.left
   asks_next (turn.Sent to) (inl h) idle more = fewer h.1.request a.left b.left h.1.next
   asks_next (turn.Sent to) (inr h) idle more = clash a.errand h.1.e idle h.1.errand
   asks_next (turn.Resent to) (inl h) idle more = clash a.errand h.5.e idle h.5.errand
@@ -89,7 +89,7 @@ module _ {N : Type 0} (p q : Rings N) (a b : Caller) where
   asks_next turn.Waiting h idle more = clash a.errand h.0.e idle h.0.errand
   asks_next turn.Done h idle more = absurd (more refl)
 
-module _ {N : Type 0} (number : ℕ) (old new : List Caller) (p q : Rings N) (o : Turn) (h : IsClientTurn number old new p q o) where
+module _ {N : Type 0} {since upto : ℕ} (number : ℕ) (old new : List Caller) (p q : Rings N) (o : Turn) (h : IsClientTurn since upto number old new p q o) where
   -- who stands there now
   pub there_now : (place : ℕ) (d : Caller) → slice_get new place ≡ Some d → ((place ≡ number) × (h.goes.is ≡ d)) ⊎ (slice_get old place ≡ Some d)
   there_now place d at = get_set old number place h.goes.is d (sym (ap (λ (l : List Caller). slice_get l place) h.goes.stands) ∙ at)
@@ -109,16 +109,16 @@ module _ {N : Type 0} (number : ℕ) (old new : List Caller) (p q : Rings N) (o 
         h.goes.was,
         ap (slice_get old) x.0 ∙ h.goes.stood,
         record {
-          left = ap (λ (c : Caller). c.left) (sym x.1) ∙ left_same h.lent q h.goes.was h.goes.is o h.goes.goes e one;
+          left = ap (λ (c : Caller). c.left) (sym x.1) ∙ left_same since upto h.lent q h.goes.was h.goes.is o h.goes.goes e one;
           still = λ idle. clash h.goes.was.errand e idle one;
         },
       )
 
   -- one that is done is as it was
   pub done_same : o ≡ turn.Done → (new ≡ old) × IsOverAt number old
-  done_same is = by (subst (λ (t : Turn). IsCallerTurn h.lent q t h.goes.was h.goes.is) is h.goes.goes)
+  done_same is = by (subst (λ (t : Turn). IsCallerTurn since upto h.lent q t h.goes.was h.goes.is) is h.goes.goes)
     where
-      by : IsCallerTurn h.lent q turn.Done h.goes.was h.goes.is → (new ≡ old) × IsOverAt number old
+      by : IsCallerTurn since upto h.lent q turn.Done h.goes.was h.goes.is → (new ≡ old) × IsOverAt number old
       by g = (
         h.goes.stands ∙ ap (λ (c : Caller). set old number c) g.0.all ∙ set_same old number h.goes.was h.goes.stood,
         λ c at. let same = some_same c h.goes.was (sym at ∙ h.goes.stood) in subst (λ (x : Caller). (x.errand ≡ None) × (x.left ≡ [])) (sym same) (g.0.idle, g.0.left),
@@ -134,12 +134,12 @@ abbrev pub left_at : List Caller → ℕ → ℕ
 left_at clients client = left_in (slice_get clients client)
 
 -- Where nobody asked since, fewer are left than before it asked.
-module _ {N : Type 0} (number : ℕ) (old new then : List Caller) (p q : Rings N) (o : Turn) (h : IsClientTurn number old new p q o) where
+module _ {N : Type 0} {since upto : ℕ} (number : ℕ) (old new then : List Caller) (p q : Rings N) (o : Turn) (h : IsClientTurn since upto number old new p q o) where
   pub left_fewer : AreIdle old → (o ≡ turn.Done → ⊥) → NobodyAsked new then → left_at then number < left_at old number
   left_fewer idle more asked = subst (λ (n : ℕ). left_at then number < n) (sym (ap left_in h.goes.stood)) (by (slice_get then number) refl)
     where
       less : length h.goes.is.left < length h.goes.was.left
-      less = asks_next h.lent q h.goes.was h.goes.is o h.goes.goes (idle number h.goes.was h.goes.stood) more
+      less = asks_next since upto h.lent q h.goes.was h.goes.is o h.goes.goes (idle number h.goes.was h.goes.stood) more
 
       by : (c : Option Caller) → slice_get then number ≡ c → left_in (slice_get then number) < length h.goes.was.left
       by None at = subst (λ (c : Option Caller). left_in c < length h.goes.was.left) (sym at) (omega (arith, less))

@@ -51,29 +51,29 @@ module _ {A P R : Type 0} (f : P → R) (sends : R → A → R → Type 0) (same
 module _ {N P : Type 0} (f : P → Rings N) where
   -- ---- a client
 
-  pub client_turn : (p q : P) (o : Turn) (a b : Caller)
-      → caller.IsTurn (λ r to x s. Asks (f r) to x (f s)) (λ r x s. Hears (f r) x (f s)) (λ r s. IsQuiet (f r) (f s)) (λ r to. IsAskFull (f r) to) (λ r. HasNoAnswer (f r)) p q a o b
-      → IsCallerTurn (f p) (f q) o a b
-  client_turn p q (turn.Sent to) a b h = h
-  client_turn p q (turn.Resent to) a b (inl h) = inl (h.0, h.1, f h.2, h.3, h.4, h.5, h.6)
-  client_turn p q (turn.Resent to) a b (inr h) = inr h
-  client_turn p q turn.Local a b h = (h.0, ap f h.1)
-  client_turn p q turn.Told a b h = h
-  client_turn p q (turn.Full to) a b (inl h) = inl h
-  client_turn p q (turn.Full to) a b (inr (inl h)) = inr (inl (h.0, h.1, f h.2, h.3, h.4, h.5, h.6))
-  client_turn p q (turn.Full to) a b (inr (inr h)) = inr (inr h)
-  client_turn p q turn.Waiting a b h = h
-  client_turn p q turn.Done a b h = (h.0, ap f h.1)
+  pub client_turn : (since upto : ℕ) (p q : P) (o : Turn) (a b : Caller)
+      → caller.IsTurn (λ r to x s. Asks (f r) to x (f s)) (λ r x s. Hears (f r) x (f s)) (λ r s. IsQuiet (f r) (f s)) (λ r to. IsAskFull (f r) to) (λ r. HasNoAnswer (f r)) since upto p q a o b
+      → IsCallerTurn since upto (f p) (f q) o a b
+  client_turn since upto p q (turn.Sent to) a b h = h
+  client_turn since upto p q (turn.Resent to) a b (inl h) = inl (h.0, h.1, f h.2, h.3, h.4, h.5, h.6)
+  client_turn since upto p q (turn.Resent to) a b (inr h) = inr h
+  client_turn since upto p q turn.Local a b h = (h.0, ap f h.1)
+  client_turn since upto p q turn.Told a b h = h
+  client_turn since upto p q (turn.Full to) a b (inl h) = inl h
+  client_turn since upto p q (turn.Full to) a b (inr (inl h)) = inr (inl (h.0, h.1, f h.2, h.3, h.4, h.5, h.6))
+  client_turn since upto p q (turn.Full to) a b (inr (inr h)) = inr (inr h)
+  client_turn since upto p q turn.Waiting a b h = h
+  client_turn since upto p q turn.Done a b h = (h.0, ap f h.1)
 
-  pub client_goes : (p q : P) (o : Turn) (old new : List Caller) (place number : ℕ) → place ≡ number
-      → GoesOnAt (λ a b. caller.IsTurn (λ r to x s. Asks (f r) to x (f s)) (λ r x s. Hears (f r) x (f s)) (λ r s. IsQuiet (f r) (f s)) (λ r to. IsAskFull (f r) to) (λ r. HasNoAnswer (f r)) p q a o b) old place new
-      → GoesOnAt (IsCallerTurn (f p) (f q) o) old number new
-  client_goes p q o old new place number is h = record {
+  pub client_goes : (since upto : ℕ) (p q : P) (o : Turn) (old new : List Caller) (place number : ℕ) → place ≡ number
+      → GoesOnAt (λ a b. caller.IsTurn (λ r to x s. Asks (f r) to x (f s)) (λ r x s. Hears (f r) x (f s)) (λ r s. IsQuiet (f r) (f s)) (λ r to. IsAskFull (f r) to) (λ r. HasNoAnswer (f r)) since upto p q a o b) old place new
+      → GoesOnAt (IsCallerTurn since upto (f p) (f q) o) old number new
+  client_goes since upto p q o old new place number is h = record {
     was = h.was;
     is = h.is;
     stood = ap (slice_get old) (sym is) ∙ h.stood;
     stands = h.stands ∙ ap (λ (i : ℕ). set old i h.is) is;
-    goes = client_turn p q o h.was h.is h.goes;
+    goes = client_turn since upto p q o h.was h.is h.goes;
   }
 
   -- ---- a worker
@@ -135,26 +135,26 @@ module _ {N P : Type 0} (f : P → Rings N) where
   worker_front None w v p q t (inl h) = inl h
   worker_front None w v p q t (inr h) = inr (h.0, f h.1, h.2, letter_done w v h.0 h.1 q t h.3)
 
-  worker_request : (visible : Bool) (before after : Option View) (o : Option FileCell) (w v : WorkerState) (r : Asked) (file : ℕ) (p q : P) (t : WorkerTurn)
-      → worker.IsRequestDone answers_s same_s full_s visible before after o w v r file p q t → worker.IsRequestDone Answers IsQuiet IsAnswerFull visible before after o w v r file (f p) (f q) t
-  worker_request visible before after None w v r file p q t h = (h.0, h.1, answered _ v.answers p q h.2)
-  worker_request visible before after (Some c) w v r file p q t h = (h.0, (h.1.0, h.1.1, h.1.2, h.1.3, answered _ v.answers p q h.1.4))
+  worker_request : (visible : Bool) (before after : Option View) (since upto : ℕ) (o : Option FileCell) (w v : WorkerState) (r : Asked) (file : ℕ) (p q : P) (t : WorkerTurn)
+      → worker.IsRequestDone answers_s same_s full_s visible before after since upto o w v r file p q t → worker.IsRequestDone Answers IsQuiet IsAnswerFull visible before after since upto o w v r file (f p) (f q) t
+  worker_request visible before after since upto None w v r file p q t h = (h.0, h.1, answered _ v.answers p q h.2)
+  worker_request visible before after since upto (Some c) w v r file p q t h = (h.0, (h.1.0, h.1.1, h.1.2, h.1.3, h.1.4, answered _ v.answers p q h.1.5))
 
-  worker_asked : (visible : Bool) (before after : Option View) (w v : WorkerState) (p q : P) (t : WorkerTurn)
-      → worker.IsAskDone answers_s same_s full_s gets_s none_got visible before after w v p q t → worker.IsAskDone Answers IsQuiet IsAnswerFull Gets HasNoRequest visible before after w v (f p) (f q) t
-  worker_asked visible before after w v p q t (inl h) = inl (h.0, h.1, f h.2, h.3, h.4, worker_request visible before after (fin.get w.files h.1) w v h.0 h.1 h.2 q t h.5)
-  worker_asked visible before after w v p q t (inr (inl h)) = inr (inl h)
-  worker_asked visible before after w v p q t (inr (inr h)) = inr (inr (h.0, h.1, h.2, ap f h.3))
+  worker_asked : (visible : Bool) (before after : Option View) (since upto : ℕ) (w v : WorkerState) (p q : P) (t : WorkerTurn)
+      → worker.IsAskDone answers_s same_s full_s gets_s none_got visible before after since upto w v p q t → worker.IsAskDone Answers IsQuiet IsAnswerFull Gets HasNoRequest visible before after since upto w v (f p) (f q) t
+  worker_asked visible before after since upto w v p q t (inl h) = inl (h.0, h.1, f h.2, h.3, h.4, worker_request visible before after since upto (fin.get w.files h.1) w v h.0 h.1 h.2 q t h.5)
+  worker_asked visible before after since upto w v p q t (inr (inl h)) = inr (inl h)
+  worker_asked visible before after since upto w v p q t (inr (inr h)) = inr (inr (h.0, h.1, h.2, ap f h.3))
 
-  worker_then : (visible : Bool) (before after : Option View) (made : Option WorkerTurn) (o : WorkerTurn) (w v : WorkerState) (p q : P)
-      → worker.IsThen made o w v p q (worker.IsAskDone answers_s same_s full_s gets_s none_got visible before after w v p q o)
-      → worker.IsThen made o w v (f p) (f q) (worker.IsAskDone Answers IsQuiet IsAnswerFull Gets HasNoRequest visible before after w v (f p) (f q) o)
-  worker_then visible before after (Some made) o w v p q h = (h.0, h.1, ap f h.2)
-  worker_then visible before after None o w v p q h = worker_asked visible before after w v p q o h
+  worker_then : (visible : Bool) (before after : Option View) (since upto : ℕ) (made : Option WorkerTurn) (o : WorkerTurn) (w v : WorkerState) (p q : P)
+      → worker.IsThen made o w v p q (worker.IsAskDone answers_s same_s full_s gets_s none_got visible before after since upto w v p q o)
+      → worker.IsThen made o w v (f p) (f q) (worker.IsAskDone Answers IsQuiet IsAnswerFull Gets HasNoRequest visible before after since upto w v (f p) (f q) o)
+  worker_then visible before after since upto (Some made) o w v p q h = (h.0, h.1, ap f h.2)
+  worker_then visible before after since upto None o w v p q h = worker_asked visible before after since upto w v p q o h
 
-  pub worker_turn : (visible : Bool) (before after : Option View) (w v : WorkerState) (p q : P) (o : WorkerTurn)
-      → worker.IsTurn sends_w full_w answers_s full_s same_s reads_s none_read gets_s none_got visible before after w v p q o → IsServerTurn visible before after (f p) (f q) o w v
-  worker_turn visible before after w v p q o h = record {
+  pub worker_turn : (visible : Bool) (before after : Option View) (since upto : ℕ) (w v : WorkerState) (p q : P) (o : WorkerTurn)
+      → worker.IsTurn sends_w full_w answers_s full_s same_s reads_s none_read gets_s none_got visible before after since upto w v p q o → IsServerTurn visible before after since upto (f p) (f q) o w v
+  worker_turn visible before after since upto w v p q o h = record {
     sent = h.sent;
     sent_by = f h.sent_by;
     kept = record { mid = f h.kept.mid; letters = sent_w w.letters h.sent.letters p h.kept.mid h.kept.letters; answer = answered w.answers h.sent.answers h.kept.mid h.sent_by h.kept.answer; rest = h.kept.rest };
@@ -162,13 +162,13 @@ module _ {N P : Type 0} (f : P → Rings N) where
     lettered_by = f h.lettered_by;
     made = h.made;
     letter = worker_front h.sent.coming h.sent h.lettered h.sent_by h.lettered_by h.made h.letter;
-    work = worker_then visible before after h.made o h.lettered v h.lettered_by q h.work;
+    work = worker_then visible before after since upto h.made o h.lettered v h.lettered_by q h.work;
   }
 
-  pub worker_goes : (visible : Bool) (before after : Option View) (p q : P) (o : WorkerTurn) (old new : List WorkerState) (place : ℕ)
-      → GoesOnAt (λ w v. worker.IsTurn sends_w full_w answers_s full_s same_s reads_s none_read gets_s none_got visible before after w v p q o) old place new
-      → GoesOnAt (IsServerTurn visible before after (f p) (f q) o) old place new
-  worker_goes visible before after p q o old new place h = record { was = h.was; is = h.is; stood = h.stood; stands = h.stands; goes = worker_turn visible before after h.was h.is p q o h.goes }
+  pub worker_goes : (visible : Bool) (before after : Option View) (since upto : ℕ) (p q : P) (o : WorkerTurn) (old new : List WorkerState) (place : ℕ)
+      → GoesOnAt (λ w v. worker.IsTurn sends_w full_w answers_s full_s same_s reads_s none_read gets_s none_got visible before after since upto w v p q o) old place new
+      → GoesOnAt (IsServerTurn visible before after since upto (f p) (f q) o) old place new
+  worker_goes visible before after since upto p q o old new place h = record { was = h.was; is = h.is; stood = h.stood; stands = h.stands; goes = worker_turn visible before after since upto h.was h.is p q o h.goes }
 
   -- ---- the primary
 
@@ -202,42 +202,44 @@ module _ {N P : Type 0} (f : P → Rings N) where
   primary_front (Some c) h g waits p q t is = (is.0, ap f is.1)
   primary_front None h g waits p q t is = is
 
-  primary_request : (visible : Bool) (before after : Option View) (s t : PrimaryState) (r : Asked) (p q : P) (o : PrimaryTurn) → primary.IsRequestDone answers_s same_s full_s visible before after s t r p q o
-      → primary.IsRequestDone Answers IsQuiet IsAnswerFull visible before after s t r (f p) (f q) o
-  primary_request visible before after s t r p q did.Served h = record { told = h.told; served = h.served; answer = answered _ t.answers p q h.answer; rest = h.rest }
-  primary_request visible before after s t r p q (did.Redirected file) h = record {
+  primary_request : (visible : Bool) (before after : Option View) (since upto : ℕ) (s t : PrimaryState) (r : Asked) (p q : P) (o : PrimaryTurn) → primary.IsRequestDone answers_s same_s full_s visible before after since upto s t r p q o
+      → primary.IsRequestDone Answers IsQuiet IsAnswerFull visible before after since upto s t r (f p) (f q) o
+  primary_request visible before after since upto s t r p q did.Served h = record { told = h.told; served = h.served; drawn = h.drawn; answer = answered _ t.answers p q h.answer; rest = h.rest }
+  primary_request visible before after since upto s t r p q (did.Redirected file) h = record {
     kind = h.kind;
     hinted = h.hinted;
     away = h.away;
     worker = h.worker;
     has = h.has;
+    asked = h.asked;
+    still = h.still;
     answer = answered _ t.answers p q h.answer;
     rest = h.rest;
   }
-  primary_request visible before after s t r p q (did.Waiting file) h = record { cause = h.cause; asked = h.asked; still = h.still; put = h.put; nothing = ap f h.nothing; rest = h.rest }
-  primary_request visible before after s t r p q did.Settled h = absurd h
-  primary_request visible before after s t r p q did.Noted h = absurd h
-  primary_request visible before after s t r p q did.Idle h = absurd h
-  primary_request visible before after s t r p q (did.Lack what) h = absurd h
+  primary_request visible before after since upto s t r p q (did.Waiting file) h = record { cause = h.cause; asked = h.asked; still = h.still; put = h.put; nothing = ap f h.nothing; rest = h.rest }
+  primary_request visible before after since upto s t r p q did.Settled h = absurd h
+  primary_request visible before after since upto s t r p q did.Noted h = absurd h
+  primary_request visible before after since upto s t r p q did.Idle h = absurd h
+  primary_request visible before after since upto s t r p q (did.Lack what) h = absurd h
 
-  primary_worked : (visible : Bool) (before after : Option View) (clients : ℕ) (s t : PrimaryState) (p q : P) (o : PrimaryTurn) → primary.IsWorkDone answers_s same_s full_s visible before after clients gets_s none_got s t p q o
-      → primary.IsWorkDone Answers IsQuiet IsAnswerFull visible before after clients Gets HasNoRequest s t (f p) (f q) o
-  primary_worked visible before after clients s t p q o (inl h) =
-      inl (record { request = h.request; left = h.left; then = h.then; taken = h.taken; done = primary_request visible before after (record s { stock = h.then; waiting = h.left }) t h.request p q o h.done })
-  primary_worked visible before after clients s t p q o (inr (inl h)) =
-      inr (inl (record { wait = h.wait; request = h.request; mid = f h.mid; came = h.came; done = primary_request visible before after s t h.request h.mid q o h.done }))
-  primary_worked visible before after clients s t p q o (inr (inr (inl h))) = inr (inr (inl (record { wait = h.wait; empty = h.empty; nothing = h.nothing; says = h.says; rest = h.rest })))
-  primary_worked visible before after clients s t p q o (inr (inr (inr h))) = inr (inr (inr (record { many = h.many; nothing = ap f h.nothing; says = h.says; rest = h.rest })))
+  primary_worked : (visible : Bool) (before after : Option View) (since upto : ℕ) (clients : ℕ) (s t : PrimaryState) (p q : P) (o : PrimaryTurn) → primary.IsWorkDone answers_s same_s full_s visible before after since upto clients gets_s none_got s t p q o
+      → primary.IsWorkDone Answers IsQuiet IsAnswerFull visible before after since upto clients Gets HasNoRequest s t (f p) (f q) o
+  primary_worked visible before after since upto clients s t p q o (inl h) =
+      inl (record { request = h.request; left = h.left; then = h.then; taken = h.taken; done = primary_request visible before after since upto (record s { stock = h.then; waiting = h.left }) t h.request p q o h.done })
+  primary_worked visible before after since upto clients s t p q o (inr (inl h)) =
+      inr (inl (record { wait = h.wait; request = h.request; mid = f h.mid; came = h.came; done = primary_request visible before after since upto s t h.request h.mid q o h.done }))
+  primary_worked visible before after since upto clients s t p q o (inr (inr (inl h))) = inr (inr (inl (record { wait = h.wait; empty = h.empty; nothing = h.nothing; says = h.says; rest = h.rest })))
+  primary_worked visible before after since upto clients s t p q o (inr (inr (inr h))) = inr (inr (inr (record { many = h.many; nothing = ap f h.nothing; says = h.says; rest = h.rest })))
 
-  primary_then : (visible : Bool) (before after : Option View) (clients : ℕ) (made : Option PrimaryTurn) (o : PrimaryTurn) (s t : PrimaryState) (p q : P)
-      → primary.IsThen made o s t p q (primary.IsWorkDone answers_s same_s full_s visible before after clients gets_s none_got s t p q o)
-      → primary.IsThen made o s t (f p) (f q) (primary.IsWorkDone Answers IsQuiet IsAnswerFull visible before after clients Gets HasNoRequest s t (f p) (f q) o)
-  primary_then visible before after clients (Some made) o s t p q h = (h.0, h.1, ap f h.2)
-  primary_then visible before after clients None o s t p q h = primary_worked visible before after clients s t p q o h
+  primary_then : (visible : Bool) (before after : Option View) (since upto : ℕ) (clients : ℕ) (made : Option PrimaryTurn) (o : PrimaryTurn) (s t : PrimaryState) (p q : P)
+      → primary.IsThen made o s t p q (primary.IsWorkDone answers_s same_s full_s visible before after since upto clients gets_s none_got s t p q o)
+      → primary.IsThen made o s t (f p) (f q) (primary.IsWorkDone Answers IsQuiet IsAnswerFull visible before after since upto clients Gets HasNoRequest s t (f p) (f q) o)
+  primary_then visible before after since upto clients (Some made) o s t p q h = (h.0, h.1, ap f h.2)
+  primary_then visible before after since upto clients None o s t p q h = primary_worked visible before after since upto clients s t p q o h
 
-  pub primary_turn : (k : Start) (before after : Option View) (s t : PrimaryState) (p q : P) (o : PrimaryTurn)
-      → primary.IsTurn sends_p full_p answers_s full_s same_s (worker_count k) (client_count k) reads_s none_read gets_s none_got k.is_visible before after s t p q o → IsFirstTurn k before after (f p) (f q) o s t
-  primary_turn k before after s t p q o h = record {
+  pub primary_turn : (k : Start) (before after : Option View) (since upto : ℕ) (s t : PrimaryState) (p q : P) (o : PrimaryTurn)
+      → primary.IsTurn sends_p full_p answers_s full_s same_s (worker_count k) (client_count k) reads_s none_read gets_s none_got k.is_visible before after since upto s t p q o → IsFirstTurn k before after since upto (f p) (f q) o s t
+  primary_turn k before after since upto s t p q o h = record {
     sent = h.sent;
     sent_by = f h.sent_by;
     kept = record {
@@ -251,5 +253,5 @@ module _ {N P : Type 0} (f : P → Rings N) where
     lettered_by = f h.lettered_by;
     made = h.made;
     letter = record { front = primary_front h.sent.coming h.sent.stock.home h.lettered.stock.home h.lettered.coming h.sent_by h.lettered_by h.made h.letter.front; rest = h.letter.rest };
-    work = primary_then k.is_visible before after (client_count k) h.made o h.lettered t h.lettered_by q h.work;
+    work = primary_then k.is_visible before after since upto (client_count k) h.made o h.lettered t h.lettered_by q h.work;
   }

@@ -37,8 +37,8 @@ module _ {N : Type 0} (k : Start) (s t : GlobalState N) where
   pub record IsOfClient (number : ℕ) (o : Turned) : Type 0 where
     pub said : Turn
     pub is : o ≡ turned.Client said
-    pub turn : IsClientTurn number s.clients t.clients s.rings t.rings said
-    pub rest : t ≡ record s { clients = t.clients; rings = t.rings }
+    pub turn : IsClientTurn s.seen t.seen number s.clients t.clients s.rings t.rings said
+    pub rest : t ≡ record s { clients = t.clients; rings = t.rings; seen = t.seen }
 
   pub of_client : (number : ℕ) (o : Turned) → IsTurnOf k (actor.Client number) s t o → IsOfClient number o
   of_client number (turned.Client o) h = record { said = o; is = refl; turn = h.0; rest = h.1 }
@@ -80,7 +80,7 @@ workers_next place number o steps is had worker low high = by (dec_le worker pla
         subst (λ (n : ℕ). HadTurn (actor.Worker n) (steps ++ TurnOf (actor.Worker number) o ∷ [])) same (had_behind (actor.Worker number) steps (TurnOf (actor.Worker number) o ∷ []) (had_one (actor.Worker number) o))
 
 -- the client at this place had its turn
-pub clients_next : {N : Type 0} (place number : ℕ) (old new : List Caller) (p q : Rings N) (said : Turn) (o : Turned) (steps : List Step) → number ≡ place → IsClientTurn number old new p q said
+pub clients_next : {N : Type 0} {since upto : ℕ} (place number : ℕ) (old new : List Caller) (p q : Rings N) (said : Turn) (o : Turned) (steps : List Step) → number ≡ place → IsClientTurn since upto number old new p q said
     → ClientsHad place old steps → ClientsHad (place + 1) new (steps ++ TurnOf (actor.Client number) o ∷ [])
 clients_next place number old new p q said o steps is h had i d low at some = by (dec_le (suc i) place)
   where

@@ -1,5 +1,5 @@
 -- A client's script is the same behind each of its turns.
-use Rattle.std.proofs.Common.{◌≡◌, inl, inr, Bool, true, false, List, [], ◌∷◌, ◌++◌, append_assoc, map, Option, Some, None, ap, sym, refl, ◌∙◌}
+use Rattle.std.proofs.Common.{◌≡◌, inl, inr, ℕ, Bool, true, false, List, [], ◌∷◌, ◌++◌, append_assoc, map, Option, Some, None, ap, sym, refl, ◌∙◌}
 use Rattle.ufs_caller.specs.Callers.{Caller, Errand, entries_in}
 use Rattle.ufs_caller.specs.Turns.{AnswersItself, IsAnswered, IsTurn, Sends, SendsOn, TriesAgain}
 use Rattle.ufs_caller.specs.declared.told.Told.{Told}
@@ -34,8 +34,8 @@ module _ (a b : Caller) where
   sends : (to : Actor) (r : Asked) (kept : Option Asked) → Sends to r kept a b → script_of b ≡ script_of a
   sends to r kept s = (λ i. script (s.told i) (s.errand i) b.left) ∙ (λ i. script a.told (sym s.idle i) (sym s.next i))
 
-  answers_itself : AnswersItself a b → script_of b ≡ script_of a
-  answers_itself s =
+  answers_itself : (since upto : ℕ) → AnswersItself since upto a b → script_of b ≡ script_of a
+  answers_itself since upto s =
       let t : Told = record { entry = s.entry; via = [] } in
       (λ i. script (s.told i) (s.idle' i) b.left)
       ∙ told_next a.told t s.request b.left s.asked
@@ -54,13 +54,13 @@ module _ (a b : Caller) where
       ∙ told_next a.told t s.e.request a.left s.asked
       ∙ (λ i. script a.told (sym s.errand i) a.left)
 
-module _ {P N : Type 0} (asks : P → Actor → Asked → P → Type 0) (gets : P → Answer N → P → Type 0) (same : P → P → Type 0) (full : P → Actor → Type 0) (empty : P → Type 0) (p q : P) (a b : Caller) where
-  pub same_script : (t : Turn) → IsTurn asks gets same full empty p q a t b → script_of b ≡ script_of a
+module _ {P N : Type 0} (asks : P → Actor → Asked → P → Type 0) (gets : P → Answer N → P → Type 0) (same : P → P → Type 0) (full : P → Actor → Type 0) (empty : P → Type 0) (since upto : ℕ) (p q : P) (a b : Caller) where
+  pub same_script : (t : Turn) → IsTurn asks gets same full empty since upto p q a t b → script_of b ≡ script_of a
   same_script (turn.Sent to) (inl x) = sends a b to x.0 None x.1
   same_script (turn.Sent to) (inr x) = tries_again a b to x.0 None false x.1
   same_script (turn.Resent to) (inl x) = sends_on a b x.0 x.1 None x.5
   same_script (turn.Resent to) (inr x) = tries_again a b to x.0 None true x.1
-  same_script turn.Local x = answers_itself a b x.0
+  same_script turn.Local x = answers_itself a b since upto x.0
   same_script turn.Told x = is_answered a b x.0 x.2
   same_script (turn.Full to) (inl x) = sends a b to x.0 (Some x.0) x.1
   same_script (turn.Full to) (inr (inl x)) = sends_on a b x.0 x.1 (Some x.1) x.5

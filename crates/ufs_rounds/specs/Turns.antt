@@ -3,6 +3,7 @@ use Rattle.std.specs.Prelude.{ℕ, ◌+◌, ◌≡◌, ◌≢◌, Bool, List, Op
 use Rattle.ufs_caller.specs.Callers.{Caller}
 use Rattle.ufs_caller.specs.Turns as caller
 use Rattle.ufs_caller.specs.declared.turn.Turn.{Turn}
+use Rattle.ufs_caller.specs.declared.turn.Turn.TheVariants as client_turn
 use Rattle.ufs_home.specs.Letters.{letter_of}
 use Rattle.ufs_joint.specs.Cells.{Start, View}
 use Rattle.ufs_model.specs.declared.data.Actor.{Actor}
@@ -29,6 +30,8 @@ pub record GlobalState (N : Type 0) : Type 0 where
   pub workers : List WorkerState
   pub primary : PrimaryState
   pub rings : Rings N
+  -- how many tickets the baton has seen, which goes from turn to turn
+  pub seen : ℕ
   -- the store's cell, where the way to it tells that
   pub store : Option View
 
@@ -42,54 +45,58 @@ module _ {A : Type 0} where
     pub goes : so was is
 
 module _ {N : Type 0} where
-  abbrev pub state_of : List Caller → List WorkerState → PrimaryState → Rings N → Option View → GlobalState N
-  state_of clients workers primary rings store = record { clients = clients; workers = workers; primary = primary; rings = rings; store = store }
+  abbrev pub state_of : List Caller → List WorkerState → PrimaryState → Rings N → ℕ → Option View → GlobalState N
+  state_of clients workers primary rings seen store = record { clients = clients; workers = workers; primary = primary; rings = rings; seen = seen; store = store }
 
   -- ---- each actor, by the rings that are lent to it
 
-  abbrev pub IsCallerTurn : Rings N → Rings N → Turn → Caller → Caller → Type 0
-  IsCallerTurn p q o a b = caller.IsTurn Asks Hears IsQuiet IsAskFull HasNoAnswer p q a o b
+  abbrev pub IsCallerTurn : (since upto : ℕ) → Rings N → Rings N → Turn → Caller → Caller → Type 0
+  IsCallerTurn since upto p q o a b = caller.IsTurn Asks Hears IsQuiet IsAskFull HasNoAnswer since upto p q a o b
 
-  abbrev pub IsServerTurn : Bool → Option View → Option View → Rings N → Rings N → WorkerTurn → WorkerState → WorkerState → Type 0
-  IsServerTurn visible before after p q o w v = worker.IsTurn (λ r c s. Sends r actor.Primary (letter.Parcel c) s) (λ r c. IsLetterFull r actor.Primary) Answers IsAnswerFull IsQuiet Reads HasNoLetter Gets HasNoRequest
-      visible before after w v p q o
+  abbrev pub IsServerTurn : Bool → Option View → Option View → (since upto : ℕ) → Rings N → Rings N → WorkerTurn → WorkerState → WorkerState → Type 0
+  IsServerTurn visible before after since upto p q o w v = worker.IsTurn (λ r c s. Sends r actor.Primary (letter.Parcel c) s) (λ r c. IsLetterFull r actor.Primary) Answers IsAnswerFull IsQuiet Reads HasNoLetter Gets HasNoRequest
+      visible before after since upto w v p q o
 
-  abbrev pub IsFirstTurn : Start → Option View → Option View → Rings N → Rings N → PrimaryTurn → PrimaryState → PrimaryState → Type 0
-  IsFirstTurn k before after p q o s t = primary.IsTurn (λ w r m z. Sends r (actor.Worker w) (letter_of m) z) (λ r w. IsLetterFull r (actor.Worker w)) Answers IsAnswerFull IsQuiet (worker_count k) (client_count k) Reads HasNoLetter Gets HasNoRequest
-      k.is_visible before after s t p q o
+  abbrev pub IsFirstTurn : Start → Option View → Option View → (since upto : ℕ) → Rings N → Rings N → PrimaryTurn → PrimaryState → PrimaryState → Type 0
+  IsFirstTurn k before after since upto p q o s t = primary.IsTurn (λ w r m z. Sends r (actor.Worker w) (letter_of m) z) (λ r w. IsLetterFull r (actor.Worker w)) Answers IsAnswerFull IsQuiet (worker_count k) (client_count k) Reads HasNoLetter Gets HasNoRequest
+      k.is_visible before after since upto s t p q o
 
-  -- The rings are lent to the client, whose turn it is. It keeps its number.
-  pub record IsClientTurn (number : ℕ) (old new : List Caller) (p q : Rings N) (o : Turn) : Type 0 where
+  -- The rings are lent to the client, whose turn it is, and the baton: that has seen more only where it answered a request itself. It keeps
+  -- its number.
+  pub record IsClientTurn (since upto number : ℕ) (old new : List Caller) (p q : Rings N) (o : Turn) : Type 0 where
     pub lent : Rings N
     pub quiet : IsQuiet p lent
     pub mine : lent.client ≡ number
-    pub goes : GoesOnAt (IsCallerTurn lent q o) old number new
+    pub goes : GoesOnAt (IsCallerTurn since upto lent q o) old number new
     pub numbers : AreClients new
+    pub seen : o ≢ client_turn.Local → upto ≡ since
 
-  -- The same of a worker, from 1 on. It comes to the store only where it serves.
-  pub record IsWorkerTurn (visible : Bool) (before after : Option View) (number : ℕ) (old new : List WorkerState) (p q : Rings N) (o : WorkerTurn) : Type 0 where
+  -- The same of a worker, from 1 on. It comes to the store, and draws an entry, only where it serves.
+  pub record IsWorkerTurn (visible : Bool) (before after : Option View) (since upto number : ℕ) (old new : List WorkerState) (p q : Rings N) (o : WorkerTurn) : Type 0 where
     pub lent : Rings N
     pub quiet : IsQuiet p lent
     pub mine : lent.server ≡ actor.Worker number
     pub place : ℕ
     pub behind : number ≡ place + 1
-    pub goes : GoesOnAt (IsServerTurn visible before after lent q o) old place new
+    pub goes : GoesOnAt (IsServerTurn visible before after since upto lent q o) old place new
     pub store : o ≢ worker_turn.Served → after ≡ before
+    pub seen : o ≢ worker_turn.Served → upto ≡ since
 
   -- and of the primary
-  pub record IsPrimaryTurn (k : Start) (before after : Option View) (old new : PrimaryState) (p q : Rings N) (o : PrimaryTurn) : Type 0 where
+  pub record IsPrimaryTurn (k : Start) (before after : Option View) (since upto : ℕ) (old new : PrimaryState) (p q : Rings N) (o : PrimaryTurn) : Type 0 where
     pub lent : Rings N
     pub quiet : IsQuiet p lent
     pub mine : lent.server ≡ actor.Primary
-    pub goes : IsFirstTurn k before after lent q o old new
+    pub goes : IsFirstTurn k before after since upto lent q o old new
     pub store : o ≢ primary_turn.Served → after ≡ before
+    pub seen : o ≢ primary_turn.Served → upto ≡ since
 
   -- This actor made its turn, as it says, and the others are as they were. A client's turn doesn't come to the store.
   abbrev pub IsTurnOf : Start → Actor → GlobalState N → GlobalState N → Turned → Type 0
   IsTurnOf k (actor.Client number) s t (turned.Client o) =
-      IsClientTurn number s.clients t.clients s.rings t.rings o × (t ≡ record s { clients = t.clients; rings = t.rings })
+      IsClientTurn s.seen t.seen number s.clients t.clients s.rings t.rings o × (t ≡ record s { clients = t.clients; rings = t.rings; seen = t.seen })
   IsTurnOf k (actor.Worker number) s t (turned.Worker o) =
-      IsWorkerTurn k.is_visible s.store t.store number s.workers t.workers s.rings t.rings o × (t ≡ record s { workers = t.workers; rings = t.rings; store = t.store })
+      IsWorkerTurn k.is_visible s.store t.store s.seen t.seen number s.workers t.workers s.rings t.rings o × (t ≡ record s { workers = t.workers; rings = t.rings; seen = t.seen; store = t.store })
   IsTurnOf k actor.Primary s t (turned.Primary o) =
-      IsPrimaryTurn k s.store t.store s.primary t.primary s.rings t.rings o × (t ≡ record s { primary = t.primary; rings = t.rings; store = t.store })
+      IsPrimaryTurn k s.store t.store s.seen t.seen s.primary t.primary s.rings t.rings o × (t ≡ record s { primary = t.primary; rings = t.rings; seen = t.seen; store = t.store })
   IsTurnOf k _ s t _ = ⊥

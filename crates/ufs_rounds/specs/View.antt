@@ -13,4 +13,4 @@ rings_in p = rings_of p.client p.server p.requests p.clients.items p.letters
 
 -- and the store's cell, where the way to it tells that
 abbrev pub global_of : {A : Type 0} {n : _} → Participants A n → Option View → GlobalState A
-global_of p store = state_of p.clients.items p.workers.items p.primary (rings_in p.post) store
+global_of p store = state_of p.clients.items p.workers.items p.primary (rings_in p.post) p.baton store

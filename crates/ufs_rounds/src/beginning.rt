@@ -22,6 +22,7 @@ use crate::session::Session;
 use std::alloc::Global;
 use std::sync::ledger::{Blank, Ledger};
 use ufs_base::Memory;
+use ufs_baton::Baton;
 use ufs_begin_hands::Ready;
 use ufs_dealt::{Dealt, deal, deal_files, dealt_law};
 use ufs_disk::Disk;
@@ -134,6 +135,7 @@ fn deal_all<N: Naming, D: Disk, L: Ledger>(
     deal_files(&table, &mut hand, files, &mut held);
     let primary = deal_primary(kept, &table, &geometry, names, held, home, pool, &mut hand);
     deal_workers(alloc, &table, &mut hand, pools, &mut workers);
+    let baton = Baton::of(&table, &mut hand);
     deal_clients(&table, &geometry, &mut hand, rooms, &mut clients);
     drop(hand);
     Session {
@@ -144,6 +146,7 @@ fn deal_all<N: Naming, D: Disk, L: Ledger>(
             workers,
             primary,
             post,
+            baton,
         },
         store,
         share,

@@ -90,8 +90,10 @@ impl<N: Naming> Participants<N> {
             workers,
             primary,
             post,
+            baton,
         } = self;
         drop(post);
+        drop(baton);
         let EndRoom {
             mut hands,
             mut told,

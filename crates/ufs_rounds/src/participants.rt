@@ -3,6 +3,7 @@ ghost use Rattle.std.specs.Prelude.{◌≡◌, ◌≤◌, length};
 ghost use Rattle.ufs_msg.specs.There.{client_count, worker_count};
 ghost use Rattle.ufs_rounds.specs.Numbers.{AreClients, AreWorkers};
 
+use ufs_baton::Baton;
 use ufs_caller::Client;
 use ufs_held::Parcel;
 use ufs_joint::Naming;
@@ -20,6 +21,8 @@ pub struct Participants<N: Naming> {
     pub workers: Vec<Worker<N>>,
     pub primary: Primary<N>,
     pub post: PlainPost<N, Letter<Parcel<N>>>,
+    /// Goes from turn to turn.
+    pub baton: Baton<N>,
     pub ghost every_client: { length clients.items ≡ client_count N.start },
     pub ghost client_numbers: { AreClients clients.items },
     pub ghost few_clients: { length clients.items ≤ 16 },

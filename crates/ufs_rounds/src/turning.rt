@@ -10,6 +10,7 @@ ghost use Rattle.ufs_rounds.specs.View.{global_of, rings_in};
 use crate::participants::Participants;
 use crate::polling::{poll_client, poll_worker};
 use crate::turned::Turned;
+use ufs_baton::Baton;
 use ufs_caller::{Client, Turn};
 use ufs_held::Parcel;
 use ufs_joint::{HandTable, Naming};
@@ -22,6 +23,7 @@ use ufs_worker::{Worker, WorkerTurn};
 // The client makes a turn.
 fn turn_of_client<N: Naming>(
     table: &HandTable<N>,
+    baton: &mut Baton<N>,
     clients: &mut Vec<Client<N>>,
     post: &mut PlainPost<N, Letter<Parcel<N>>>,
     client: u8,
@@ -29,18 +31,19 @@ fn turn_of_client<N: Naming>(
     requires there { IsClientThere N.start client }
     requires every { length clients.old.items ≡ client_count N.start }
     requires numbers { AreClients clients.old.items }
-    ensures turn { IsClientTurn client clients.old.items clients.new.items (rings_in post.old) (rings_in post.new) result }
+    ensures turn { IsClientTurn baton.old baton.new client clients.old.items clients.new.items (rings_in post.old) (rings_in post.new) result }
     ensures numbers { AreClients clients.new.items }
     ensures all { length clients.new.items ≡ length clients.old.items }
     ensures scripts { scripts_of clients.new.items ≡ scripts_of clients.old.items }
 {
     post.turn_of_client(client);
-    poll_client(table, clients, post, usize::from(client))
+    poll_client(table, baton, clients, post, usize::from(client))
 }
 
 // The worker makes a turn.
 fn turn_of_worker<N: Naming, T: Turns<N>>(
     table: &HandTable<N>,
+    baton: &mut Baton<N>,
     workers: &mut Vec<Worker<N>>,
     post: &mut PlainPost<N, Letter<Parcel<N>>>,
     door: &mut T,
@@ -49,30 +52,31 @@ fn turn_of_worker<N: Naming, T: Turns<N>>(
     requires there { IsServerThere N.start (worker number) }
     requires every { length workers.old.items ≡ worker_count N.start }
     requires numbers { AreWorkers workers.old.items }
-    ensures turn { IsWorkerTurn N.start.is_visible (T.tells door.old) (T.tells door.new) number workers.old.items workers.new.items (rings_in post.old) (rings_in post.new) result }
+    ensures turn { IsWorkerTurn N.start.is_visible (T.tells door.old) (T.tells door.new) baton.old baton.new number workers.old.items workers.new.items (rings_in post.old) (rings_in post.new) result }
     ensures numbers { AreWorkers workers.new.items }
     ensures all { length workers.new.items ≡ length workers.old.items }
 {
     post.turn_of_server(Actor::Worker(number));
-    poll_worker(table, workers, post, door, usize::from(number) - 1)
+    poll_worker(table, baton, workers, post, door, usize::from(number) - 1)
 }
 
 // The primary makes a turn.
 fn turn_of_primary<N: Naming, T: Turns<N>>(
     table: &HandTable<N>,
+    baton: &mut Baton<N>,
     primary: &mut Primary<N>,
     post: &mut PlainPost<N, Letter<Parcel<N>>>,
     door: &mut T,
 ) -> PrimaryTurn
-    ensures turn { IsPrimaryTurn N.start (T.tells door.old) (T.tells door.new) primary.old primary.new (rings_in post.old) (rings_in post.new) result }
+    ensures turn { IsPrimaryTurn N.start (T.tells door.old) (T.tells door.new) baton.old baton.new primary.old primary.new (rings_in post.old) (rings_in post.new) result }
 {
     post.turn_of_server(Actor::Primary);
-    primary.poll(table, post, door)
+    primary.poll(table, baton, post, door)
 }
 
 impl<N: Naming> Participants<N> {
     /// One turn of this client, this worker or the primary, as its `poll` says. The others are as they were, and each client was given
-    /// what it was given.
+    /// what it was given. Who has the turn has the baton, so an entry that it draws gets a higher ticket than those before.
     pub fn turn<T: Turns<N>>(&mut self, table: &HandTable<N>, door: &mut T, who: Actor) -> Turned
         requires there { IsThere N.start who }
         ensures turn { IsTurnOf N.start who (global_of self.old (T.tells door.old)) (global_of self.new (T.tells door.new)) result }
@@ -81,12 +85,14 @@ impl<N: Naming> Participants<N> {
         match who {
             Actor::Client(client) => Turned::Client(turn_of_client(
                 table,
+                &mut self.baton,
                 &mut self.clients,
                 &mut self.post,
                 client,
             )),
             Actor::Worker(number) => Turned::Worker(turn_of_worker(
                 table,
+                &mut self.baton,
                 &mut self.workers,
                 &mut self.post,
                 door,
@@ -94,6 +100,7 @@ impl<N: Naming> Participants<N> {
             )),
             Actor::Primary => Turned::Primary(turn_of_primary(
                 table,
+                &mut self.baton,
                 &mut self.primary,
                 &mut self.post,
                 door,

@@ -110,6 +110,15 @@ deal_workers-requires-clause-has g c =
     let without_pool = c.deal_primary-primary.ensures.left ∙ ap (λ (v : View). record v { pools = without (eqb (pool_of 0)) v.pools }) without_files in
     subst (ArePoolsFrom 1 (length c.args.room.pools.items)) (sym without_pool) (pools_from c.dealt_law.ensures.pools b m.ready.workers (length c.args.room.pools.items) m.workers_are)
 
+-- ---- the baton
+
+pub of-baton-requires : goal.of-baton-requires
+of-baton-requires g c =
+    let m = c.requires.mounted.1 in
+    let left = c.deal-table.ensures.hand ∙ ap (λ (k : Start). rest_of k.view) m.start in
+    let without_files = c.deal_files.ensures.rest ∙ ap (λ (v : View). record v { files = [] }) left in
+    ap (λ (v : View). v.store) c.deal_workers.ensures.rest ∙ ap (λ (v : View). v.store) c.deal_primary-primary.ensures.left ∙ ap (λ (v : View). v.store) without_files
+
 -- ---- the clients
 
 pub deal_clients-requires-clause-its : goal.deal_clients-requires-clause-its
@@ -131,7 +140,7 @@ deal_clients-requires-clause-idle g c =
     let left = c.deal-table.ensures.hand ∙ ap (λ (k : Start). rest_of k.view) m.start in
     let without_files = c.deal_files.ensures.rest ∙ ap (λ (v : View). record v { files = [] }) left in
     let without_pool = c.deal_primary-primary.ensures.left ∙ ap (λ (v : View). record v { pools = without (eqb (pool_of 0)) v.pools }) without_files in
-    let now = c.deal_workers.ensures.rest ∙ ap (λ (v : View). record v { pools = c.deal_workers.new.hand.pools }) without_pool in
+    let now = c.of-baton.ensures.same ∙ c.deal_workers.ensures.rest ∙ ap (λ (v : View). record v { pools = c.deal_workers.new.hand.pools }) without_pool in
     subst (AreIdleFrom 0 (length c.args.room.rooms.items)) (sym now) (idle_from c.dealt_law.ensures.clients b (length c.args.room.rooms.items) m.clients_are c.deal_workers.new.hand.pools)
 
 pub returns-clause-owners : goal.returns-clause-owners

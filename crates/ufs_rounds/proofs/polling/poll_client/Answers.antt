@@ -35,4 +35,4 @@ returns-clause-scripts g c =
     let xs = c.args.clients.now.items in
     let q = g.Q.ClientPost in
     map_same script_of xs c.args.place c.index_mut.result.now c.poll.new.self (at_place xs c.args.place c.index_mut.result.now c.requires.there c.index_mut.ensures.value)
-    (same_script q.asks q.gets q.same q.was_full q.was_empty c.args.post.now c.poll.new.post c.index_mut.result.now c.poll.new.self c.poll.result c.poll.ensures.turn)
+    (same_script q.asks q.gets q.same q.was_full q.was_empty c.args.baton.now c.poll.new.baton c.args.post.now c.poll.new.post c.index_mut.result.now c.poll.new.self c.poll.result c.poll.ensures.turn)

@@ -14,6 +14,7 @@ returns-clause-turn g c =
       lent = rings_in c.turn_of_client.new.self;
       quiet = (λ i. (r.1 i).items, same_rings _ _ r.0, same_rings _ _ r.2);
       mine = c.turn_of_client.ensures.turn.0;
-      goes = client_goes rings_in c.turn_of_client.new.self c.poll_client.new.post c.poll_client.result c.args.clients.now.items c.poll_client.new.clients.items c.from.result c.args.client c.from.ensures c.poll_client.ensures.turn;
+      goes = client_goes rings_in c.args.baton.now c.poll_client.new.baton c.turn_of_client.new.self c.poll_client.new.post c.poll_client.result c.args.clients.now.items c.poll_client.new.clients.items c.from.result c.args.client c.from.ensures c.poll_client.ensures.turn;
       numbers = c.poll_client.ensures.numbers;
+      seen = c.poll_client.ensures.seen;
     }
