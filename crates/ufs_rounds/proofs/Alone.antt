@@ -83,12 +83,12 @@ set_else (x ∷ xs) zero (suc j) w not = refl
 set_else (x ∷ xs) (suc i) zero w not = refl
 set_else (x ∷ xs) (suc i) (suc j) w not = set_else xs i j w (λ e. not (ap suc e))
 
-some_one : {A : Type 0} (x y : A) → Some x ≡ Some y → x ≡ y
+pub some_one : {A : Type 0} (x y : A) → Some x ≡ Some y → x ≡ y
 some_one x y e = cc
 
 -- ---- requests of clients
 
-other : (a b : ℕ) → (a ≡ b → ⊥) → eqb a b ≡ false
+pub other : (a b : ℕ) → (a ≡ b → ⊥) → eqb a b ≡ false
 other a b not = by (eqb a b) refl
   where
     by : (x : Bool) → eqb a b ≡ x → x ≡ false

@@ -292,7 +292,7 @@ module _ {N : Type 0} (k : Start) (s t : GlobalState N) (w : ServesAlone k s) (n
   b_number : h.goes.is.number ≡ number
   b_number = h.numbers number h.goes.is here
 
-  sent_on : (to : Actor) (stays : Bool) → caller.SentOnGoes Asks Hears IsQuiet IsAskFull HasNoAnswer h.lent to stays t.rings h.goes.was h.goes.is → ⊥
+  pub sent_on : (to : Actor) (stays : Bool) → caller.SentOnGoes Asks Hears IsQuiet IsAskFull HasNoAnswer h.lent to stays t.rings h.goes.was h.goes.is → ⊥
   sent_on to stays g =
       not_sent_on k w.none_there s.seen t.seen number s.rings h.lent t.rings h.quiet h.mine h.goes.was h.goes.is a_number b_number (w.ask number h.goes.was h.goes.stood) w.rings to stays g
 

@@ -9,6 +9,7 @@ use Rattle.circular_buffer.specs.Buffer.{Buffer}
 use Rattle.ufs_at_primary.specs.Named.{server_at, server_told}
 use Rattle.ufs_at_primary.specs.Served.{All, ByNames, IsServed, Lacked, OnFile, OnNone}
 use Rattle.ufs_at_primary.specs.Stock.{StockState}
+use Rattle.ufs_baton.specs.Baton.{IsDrawnWith}
 use Rattle.ufs_caller.specs.Callers.{Caller, Errand}
 use Rattle.ufs_hand_laws.proofs.Keys.{itself}
 use Rattle.ufs_hand_laws.proofs.Owning.{has_append}
@@ -28,7 +29,7 @@ use Rattle.ufs_msg.specs.Rows.{HappensAt}
 use Rattle.ufs_msg.specs.Servers.{HappensFor, IsSoFor}
 use Rattle.ufs_msg.specs.There.{IsServerThere, client_count, worker_count}
 use Rattle.ufs_msg.specs.declared.answer.Answer.{Answer}
-use Rattle.ufs_msg.specs.declared.answer.Answer.TheVariants as answer
+use Rattle.ufs_msg.specs.declared.answer.Answer.TheVariants as answer'
 use Rattle.ufs_msg.specs.declared.letter.Letter.{Letter}
 use Rattle.ufs_owner.specs.Owners.{Files, nothing_known, owner_at}
 use Rattle.ufs_owner.specs.declared.owner.Standing.{Standing}
@@ -150,7 +151,7 @@ none_got p actor.Primary none h = h
 none_got p (actor.Worker worker) none h = nothing_at p.requests.workers.items (worker - 1) h.0 none h.1
 none_got p (actor.Client client) none h = absurd h
 
-caller_at : {A : Type 0} (xs : List A) (i : ℕ) → i < length xs → (x : A) × (slice_get xs i ≡ Some x)
+pub caller_at : {A : Type 0} (xs : List A) (i : ℕ) → i < length xs → (x : A) × (slice_get xs i ≡ Some x)
 caller_at [] i low = absurd (omega (arith, low))
 caller_at (x ∷ xs) zero low = (x, refl)
 caller_at (x ∷ xs) (suc i) low = caller_at xs i (omega (arith, low))
@@ -181,6 +182,10 @@ module _ {N : Type 0} (k : Start) (s t : GlobalState N) (w : ServesAlone k s) wh
     pub lost : HasLost s.rings.requests.primary request t.rings.requests.primary
     pub answer : Answer N
     pub there : IsServedThere k answer
+    pub told : Told
+    pub tells : answer ≡ answer'.Served told
+    pub mine : told.entry.client ≡ request.ask.client
+    pub drawn : IsDrawnWith s.seen t.seen told.entry
     pub gained : HappensAt HasGained s.rings.answers request.ask.client answer t.rings.answers
 
   -- the client whose request came has room for its answer
@@ -270,12 +275,12 @@ module _ {N : Type 0} (k : Start) (s t : GlobalState N) (w : ServesAlone k s) wh
         served : IsToldSo k h.goes.lettered.stock t.primary.stock f.request.ask told → HasServed did.Served
         served so = answered (one_goes (IsSaid Answers IsQuiet IsAnswerFull) IsQuiet (IsFullFor Answers IsQuiet IsAnswerFull) (inl told) (h.goes.lettered.answers ++ inl told ∷ []) t.primary.answers f.mid t.rings (λ i. out_lettered.answers i ++ inl told ∷ []) f.done.answer)
           where
-            named : (x : Answer N) → said x ≡ inl told → IsServedThere k x
-            named (answer.Served y) e = λ who is. so.2 who (ap (λ (z : Told). z.owner) (sym same) ∙ is)
+            named : (x : Answer N) → said x ≡ inl told → x ≡ answer'.Served told
+            named (answer'.Served y) e = ap answer'.Served same
               where
                 same : y ≡ told
                 same = cc
-            named (answer.Redirect y) e = absurd (clash e)
+            named (answer'.Redirect y) e = absurd (clash e)
               where
                 clash : inr y ≡ inl told → ⊥
                 clash e' = cc
@@ -295,7 +300,11 @@ module _ {N : Type 0} (k : Start) (s t : GlobalState N) (w : ServesAlone k s) wh
               request = f.request;
               lost = subst (λ (z : Buffer Asked × Buffer Asked). HasLost z.0 f.request z.1) (λ i. (near_lettered.requests i, sym x.1.2.1.primary i)) lost.0;
               answer = x.1.0;
-              there = named x.1.0 x.1.1;
+              there = subst (IsServedThere k) (sym (named x.1.0 x.1.1)) so.2;
+              told = told;
+              tells = named x.1.0 x.1.1;
+              mine = so.1;
+              drawn = f.done.drawn;
               gained = subst (λ (z : List (Buffer (Answer N)) × ℕ). HappensAt HasGained z.0 z.1 x.1.0 t.rings.answers) (λ i. ((f.came.2 ∙ near_lettered.answers) i, so.1 i)) x.1.2.0;
             }
 

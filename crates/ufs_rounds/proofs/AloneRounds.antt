@@ -75,7 +75,7 @@ module _ {N : Type 0} (k : Start) (s t : GlobalState N) (w : ServesAlone k s) wh
     pub requests : t.rings.requests.primary ≡ s.rings.requests.primary
     pub answers : t.rings.answers ≡ s.rings.answers
 
-  no_worker : {X : Type 0} (number : ℕ) (o : Turned) → IsTurnOf k (actor.Worker number) s t o → X
+  pub no_worker : {X : Type 0} (number : ℕ) (o : Turned) → IsTurnOf k (actor.Worker number) s t o → X
   no_worker number (turned.Client o) h = absurd h
   no_worker number (turned.Worker o) h = nothing_at s.workers h.0.place h.0.goes.was w.no_worker h.0.goes.stood
   no_worker number (turned.Primary o) h = absurd h

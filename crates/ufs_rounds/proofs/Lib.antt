@@ -17,3 +17,5 @@ pub mod AloneClients
 pub mod AlonePrimary
 pub mod AloneRounds
 pub mod AloneFirst
+pub mod Entries
+pub mod Drawing

@@ -12,4 +12,5 @@ pub mod Rest
 pub mod Rounds
 pub mod View
 pub mod Alone
+pub mod Drawn
 pub mod Dealing
