@@ -76,7 +76,7 @@ length_at [] i x = refl
 length_at (y ∷ xs) zero x = refl
 length_at (y ∷ xs) (suc i) x = ap suc (length_at xs i x)
 
-set_else : {A : Type 0} (xs : List A) (i j : ℕ) (w : A) → (j ≡ i → ⊥) → slice_get (set xs i w) j ≡ slice_get xs j
+pub set_else : {A : Type 0} (xs : List A) (i j : ℕ) (w : A) → (j ≡ i → ⊥) → slice_get (set xs i w) j ≡ slice_get xs j
 set_else [] i j w not = refl
 set_else (x ∷ xs) zero zero w not = absurd (not refl)
 set_else (x ∷ xs) zero (suc j) w not = refl

@@ -30,7 +30,7 @@ each_same (suc n) x y zero at = same
     same = (let e = at in cc)
 each_same (suc n) x y (suc i) at = each_same n x y i at
 
-asks_nothing : (clients : List Caller) → HaveAskedNothing clients → (place : ℕ) (c : Caller) → slice_get clients place ≡ Some c → (c.errand ≡ None) × (c.hints ≡ [])
+pub asks_nothing : (clients : List Caller) → HaveAskedNothing clients → (place : ℕ) (c : Caller) → slice_get clients place ≡ Some c → (c.errand ≡ None) × (c.hints ≡ [])
 asks_nothing [] nothing place c at = absurd (clash at)
   where
     clash : None ≡ Some c → ⊥

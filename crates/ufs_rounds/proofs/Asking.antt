@@ -76,7 +76,7 @@ module _ {N : Type 0} (since upto : ℕ) (p q : Rings N) (a b : Caller) where
   fewer request left rest is = let long = ap (λ (l : List Op). length l) is in omega (arith, long)
 
   -- with none it asks the next one, where it isn't done
-  asks_next : (o : Turn) → IsCallerTurn since upto p q o a b → a.errand ≡ None → (o ≡ turn.Done → ⊥) → length b.left < length a.left
+  pub asks_next : (o : Turn) → IsCallerTurn since upto p q o a b → a.errand ≡ None → (o ≡ turn.Done → ⊥) → length b.left < length a.left
   asks_next (turn.Sent to) (inl h) idle more = fewer h.1.request a.left b.left h.1.next
   asks_next (turn.Sent to) (inr h) idle more = clash a.errand h.1.e idle h.1.errand
   asks_next (turn.Resent to) (inl h) idle more = clash a.errand h.5.e idle h.5.errand

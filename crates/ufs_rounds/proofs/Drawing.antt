@@ -3,6 +3,7 @@ use Rattle.std.proofs.Common.{◌≡◌, ◌≢◌, ◌⊎◌, inl, inr, ⊎_eli
 use Rattle.std.proofs.lemmas.List.{append-nil}
 use Rattle.std.proofs.lemmas.Option.{slice_get_within}
 use native.Mathlib.Decide.{dec_le}
+use Rattle.std.specs.Prelude.{unwrap_or}
 use Rattle.circular_buffer.specs.Buffer.{Buffer}
 use Rattle.ufs_baton.specs.Baton.{IsDrawnWith}
 use Rattle.ufs_caller.specs.Callers.{Caller, Errand, entries_in}
@@ -19,6 +20,7 @@ use Rattle.ufs_model.specs.History.{entries_of}
 use Rattle.ufs_model.specs.declared.data.Actor.{Actor}
 use Rattle.ufs_model.specs.declared.data.Actor.TheVariants as actor
 use Rattle.ufs_model.specs.declared.data.Entry.{Entry}
+use Rattle.ufs_model.specs.declared.data.Op.{Op}
 use Rattle.ufs_msg.specs.Answers.{Told}
 use Rattle.ufs_msg.specs.Rows.{HappensAt}
 use Rattle.ufs_msg.specs.declared.answer.Answer.{Answer}
@@ -51,9 +53,29 @@ module _ {N : Type 0} where
   answered_push (answer'.Served s ∷ xs) told = λ i. s.entry ∷ answered_push xs told i
   answered_push (answer'.Redirect r ∷ xs) told = answered_push xs told
 
+  pub no_answers : (xs : List (Answer N)) → length xs ≡ 0 → answered_in xs ≡ []
+  no_answers [] none = refl
+  no_answers (y ∷ xs) none = absurd (omega (arith, none))
+
+pub list_at : (clients : List Caller) (client : ℕ) (c : Caller) → slice_get clients client ≡ Some c → slice_get (lists_of clients) client ≡ Some (entries_in c.told)
+list_at [] client c at = nothing_at [] client c refl at
+list_at (x ∷ clients) zero c at = ap (λ (y : Caller). Some (entries_in y.told)) (let e : x ≡ c = some_one x c at in e)
+list_at (x ∷ clients) (suc client) c at = list_at clients client c at
+
+list_past : (clients : List Caller) (client : ℕ) → length clients ≤ client → transcript (lists_of clients) client ≡ []
+list_past [] client past = refl
+list_past (x ∷ clients) zero past = absurd (omega (arith, past))
+list_past (x ∷ clients) (suc client) past = list_past clients client (omega (arith, past))
+
 pub entries_push : (told : List Told') (t : Told') → entries_in (told ++ t ∷ []) ≡ entries_in told ++ t.entry ∷ []
 entries_push [] t = refl
 entries_push (x ∷ told) t = λ i. x.entry ∷ entries_push told t i
+
+none_left : (request : Op) (rest left : List Op) → left ≡ request ∷ rest → left ≡ [] → ⊥
+none_left request rest left is none = clash (sym is ∙ none)
+  where
+    clash : request ∷ rest ≡ [] → ⊥
+    clash e = cc
 
 -- ---- what a client did
 
@@ -94,6 +116,7 @@ module _ {N : Type 0} (since upto number : ℕ) (p q : Rings N) (a b : Caller) w
     pub drawn : IsDrawnWith since upto new.entry
     pub mine : new.entry.client ≡ number
     pub idle : a.errand ≡ None
+    pub some : a.left ≡ [] → ⊥
 
 module _ {N : Type 0} (k : Start) (s t : GlobalState N) (w : ServesAlone k s) (number : ℕ) (said : Turn) (h : IsClientTurn s.seen t.seen number s.clients t.clients s.rings t.rings said) (rest : t ≡ record s { clients = t.clients; rings = t.rings; seen = t.seen }) where
   abbrev Told3 : Type 0
@@ -117,6 +140,7 @@ module _ {N : Type 0} (k : Start) (s t : GlobalState N) (w : ServesAlone k s) (n
         drawn = g.0.drawn;
         mine = g.0.client ∙ w.numbers number h.goes.was h.goes.stood;
         idle = g.0.idle;
+        some = none_left g.0.request h.goes.is.left h.goes.was.left g.0.next;
       }))
       by turn.Told is g = inr (inl (record {
         answer = g.0;
@@ -234,7 +258,7 @@ module _ {N : Type 0} (k : Start) (s t : GlobalState N) (w : ServesAlone k s) (d
     was_there : (client : ℕ) (c : Caller) → (client ≡ number → ⊥) → slice_get t.clients client ≡ Some c → slice_get s.clients client ≡ Some c
     was_there client c not at = sym (ap (λ (l : List Caller). slice_get l client) h.goes.stands ∙ set_else s.clients number client h.goes.is not) ∙ at
 
-    nothing_told : IsToldNothing s.seen t.seen number s.rings t.rings h.goes.was h.goes.is → HasDrawn t drawn
+    pub nothing_told : IsToldNothing s.seen t.seen number s.rings t.rings h.goes.was h.goes.is → HasDrawn t drawn
     nothing_told x = record {
       rising = d.rising;
       seen = λ e has. subst (λ (n : ℕ). e.ticket < n) (sym x.seen) (d.seen e has);
@@ -248,7 +272,7 @@ module _ {N : Type 0} (k : Start) (s t : GlobalState N) (w : ServesAlone k s) (d
             d.each client h.goes.was ring (ap (slice_get s.clients) same ∙ h.goes.stood) there ∙ (λ i. entries_in ((sym x.told ∙ ap (λ (a : Caller). a.told) (here_is client c same at)) i) ++ answered_in ring.items)
         by client c ring at there false e = d.each client c ring (was_there client c (different' client e) at) there
 
-    more_told : IsToldMore s.seen t.seen number s.rings t.rings h.goes.was h.goes.is → HasDrawn t drawn
+    pub more_told : IsToldMore s.seen t.seen number s.rings t.rings h.goes.was h.goes.is → HasDrawn t drawn
     more_told x = record {
       rising = d.rising;
       seen = λ e has. subst (λ (n : ℕ). e.ticket < n) (sym x.seen) (d.seen e has);
@@ -279,10 +303,6 @@ module _ {N : Type 0} (k : Start) (s t : GlobalState N) (w : ServesAlone k s) (d
       each = λ client c ring at there. by client c ring at (ap (λ (l : List (Buffer (Answer N))). slice_get l client) (sym x.answers) ∙ there) (eqb client number) refl;
     }
       where
-        no_answers : (xs : List (Answer N)) → length xs ≡ 0 → answered_in xs ≡ []
-        no_answers [] none = refl
-        no_answers (y ∷ xs) none = absurd (omega (arith, none))
-
         by : (client : ℕ) (c : Caller) (ring : Buffer (Answer N)) → slice_get t.clients client ≡ Some c → slice_get s.rings.answers client ≡ Some ring → (b : Bool) → eqb client number ≡ b → entries_of client (drawn ++ x.new.entry ∷ []) ≡ entries_in c.told ++ answered_in ring.items
         by client c ring at there true e =
             let same = eqb-true client number e in
@@ -334,20 +354,6 @@ module _ {N : Type 0} (k : Start) where
   pub drawn_merged : (t : GlobalState N) (drawn : List Entry) → ServesAlone k t → AreIdle t.clients → HasDrawn t drawn → IsMerged (lists_of t.clients) drawn
   drawn_merged t drawn w idle d = record { rising = d.rising; each = each }
     where
-      no_answers : (xs : List (Answer N)) → length xs ≡ 0 → answered_in xs ≡ []
-      no_answers [] none = refl
-      no_answers (y ∷ xs) none = absurd (omega (arith, none))
-
-      list_at : (clients : List Caller) (client : ℕ) (c : Caller) → slice_get clients client ≡ Some c → transcript (lists_of clients) client ≡ entries_in c.told
-      list_at [] client c at = nothing_at [] client c refl at
-      list_at (x ∷ clients) zero c at = ap (λ (y : Caller). entries_in y.told) (let e : x ≡ c = some_one x c at in e)
-      list_at (x ∷ clients) (suc client) c at = list_at clients client c at
-
-      list_past : (clients : List Caller) (client : ℕ) → length clients ≤ client → transcript (lists_of clients) client ≡ []
-      list_past [] client past = refl
-      list_past (x ∷ clients) zero past = absurd (omega (arith, past))
-      list_past (x ∷ clients) (suc client) past = list_past clients client (omega (arith, past))
-
       each : (client : ℕ) → entries_of client drawn ≡ transcript (lists_of t.clients) client
       each client = by (dec_le (suc client) (length t.clients))
         where
@@ -359,6 +365,6 @@ module _ {N : Type 0} (k : Start) where
               let once = w.once client c.0 r.0 c.1 r.1 in
               let none = ap gone_of (idle client c.0 c.1) in
               let empty = no_answers r.0.items (omega (arith, once, none)) in
-              d.each client c.0 r.0 c.1 r.1 ∙ (λ i. entries_in c.0.told ++ empty i) ∙ append-nil (entries_in c.0.told) ∙ sym (list_at t.clients client c.0 c.1)
+              d.each client c.0 r.0 c.1 r.1 ∙ (λ i. entries_in c.0.told ++ empty i) ∙ append-nil (entries_in c.0.told) ∙ sym (ap (λ (o : Option (List Entry)). unwrap_or o []) (list_at t.clients client c.0 c.1))
           by (no past) =
               none_of client drawn (λ e has is. let low = d.whose e has in absurd (omega (arith, low, is, past))) ∙ sym (list_past t.clients client (omega (arith, past)))

@@ -19,3 +19,4 @@ pub mod AloneRounds
 pub mod AloneFirst
 pub mod Entries
 pub mod Drawing
+pub mod InTurn
