@@ -1,5 +1,6 @@
 -- What is known of a session that was played by turns and has ended, by what its clients were given to ask.
 use Rattle.std.specs.Prelude.{ℕ, ◌≡◌, ◌↔◌, Bool, IfSome, List, length, Ok, Err, Result, Some}
+use Rattle.ufs_client.specs.Played.{IsMerged}
 use Rattle.ufs_disk.specs.Moments.{Moments}
 use Rattle.ufs_brink.specs.Closes.{closing_fault}
 use Rattle.ufs_brink.specs.declared.closing.CloseFault.{CloseFault}
@@ -8,7 +9,7 @@ use Rattle.ufs_gathered.specs.Ended.{AnswerAll, AnswerFirst}
 use Rattle.ufs_gathered.specs.Finished.{HasFinished}
 use Rattle.ufs_hand_laws.specs.Owned.{Has}
 use Rattle.ufs_joint.specs.Cells.{Start, View}
-use Rattle.ufs_model.specs.History.{IsComplete, IsInOrder}
+use Rattle.ufs_model.specs.History.{IsComplete, IsInOrder, joined}
 use Rattle.ufs_model.specs.declared.data.Actor.{Actor}
 use Rattle.ufs_model.specs.declared.data.Entry.{Entry}
 use Rattle.ufs_model.specs.declared.data.Op.{Op}
@@ -42,3 +43,7 @@ pub record IsPlayedOut {N : Type 0} (k : Start) (schedule : List Actor) (s : Glo
   pub played : IsPlayed k schedule s last (Ok tt)
   pub are : lists ≡ lists_of last.clients
   pub end : IfSome last.store (IsEndOf faults ended)
+
+-- The history is the transcripts, one behind the other.
+abbrev pub AreInTurn : List (List Entry) → Type 0
+AreInTurn lists = IsMerged lists (joined lists)

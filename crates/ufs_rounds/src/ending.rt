@@ -1,6 +1,6 @@
 // A session is played by turns, and ends.
 ghost use Rattle.std.specs.List.{AllByRecursion};
-ghost use Rattle.std.specs.Prelude.{ℕ, ◌≡◌, ◌<◌, ◌↔◌, Err, IfErr, IfOk, IsOk, List, OnErr, Some, map};
+ghost use Rattle.std.specs.Prelude.{ℕ, ◌≡◌, ◌<◌, ◌↔◌, [], Err, IfErr, IfOk, IsOk, List, OnErr, Some, map};
 ghost use Rattle.ufs_caller.specs.Callers.{entries_in};
 ghost use Rattle.ufs_brink.specs.Closes.{closing_fault};
 ghost use Rattle.ufs_brink.specs.declared.closing.CloseFault.TheVariants as cause;
@@ -12,9 +12,10 @@ ghost use Rattle.ufs_layout.specs.Areas.{IsGeometry};
 ghost use Rattle.ufs_model.specs.declared.data.Entry.{Entry};
 ghost use Rattle.ufs_rounds.specs.Alone.{ServesAlone};
 ghost use Rattle.ufs_rounds.specs.Back.{AreBackHere};
+ghost use Rattle.ufs_rounds.specs.Dealing.{HaveAskedNothing};
 ghost use Rattle.ufs_rounds.specs.Made.{AreAllMadeThere};
 ghost use Rattle.ufs_rounds.specs.Numbers.{IsThere};
-ghost use Rattle.ufs_rounds.specs.Played.{HasPlayed, IsPlayedOut};
+ghost use Rattle.ufs_rounds.specs.Played.{AreInTurn, HasPlayed, IsPlayedOut};
 ghost use Rattle.ufs_rounds.specs.Rest.{IsAtRest, IsPlayed};
 ghost use Rattle.ufs_rounds.specs.Scripts.{lists_of, scripts_of};
 ghost use Rattle.ufs_rounds.specs.View.{global_of};
@@ -162,13 +163,15 @@ impl<N: Naming, D: Disk, L: Ledger> Session<N, D, L> {
 
     /// Plays the session by turns, and ends it: by the schedule, one turn a word; then by rounds until nothing is under way; then each
     /// client in order asks what it has left. Where rounds come to no rest the session comes back. Where the primary serves alone, as it
-    /// does without a worker, they always come to rest (`ended`).
+    /// does without a worker, they always come to rest (`ended`); and without a schedule each client asks all that it was given before the
+    /// next one does (`in_turn`).
     pub fn play(self, alloc: Global, schedule: &[Actor]) -> Result<Played<D>, Unended<N, D, L>>
         requires start { (b : Beginning) × (s : StoreState) × (N.start ≡ start_first b s) }
         requires there { AllByRecursion (IsThere N.start) schedule.now }
         ensures played { IfOk result (λ p. HasPlayed N.start N.origin D.keeps (scripts_of self.participants.clients.items) p.tickets (map (λ t. entries_in t.items) p.told.items) (D.size p.disk) (D.faults p.disk) (D.moments p.disk) p.ended) }
         ensures made { IfOk result (λ p. AreAllMadeThere N.start (map (λ t. t.items) p.told.items)) }
         ensures turns { IfOk result (λ p. IsPlayedOut N.start schedule.now (global_of self.participants (Some self.store)) (map (λ t. entries_in t.items) p.told.items) (D.faults p.disk) p.ended) }
+        ensures in_turn { ServesAlone N.start (global_of self.participants (Some self.store)) → HaveAskedNothing self.participants.clients.items → schedule.now ≡ [] → IfOk result (λ p. AreInTurn (map (λ t. entries_in t.items) p.told.items)) }
         ensures ended { ServesAlone N.start (global_of self.participants (Some self.store)) → IsOk result }
         ensures under_way { IfErr result (λ u. IsAtRest u.session.participants.clients.items u.session.participants.primary → ⊥) }
         ensures so_far { IfErr result (λ u. IsPlayed N.start schedule.now (global_of self.participants (Some self.store)) (global_of u.session.participants (Some u.session.store)) (Err u.why)) }
