@@ -20,8 +20,8 @@ use ufs_turns::Turns;
 pub enum Unfinished {
     /// In two rounds nobody did anything, and this was lacking.
     Lack(Lack),
-    /// In two rounds nobody did anything, and nothing was lacking; or more was done than there are steps to do. That it never comes isn't
-    /// proved.
+    /// In two rounds nobody did anything, and nothing was lacking; or more was done than there are steps to do. That it never comes is
+    /// proved only where the primary serves alone.
     Stuck,
 }
 
