@@ -5,6 +5,7 @@ use Rattle.std.specs.FinMap as fin
 use Rattle.std.specs.List.{AllByRecursion}
 use Rattle.std.specs.FinMap.{get-empty}
 use Rattle.std.specs.Ordering.{nat_cmp}
+use Rattle.ufs_baton.specs.Baton.{IsDrawnWith}
 use Rattle.std.proofs.lemmas.List.{length-append}
 use Rattle.ufs_client.specs.Own.{IsOwnAnswer, is_own}
 use Rattle.ufs_fds.specs.Descriptors.{AreInRange, AreOf, Descs}
@@ -126,12 +127,12 @@ module _ (k : Start) (number : ℕ) (told : List Told) (table : Descs) (left lef
       }
 
     module _ (reply : Reply) (desc : Option Desc) (own : (t : PosixTree) → IsAsk t ask → is_own t ask.client ask.op ≡ true) (is : (t : PosixTree) → IsAsk t ask → IsOwnAnswer t ask.client ask.op reply desc)
-        (told' : List Told) (table' : Descs) (hand' : View) (entry : Entry) (told_is : told' ≡ told ++ record { entry = entry; via = [] } ∷ []) (made : IsMadeBy ask reply entry) (late : hand.seen ≤ entry.ticket) (within : entry.ticket < hand'.seen)
+        (since upto : ℕ) (told' : List Told) (table' : Descs) (hand' : View) (entry : Entry) (told_is : told' ≡ told ++ record { entry = entry; via = [] } ∷ []) (made : IsMadeBy ask reply entry) (late : hand.seen ≤ entry.ticket) (within : entry.ticket < hand'.seen) (drawn : IsDrawnWith since upto entry)
         (after : (t : PosixTree) → AreOf t.fds ask.client table → AreOf (posix t ask.client ask.op).0.fds ask.client table') where
       abbrev new : Caller
       new = seen number told' table' left' hand' kept trip hints
 
-      pub answers : AnswersItself a new
+      pub answers : AnswersItself since upto a new
       answers = record {
         idle = idle;
         idle' = ap (errand_of hand' kept) none_under_way;
@@ -146,6 +147,7 @@ module _ (k : Start) (number : ℕ) (told : List Told) (table : Descs) (left lef
         asked = made.asked ∙ asked;
         later = subst (λ (n : ℕ). n ≤ entry.ticket) (sym seen_home) late;
         seen = subst (λ (n : ℕ). entry.ticket < n) (sym (ap (seen_of hand') none_under_way)) within;
+        drawn = drawn;
         reply = subst (λ (c : Caller). (t : PosixTree) → AreOf t.fds c.number c.fds → entry.reply ≡ (posix t c.number request).1) view
             (λ t are. made.reply' ∙ (is t (tells t (here t are))).replied ∙ (λ i. (posix t (client i) (asked i)).1));
         fds = subst (λ (c : Caller). (t : PosixTree) → AreOf t.fds c.number c.fds → AreOf (posix t c.number request).0.fds c.number table') view

@@ -2,6 +2,7 @@
 use Rattle.std.proofs.Common.{◌≡◌, ℕ, ◌≤◌, List, [], ◌∷◌, ◌++◌, length, map, Option, Some, None, sym, refl, ap, ◌∙◌, subst}
 use Rattle.std.specs.Prelude.{IsSome}
 use Rattle.std.specs.FinMap as fin
+use Rattle.ufs_baton.specs.Baton.{IsToldOf}
 use Rattle.ufs_client.specs.Clients.{AreRanged}
 use Rattle.ufs_client.specs.Own.{IsOwnAnswer}
 use Rattle.ufs_client.proofs.RangeLemmas.{ranged_after}
@@ -46,6 +47,27 @@ ranged_tree t c table are range fd there = range fd (subst IsSome (are fd) there
 module _ (c : ℕ) (entries : List Entry) (table : Descs) (v : View) (h : IsHome c entries table v) where
   pub tree_has : AreOf h.tree.fds c table
   tree_has fd = sym (h.of fd) ∙ h.same fd
+
+-- a hand that was told what the baton has seen is the client's still
+pub home_told : (n c : ℕ) (entries : List Entry) (table : Descs) (v w : View) → IsToldOf n v w → IsHome c entries table v → IsHome c entries table w
+home_told n c entries table v w told h = record {
+  self = h.self;
+  before = h.before;
+  both = record {
+    clients = told.clients ∙ h.both.clients;
+    asked = told.asked ∙ h.both.asked;
+    files = told.files ∙ h.both.files;
+    pools = told.pools ∙ h.both.pools;
+    names = told.names ∙ h.both.names;
+    store = told.store ∙ h.both.store;
+  };
+  entries_are = h.entries_are;
+  same = h.same;
+  idle = h.idle;
+  unleased = h.unleased;
+  tree = h.tree;
+  of = h.of;
+}
 
 module _ (ask : Ask) (entries : List Entry) (table : Descs) (v : View) (h : IsHome ask.client entries table v) (seq : ask.seq ≡ length entries) (next : (t : PosixTree) → AreOf t.fds ask.client table → IsAsk t ask) where
   pub ask_for : IsAskFor ask h.self

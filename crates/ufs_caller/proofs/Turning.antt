@@ -83,8 +83,8 @@ module _ (x : Sent) (r : Asked) (a m : Caller) (s : SendsOn x r (Some r) a m) (t
     fds = ap (λ (c : Caller). c.fds) t.all ∙ s.fds;
   }
 
-module _ {P N : Type 0} (asks : P → Actor → Asked → P → Type 0) (gets : P → Answer N → P → Type 0) (same : P → P → Type 0) (full : P → Actor → Type 0) (empty : P → Type 0) (a m b : Caller) where
-  pub sent_turn : (p q : P) (t : Turn) (to : Actor) (r : Asked) → Sends to r (Some r) a m → IsTry asks gets same full empty p q m t b → IsTurn asks gets same full empty p q a t b
+module _ {P N : Type 0} (asks : P → Actor → Asked → P → Type 0) (gets : P → Answer N → P → Type 0) (same : P → P → Type 0) (full : P → Actor → Type 0) (empty : P → Type 0) (since upto : ℕ) (a m b : Caller) where
+  pub sent_turn : (p q : P) (t : Turn) (to : Actor) (r : Asked) → Sends to r (Some r) a m → IsTry asks gets same full empty p q m t b → IsTurn asks gets same full empty since upto p q a t b
   sent_turn p q (turn.Sent to') to r s t = inl (t.0, sends to r a m s to' t.0 None false b t.1, t.2)
   sent_turn p q (turn.Resent to') to r s t = absurd (true_false (is_first to r a m s to' t.0 None true b t.1))
   sent_turn p q (turn.Full to') to r s t = inl (t.1.0, sends to r a m s to' t.1.0 (Some t.1.0) t.0 b t.1.1, t.1.2)
@@ -93,7 +93,7 @@ module _ {P N : Type 0} (asks : P → Actor → Asked → P → Type 0) (gets : 
   sent_turn p q turn.Waiting to r s t = absurd t
   sent_turn p q turn.Done to r s t = absurd t
 
-  pub resent_turn : (p between q : P) (t : Turn) (x : Sent) (r : Asked) → gets p (answer.Redirect x) between → SendsOn x r (Some r) a m → IsTry asks gets same full empty between q m t b → IsTurn asks gets same full empty p q a t b
+  pub resent_turn : (p between q : P) (t : Turn) (x : Sent) (r : Asked) → gets p (answer.Redirect x) between → SendsOn x r (Some r) a m → IsTry asks gets same full empty between q m t b → IsTurn asks gets same full empty since upto p q a t b
   resent_turn p between q (turn.Sent to') x r got s t = absurd (true_false (sym (is_later x r a m s to' t.0 None false b t.1)))
   resent_turn p between q (turn.Resent to') x r got s t = inl (x, t.0, between, got, to_on x r a m s to' t.0 None true b t.1, sends_further x r a m s to' t.0 None true b t.1, t.2)
   resent_turn p between q (turn.Full to') x r got s t = inr (inl (x, t.1.0, between, got, to_on x r a m s to' t.1.0 (Some t.1.0) t.0 b t.1.1, sends_further x r a m s to' t.1.0 (Some t.1.0) t.0 b t.1.1, t.1.2))
@@ -102,7 +102,7 @@ module _ {P N : Type 0} (asks : P → Actor → Asked → P → Type 0) (gets : 
   resent_turn p between q turn.Waiting x r got s t = absurd t
   resent_turn p between q turn.Done x r got s t = absurd t
 
-  pub tried_turn : (p q : P) (t : Turn) → IsTry asks gets same full empty p q a t b → IsTurn asks gets same full empty p q a t b
+  pub tried_turn : (p q : P) (t : Turn) → IsTry asks gets same full empty p q a t b → IsTurn asks gets same full empty since upto p q a t b
   tried_turn p q (turn.Sent to') t = inr t
   tried_turn p q (turn.Resent to') t = inr t
   tried_turn p q (turn.Full to') t = inr (inr t)

@@ -1,6 +1,7 @@
 -- The turns of a client.
 use Rattle.std.specs.Prelude.{ℕ, ◌≤◌, ◌<◌, ◌≡◌, ◌≢◌, ◌⊎◌, Bool, true, false, List, [], ◌∷◌, ◌++◌, length, Option, Some, None}
 use Rattle.std.specs.FinMap as fin
+use Rattle.ufs_baton.specs.Baton.{IsDrawnWith}
 use Rattle.ufs_client.specs.Own.{is_own}
 use Rattle.ufs_fds.specs.Descriptors.{AreOf}
 use Rattle.ufs_hints.specs.Hints.{Pairs, hint_of, renewed}
@@ -42,8 +43,8 @@ pub record Sends (to : Actor) (r : Asked) (kept : Option Asked) (a b : Caller) :
   pub told : b.told ≡ a.told
   pub fds : b.fds ≡ a.fds
 
--- The client answers its next request itself, as POSIX does.
-pub record AnswersItself (a b : Caller) : Type 0 where
+-- The client answers its next request itself, as POSIX does. The baton had seen so many tickets, and has.
+pub record AnswersItself (since upto : ℕ) (a b : Caller) : Type 0 where
   pub idle : a.errand ≡ None
   pub idle' : b.errand ≡ None
   pub request : Op
@@ -56,6 +57,7 @@ pub record AnswersItself (a b : Caller) : Type 0 where
   pub by : entry.by ≡ Client a.number
   pub later : a.seen ≤ entry.ticket
   pub seen : entry.ticket < b.seen
+  pub drawn : IsDrawnWith since upto entry
   pub asked : entry.op ≡ request
   pub reply : (t : PosixTree) → AreOf t.fds a.number a.fds → entry.reply ≡ (posix t a.number request).1
   pub fds : (t : PosixTree) → AreOf t.fds a.number a.fds → AreOf (posix t a.number request).0.fds a.number b.fds
@@ -156,14 +158,15 @@ module _ {P N : Type 0} (asks : P → Actor → Asked → P → Type 0) (gets : 
   abbrev pub SentOnGoes : P → Actor → Bool → P → Caller → Caller → Type 0
   SentOnGoes p to stays q a b = (x : Sent) × (r : Asked) × (between : P) × gets p (answer.Redirect x) between × (x.to ≡ to) × SendsOn x r (kept_if stays r) a b × Goes between to r stays q
 
-  abbrev pub IsTurn : P → P → Caller → Turn → Caller → Type 0
-  IsTurn p q a (turn.Sent to) b = NewGoes p to false q a b ⊎ KeptGoes p to false false q a b
-  IsTurn p q a (turn.Resent to) b = SentOnGoes p to false q a b ⊎ KeptGoes p to false true q a b
-  IsTurn p q a turn.Local b = AnswersItself a b × (q ≡ p)
-  IsTurn p q a turn.Told b = (s : Told) × gets p (answer.Served s) q × IsAnswered s a b
-  IsTurn p q a (turn.Full to) b = NewGoes p to true q a b ⊎ (SentOnGoes p to true q a b ⊎ ((again : Bool) × KeptGoes p to true again q a b))
-  IsTurn p q a turn.Waiting b = IsWaiting a b × same p q × empty p
-  IsTurn p q a turn.Done b = IsOver a b × (q ≡ p)
+  -- The baton had seen so many tickets before, and has behind the turn.
+  abbrev pub IsTurn : ℕ → ℕ → P → P → Caller → Turn → Caller → Type 0
+  IsTurn since upto p q a (turn.Sent to) b = NewGoes p to false q a b ⊎ KeptGoes p to false false q a b
+  IsTurn since upto p q a (turn.Resent to) b = SentOnGoes p to false q a b ⊎ KeptGoes p to false true q a b
+  IsTurn since upto p q a turn.Local b = AnswersItself since upto a b × (q ≡ p)
+  IsTurn since upto p q a turn.Told b = (s : Told) × gets p (answer.Served s) q × IsAnswered s a b
+  IsTurn since upto p q a (turn.Full to) b = NewGoes p to true q a b ⊎ (SentOnGoes p to true q a b ⊎ ((again : Bool) × KeptGoes p to true again q a b))
+  IsTurn since upto p q a turn.Waiting b = IsWaiting a b × same p q × empty p
+  IsTurn since upto p q a turn.Done b = IsOver a b × (q ≡ p)
 
   -- the last part of a turn: what is kept goes
   abbrev pub IsTry : P → P → Caller → Turn → Caller → Type 0

@@ -1,5 +1,5 @@
 // A client.
-ghost use Rattle.std.specs.Prelude.{ℕ, ◌≡◌, ◌⊎◌, ◌<◌, ◌≤◌, ◌+◌, [], None, Some, false, true, length, is_some};
+ghost use Rattle.std.specs.Prelude.{ℕ, ◌≡◌, ◌≢◌, ◌⊎◌, ◌<◌, ◌≤◌, ◌+◌, [], None, Some, false, true, length, is_some};
 ghost use Rattle.ufs_hints.specs.Hints.{hint_of, renewed};
 ghost use Rattle.ufs_layout.specs.Areas.{IsGeometry};
 ghost use Rattle.ufs_model.specs.PosixTree.{desc_at};
@@ -10,6 +10,7 @@ ghost use Rattle.std.specs.FinMap as fin;
 ghost use Rattle.ufs_caller.specs.Callers.{entries_in, new_caller};
 ghost use Rattle.ufs_caller.specs.Hands.{IsHome};
 ghost use Rattle.ufs_caller.specs.Tied.{AreMadeThere};
+ghost use Rattle.ufs_caller.specs.declared.turn.Turn.TheVariants as turn;
 ghost use Rattle.ufs_caller.specs.Turns.{AreRenewed, AreRenewedBy, HasKept, HasSent, IsAnswered, IsTry, IsTurn, SendsOn};
 
 use crate::hands::{see_by, send_off, take_home};
@@ -20,6 +21,7 @@ use crate::{Told, Turn};
 use std::alloc::Global;
 use std::collections::VecDeque;
 use std::marker::Model;
+use ufs_baton::Baton;
 use ufs_client::{answer_own, ask, keep};
 use ufs_fds::FdTable;
 use ufs_hints::Hints;
@@ -116,15 +118,22 @@ impl<N: Naming> Client<N> {
         (hand, told)
     }
 
-    /// One turn. It takes no memory, but for a new hint, and for the list of servers behind the eighth.
-    pub fn poll<Q: ClientPost<N>>(&mut self, table: &HandTable<N>, post: &mut Q) -> Turn
+    /// One turn. It takes no memory, but for a new hint, and for the list of servers behind the eighth. What the client answers itself is
+    /// drawn behind all that the baton has seen, which then has seen it too; any other turn leaves the baton as it was.
+    pub fn poll<Q: ClientPost<N>>(
+        &mut self,
+        table: &HandTable<N>,
+        baton: &mut Baton<N>,
+        post: &mut Q,
+    ) -> Turn
         requires mine { Q.me post.old ≡ self.old.number }
-        ensures turn { IsTurn Q.asks Q.gets Q.same Q.was_full Q.was_empty post.old post.new self.old result self.new }
+        ensures turn { IsTurn Q.asks Q.gets Q.same Q.was_full Q.was_empty baton.old baton.new post.old post.new self.old result self.new }
+        ensures seen { result ≢ turn.Local → baton.new ≡ baton.old }
         ensures number { self.new.number ≡ self.old.number }
         ensures mine { Q.me post.new ≡ Q.me post.old }
     {
         if self.trip.is_none() {
-            return self.begin(table, post);
+            return self.begin(table, baton, post);
         }
         if self.kept.is_some() {
             return self.send(post);
@@ -132,9 +141,15 @@ impl<N: Naming> Client<N> {
         self.hear(table, post)
     }
 
-    fn begin<Q: ClientPost<N>>(&mut self, table: &HandTable<N>, post: &mut Q) -> Turn
+    fn begin<Q: ClientPost<N>>(
+        &mut self,
+        table: &HandTable<N>,
+        baton: &mut Baton<N>,
+        post: &mut Q,
+    ) -> Turn
         requires idle { self.old.errand ≡ None }
-        ensures turn { IsTurn Q.asks Q.gets Q.same Q.was_full Q.was_empty post.old post.new self.old result self.new }
+        ensures turn { IsTurn Q.asks Q.gets Q.same Q.was_full Q.was_empty baton.old baton.new post.old post.new self.old result self.new }
+        ensures seen { result ≢ turn.Local → baton.new ≡ baton.old }
         ensures number { self.new.number ≡ self.old.number }
         ensures mine { Q.me post.new ≡ Q.me post.old }
     {
@@ -145,6 +160,7 @@ impl<N: Naming> Client<N> {
         if let Some(answer) = answer_own(&ask) {
             answer_itself(
                 table,
+                baton,
                 &self.geometry,
                 &mut self.hand,
                 &mut self.fds,
@@ -186,7 +202,7 @@ impl<N: Naming> Client<N> {
     fn hear<Q: ClientPost<N>>(&mut self, table: &HandTable<N>, post: &mut Q) -> Turn
         requires mine { Q.me post.old ≡ self.old.number }
         requires sent { HasSent self.old }
-        ensures turn { IsTurn Q.asks Q.gets Q.same Q.was_full Q.was_empty post.old post.new self.old result self.new }
+        ensures turn { (seen : ℕ) → IsTurn Q.asks Q.gets Q.same Q.was_full Q.was_empty seen seen post.old post.new self.old result self.new }
         ensures number { self.new.number ≡ self.old.number }
         ensures mine { Q.me post.new ≡ Q.me post.old }
     {

@@ -1,5 +1,6 @@
 // A client answers a request itself.
 ghost use Rattle.std.specs.Prelude.{ℕ, ◌≡◌, ◌<◌, ◌≤◌, ◌++◌, ◌∷◌, [], None, false, true, length};
+ghost use Rattle.ufs_baton.specs.Baton.{IsDrawnWith};
 ghost use Rattle.ufs_client.specs.Own.{IsOwnAnswer, is_own};
 ghost use Rattle.ufs_layout.specs.Areas.{IsGeometry};
 ghost use Rattle.ufs_model.specs.Asks.{IsAsk, fd_told};
@@ -21,6 +22,7 @@ use crate::hands::mark_asked;
 use crate::{Told, Via};
 use std::alloc::Global;
 use std::marker::Brand;
+use ufs_baton::Baton;
 use ufs_client::{OwnAnswer, keep};
 use ufs_fds::FdTable;
 use ufs_hand_laws::Fresh;
@@ -28,9 +30,11 @@ use ufs_joint::{Hand, HandTable, Leaving, Naming, beside_law, draw_law};
 use ufs_layout::Geometry;
 use ufs_model::{Actor, Ask, Desc, Entry};
 
-/// The client answers the request itself: its transcript has the entry, and its descriptors go on as POSIX's.
+/// The client answers the request itself: its transcript has the entry, and its descriptors go on as POSIX's. The entry is behind all
+/// that the baton has seen, and then the baton has seen it.
 pub fn answer_itself<N: Naming>(
     table: &HandTable<N>,
+    baton: &mut Baton<N>,
     geometry: &Geometry,
     hand: &mut Hand<N>,
     fds: &mut FdTable,
@@ -54,13 +58,15 @@ pub fn answer_itself<N: Naming>(
     requires made { AreMadeThere N.start ask.client told.old.items }
     ensures home { IsHome ask.client (entries_in told.new.items) fds.new hand.new }
     ensures ranged { AreInRange fds.new }
-    ensures told { (entry : Entry) × (told.new.items ≡ told.old.items ++ record { entry = entry; via = [] } ∷ []) × IsMadeBy ask answer.reply entry × (hand.old.seen ≤ entry.ticket) × (entry.ticket < hand.new.seen) }
+    ensures told { (entry : Entry) × (told.new.items ≡ told.old.items ++ record { entry = entry; via = [] } ∷ []) × IsMadeBy ask answer.reply entry × (hand.old.seen ≤ entry.ticket) × (entry.ticket < hand.new.seen) × IsDrawnWith baton.old baton.new entry }
     ensures fds { (t : PosixTree) → AreOf t.fds ask.client fds.old → AreOf (posix t ask.client ask.op).0.fds ask.client fds.new }
     ensures made { AreMadeThere N.start ask.client told.new.items }
     ensures capacity { vec_capacity told.new ≡ vec_capacity told.old }
 {
     let desc = answer.desc;
+    baton.tell(table, hand);
     let entry = draw_own(table, geometry, hand, ask, answer);
+    baton.see(table, hand);
     keep(fds, &entry, desc);
     told.push_reserved(Told {
         entry,

@@ -18,6 +18,7 @@ use std::alloc::AllocGlobal;
 use std::collections::VecDeque;
 use std::marker::Brand;
 use std::process::Abort;
+use ufs_baton::Baton;
 use ufs_caller::{Client, ClientRoom, Told, Turn, client_hand};
 use ufs_disk::PlainDisk;
 use ufs_joint::{Begun, Hand, HandTable, Naming, Opened};
@@ -41,6 +42,7 @@ fn requests<R: Abort + AllocGlobal>(rt: &R) -> VecDeque<Op>
 fn turn<N: Naming, R: Abort>(
     rt: &R,
     table: &HandTable<N>,
+    baton: &mut Baton<N>,
     client: &mut Client<N>,
     post: &mut Shy<N>,
     wanted: Turn,
@@ -50,13 +52,14 @@ fn turn<N: Naming, R: Abort>(
     ensures { client.new.number ≡ 0 }
 {
     post.post.turn_of_client(0);
-    same(rt, client.poll(table, post), wanted);
+    same(rt, client.poll(table, baton, post), wanted);
 }
 
 // The client answers the first itself. The second finds a full ring, goes, is waited for, sent back once, and excused.
 fn play<N: Naming, R: Abort>(
     rt: &R,
     table: &HandTable<N>,
+    baton: &mut Baton<N>,
     client: &mut Client<N>,
     post: &mut Shy<N>,
 )
@@ -66,16 +69,16 @@ fn play<N: Naming, R: Abort>(
     ensures { client.new.number ≡ 0 }
 {
     let to = Actor::Primary;
-    turn(rt, table, client, post, Turn::Local);
+    turn(rt, table, baton, client, post, Turn::Local);
     post.refuses = true;
-    turn(rt, table, client, post, Turn::Full { to });
-    turn(rt, table, client, post, Turn::Sent { to });
-    turn(rt, table, client, post, Turn::Waiting);
+    turn(rt, table, baton, client, post, Turn::Full { to });
+    turn(rt, table, baton, client, post, Turn::Sent { to });
+    turn(rt, table, baton, client, post, Turn::Waiting);
     sends_back(rt, &mut post.post);
-    turn(rt, table, client, post, Turn::Resent { to });
+    turn(rt, table, baton, client, post, Turn::Resent { to });
     excuses(rt, table, &mut post.post);
-    turn(rt, table, client, post, Turn::Told);
-    turn(rt, table, client, post, Turn::Done);
+    turn(rt, table, baton, client, post, Turn::Told);
+    turn(rt, table, baton, client, post, Turn::Done);
 }
 
 fn are_answered<R: Abort>(rt: &R, told: &[Told]) {
@@ -126,7 +129,8 @@ fn session<N: Naming, D: Door, R: Abort + AllocGlobal>(
     let _ = names;
     let _ = store;
     let Begun { table, mut hand } = opened.named::<N>();
-    let own = client_hand(&table, &mut hand, 0);
+    let mut own = client_hand(&table, &mut hand, 0);
+    let mut baton = Baton::of(&table, &mut own);
     let room = ClientRoom::make(rt.alloc(), requests(rt)).expect(rt, "memory");
     let mut client = Client::new(room, geometry, 0, own);
     let post = PlainPost::make(rt.alloc(), 1, 3).expect(rt, "memory");
@@ -134,7 +138,7 @@ fn session<N: Naming, D: Door, R: Abort + AllocGlobal>(
         post,
         refuses: false,
     };
-    play(rt, &table, &mut client, &mut post);
+    play(rt, &table, &mut baton, &mut client, &mut post);
     let back = at_home(rt, client);
     hand.join(&table, back);
     hand.close(table, &geometry)

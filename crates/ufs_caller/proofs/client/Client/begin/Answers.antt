@@ -69,7 +69,7 @@ returns-in-Some-answer_own-clause-turn g c =
     let told = c.answer_itself.ensures.told in (
       answers k s.number s.told.items s.fds s.left.items left s.hand s.kept s.trip s.hints room tied c.args.self.now c.self.view_is c.requires.idle ask c.in-Some.op e.client seq e.asked next tells
           c.in-Some-answer_own.answer.reply c.in-Some-answer_own.answer.desc (λ t is. sym (c.answer_own.ensures.own t is) ∙ ap (is_some {T = OwnAnswer}) c.in-Some-answer_own.is) c.in-Some-answer_own.ensures.posix
-          c.answer_itself.new.told.items c.answer_itself.new.fds c.answer_itself.new.hand told.0 told.1 told.2 told.3 told.4 c.answer_itself.ensures.fds,
+          c.args.baton.now c.answer_itself.new.baton c.answer_itself.new.told.items c.answer_itself.new.fds c.answer_itself.new.hand told.0 told.1 told.2 told.3 told.4 told.5 c.answer_itself.ensures.fds,
       refl,
     )
 
@@ -163,7 +163,7 @@ returns-clause-turn g c =
     let away = c.send_off-request.ensures.away h.self h.before h.both in
     let q = g.Q.ClientPost in
     let mid = seen s.number s.told.items s.fds left c.send_off-request.new.hand c.put-2.new.place c.put.new.place c.by_hint-trip.new.hints in
-    sent_turn q.asks q.gets q.same q.was_full q.was_empty c.args.self.now mid c.send.new.self c.args.post.now c.send.new.post c.send.result c.by_hint-trip.result.to c.send_off-request.result
+    sent_turn q.asks q.gets q.same q.was_full q.was_empty c.args.baton.now c.args.baton.now c.args.self.now mid c.send.new.self c.args.post.now c.send.new.post c.send.result c.by_hint-trip.result.to c.send_off-request.result
     (subst (λ (x : Option Asked × Option Trip). Sends c.by_hint-trip.result.to c.send_off-request.result (Some c.send_off-request.result) c.args.self.now (seen s.number s.told.items s.fds left c.send_off-request.new.hand x.0 x.1 c.by_hint-trip.new.hints)) (λ i. (sym c.put-2.ensures i, sym c.put.ensures i))
     (sends k s.number s.told.items s.fds s.left.items left s.hand s.kept s.trip s.hints room tied c.args.self.now c.self.view_is c.requires.idle ask c.in-Some.op e.client seq e.asked next tells
     needs c.by_hint-trip.result c.by_hint-trip.new.hints c.by_hint-trip.ensures.to c.by_hint-trip.ensures.hints c.by_hint-trip.ensures.via c.by_hint-trip.ensures.file c.by_hint-trip.ensures.again c.send_off-request.new.hand c.send_off-request.result c.send_off-request.ensures.request away))
