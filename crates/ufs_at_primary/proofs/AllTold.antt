@@ -18,7 +18,7 @@ use Rattle.ufs_model.specs.declared.data.Reply.{Reply}
 use Rattle.ufs_model.specs.declared.data.Reply.TheVariants as reply
 use Rattle.ufs_msg.specs.Answers.{IsTold}
 use Rattle.ufs_msg.specs.Requests.{HasClientAlone, IsAsked}
-use Rattle.ufs_msg.specs.There.{IsClientThere}
+use Rattle.ufs_msg.specs.There.{IsClientThere, IsServerThere}
 use Rattle.ufs_hand_laws.specs.Owned.{Has, count, one}
 use Rattle.ufs_at_primary.specs.All.{numbers_in}
 

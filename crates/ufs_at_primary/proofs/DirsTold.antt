@@ -14,7 +14,7 @@ use Rattle.ufs_model.specs.declared.data.Op.{Op}
 use Rattle.ufs_model.specs.declared.data.Op.TheVariants as op
 use Rattle.ufs_msg.specs.Answers.{IsTold}
 use Rattle.ufs_msg.specs.Requests.{HasClientAlone, IsAsked}
-use Rattle.ufs_msg.specs.There.{IsClientThere}
+use Rattle.ufs_msg.specs.There.{IsClientThere, IsServerThere}
 
 -- it is an `fsync` on no file
 pub record AsksSyncOf (ask : Ask) : Type 0 where

@@ -1,5 +1,5 @@
 -- What comes of a request, put together.
-use Rattle.std.proofs.Common.{◌≡◌, ◌≢◌, ◌≤◌, ◌<◌, ◌^◌, ℕ, ◌⊎◌, inl, inr, Bool, true, false, cond, List, Option, Some, None, is_some, refl, ap, sym, ◌∙◌, subst}
+use Rattle.std.proofs.Common.{◌≡◌, ◌≢◌, ◌≤◌, ◌<◌, ◌^◌, ℕ, ◌⊎◌, inl, inr, Bool, true, false, cond, List, Option, Some, None, is_some, arith, refl, ap, sym, ◌∙◌, subst}
 use Rattle.std.specs.Prelude.{IfNone, IfSome, IsSome, not}
 use Rattle.std.specs.FinMap as fin
 use Rattle.ufs_file.specs.Hand.{IsOf}
@@ -19,11 +19,12 @@ use Rattle.ufs_model.specs.declared.data.Ask.{Ask}
 use Rattle.ufs_model.specs.declared.data.Desc.{Desc}
 use Rattle.ufs_msg.specs.Requests.{Asked, HasClientAlone, IsAsked, asked_of}
 use Rattle.ufs_msg.specs.There.{IsByHint, is_by_hint}
+use Rattle.ufs_msg.specs.declared.answer.Answer.TheVariants as says
 use Rattle.ufs_hand_laws.specs.Parts.{ClientPart}
 use Rattle.ufs_at_primary.specs.All.{numbers_in}
 use Rattle.ufs_at_primary.specs.Kinds.{IsByNames, IsOnFile}
 use Rattle.ufs_at_primary.specs.Stock.{AreHere, StockState}
-use Rattle.ufs_at_primary.specs.Served.{IsAway, IsOut, IsServed, IsStill, IsTried, emptied, lent_with, made_in}
+use Rattle.ufs_at_primary.specs.Served.{IsAway, IsOut, IsServed, IsStill, IsTried, IsTriedSince, emptied, lent_with, made_in}
 use Rattle.ufs_at_primary.specs.declared.tried.Tried.{Tried}
 use Rattle.ufs_at_primary.specs.declared.tried.Tried.TheVariants as tried
 use Rattle.ufs_at_primary.proofs.AllTold.{same_counts}
