@@ -38,7 +38,9 @@ made_at k n (suc client) (told ∷ lists) e made has =
     subst (λ (c : ℕ). MayHaveServed k c e.by) (omega arith) (made_at k (suc n) client lists e made.1 has)
 
 made_by : (k : Start) (lists : List (List Told)) (history : List Entry) → IsMerged (map entries_in lists) history → AreAllMadeThere k lists → (e : Entry) → Has e history → MayHaveServed k e.client e.by
-made_by k lists history merged made e has = made_at k 0 e.client lists e made (subst (Has e) (merged.each e.client) (has_mine e history has))
+made_by k lists history merged made e has =
+    let same : 0 + e.client ≡ e.client = omega arith in
+    subst (λ (n : ℕ). MayHaveServed k n e.by) same (made_at k 0 e.client lists e made (subst (Has e) (merged.each e.client) (has_mine e history has)))
 
 -- ---- the whole
 
