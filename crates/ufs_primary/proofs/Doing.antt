@@ -1,5 +1,5 @@
 -- A request that is done, and what is told of it.
-use Rattle.std.proofs.Common.{◌≡◌, ◌≤◌, ℕ, ◌⊎◌, Bool, true, List, [], ◌∷◌, ◌++◌, length, inl, Option, refl, ap, sym, ◌∙◌, subst}
+use Rattle.std.proofs.Common.{◌≡◌, ◌≤◌, ℕ, ◌⊎◌, Bool, true, List, [], ◌∷◌, ◌++◌, length, inl, inr, Option, refl, ap, sym, ◌∙◌, subst}
 use Rattle.ufs_baton.specs.Baton.{IsDrawnWith, IsToldOf}
 use Rattle.ufs_joint.specs.Cells.{FileCell, View}
 use Rattle.ufs_model.specs.declared.data.Ask.{Ask}
