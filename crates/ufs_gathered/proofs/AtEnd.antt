@@ -14,7 +14,10 @@ use Rattle.ufs_client.proofs.Lists.{get_past, rising_from}
 use Rattle.ufs_disk.specs.Disk.{IsWhole as IsDiskWhole, Leaves, State}
 use Rattle.ufs_promise_laws.specs.Last.{StandsForTree}
 use Rattle.ufs_promise_laws.specs.LastLaws.{AllIsLast}
+use Rattle.ufs_journal.specs.Kept.{IsUnused}
+use Rattle.ufs_ledger.specs.Committing.{IsLedgerBy}
 use Rattle.ufs_ledger.specs.Kept.{Counts}
+use Rattle.ufs_ledger.specs.Ledger.{Ledger}
 use Rattle.ufs_model.specs.History.{IsComplete, IsInOrder, entries_of, requests_of, tree_after}
 use Rattle.ufs_model.specs.PosixTree.{PosixTree}
 use Rattle.ufs_model.specs.declared.data.Entry.{Entry}
@@ -27,6 +30,7 @@ use Rattle.ufs_hand_laws.specs.DiskBytes.{state_of}
 use Rattle.ufs_hand_laws.specs.Owned.{Has, count}
 use Rattle.ufs_hand_laws.specs.Parts.{Cells}
 use Rattle.ufs_hand_laws.proofs.Ending.{mine_has}
+use Rattle.ufs_store.specs.Ledgers.{HasLedger}
 use Rattle.ufs_store.specs.State.{StoreState}
 use Rattle.ufs_store_steps.specs.Cells.{cells_of}
 use Rattle.ufs_store_steps.proofs.Cells.{whole_cells}
@@ -34,6 +38,7 @@ use Rattle.ufs_promise_laws.specs.AlwaysLaws.{RestIsExplained}
 use Rattle.ufs_promise_laws.specs.Known.{IsKeptGoing}
 use Rattle.ufs_promise_laws.specs.OnDisk.{HasAll, HasFiles, IsExplainedImage}
 use Rattle.ufs_names_commit.specs.Laws.{AllAreThere}
+use Rattle.ufs_held.specs.Together.{under_numbers}
 use Rattle.ufs_joint.specs.Cells.{FileCell, NamesCell, Start, StoreCell, View, store_of}
 use Rattle.ufs_joint.specs.Disks.{cell_of, states_behind}
 use Rattle.ufs_joint.specs.Ends.{IsAlwaysExplained, IsWhole}
@@ -42,6 +47,7 @@ use Rattle.ufs_joint.specs.NamesTurns.{live_files}
 use Rattle.ufs_joint.specs.Rule.{KnowsAll, at_tickets}
 use Rattle.ufs_joint.specs.Sound.{IsExplainedState}
 use Rattle.ufs_joint.specs.Turns.{begun_at, turn_begun}
+use Rattle.ufs_joint.specs.Whole.{HasFileCell}
 use Rattle.ufs_joint.proofs.Kept.{kept_going}
 use Rattle.ufs_joint.proofs.Takes.{fewer_before, fewer_names_before}
 use Rattle.ufs_turns.specs.HeldStore.{IsPassed, IsStoreIn, begun_in, begun_view, counted_in, state_in, states_in}
@@ -50,6 +56,7 @@ use Rattle.ufs_gathered.specs.Gathered.{AreHome, HasAllOf}
 use Rattle.ufs_gathered.proofs.Histories.{each_rises, each_within, its_own, none_there, same_history, some_there}
 use Rattle.ufs_gathered.proofs.Homes.{here_at, one_of}
 use Rattle.ufs_gathered.proofs.Joined.{in_numbered, numbered_in}
+use Rattle.ufs_gathered.proofs.Lengths.{all_bytes, few_files}
 use Rattle.ufs_gathered.proofs.Throughout.{more_along, once_along, past_along}
 
 live_is : (n : NamesPart) (file : ℕ) → set.contains (live_files n) file ≡ is_some (fin.get n.held file)
@@ -120,6 +127,12 @@ module _ (k : Start) (origin : Moments) (visible keeps : Bool) (names : NamesCel
       let y = numbered_in files file x.0 (subst (Has (file, x.0)) all.files_are x.1) in
       (x.0, y.1, sym y.0)
 
+  file_cells : (x : FileCell) → Has x files → HasFileCell whole.parts x.value.file.file x
+  file_cells x of = whole.cells.files x.value.file.file x (has_file x of)
+
+  once : (file : ℕ) → count eqb file (under_numbers files) ≤ 1
+  once file = subst (λ (cs : List (ℕ × FileCell)). count eqb file cs ≤ 1) all.files_are (whole.once file)
+
   -- ---- the disk
 
   module _ (rest : RestIsExplained k.geometry) (disk_whole : IsTrue visible → IsDiskWhole s.sectors s.moments.state) (seen : k.is_visible ≡ true) where
@@ -158,15 +171,18 @@ module _ (k : Start) (origin : Moments) (visible keeps : Bool) (names : NamesCel
           each = λ i low high. e.past p.0 (inr p.1) i low high state p.2;
         }
 
-    throughout : IsTrue keeps → AreExplainedAlong s.sectors whole.start whole.history 0 (state_in k.view.store ++ states_behind (counted_in k.view.store) s) (length whole.history)
-    throughout kept =
+    along : AreExplainedAlong s.sectors whole.start whole.history 0 (states_in home.past ++ cells_of s.sectors s.moments.state ∷ []) (length whole.history)
+    along =
         let last = cells_of s.sectors s.moments.state in
         let before : AreExplainedAlong s.sectors whole.start whole.history 0 (states_in home.past ++ last ∷ []) e.upto =
         past_along s.sectors whole.start whole.history was.past e.upto e.joined (λ x has c of i low high. e.past x has i low high c of) in
-        let each : AreExplainedAlong s.sectors whole.start whole.history 0 (states_in home.past ++ last ∷ []) m =
-        more_along s.sectors whole.start whole.history 0 e.upto m (states_in home.past) last before e.within (λ i low high. e.now i (let a = e.stamped in omega (arith, a, low)) high) in
-        subst (λ (q : ℕ). AreExplainedAlong s.sectors whole.start whole.history 0 (state_in k.view.store ++ states_behind (counted_in k.view.store) s) q) (sym whole.all_drawn)
-        (once_along s.sectors whole.start whole.history 0 m (state_in k.view.store ++ states_behind (counted_in k.view.store) s) (states_in home.past ++ last ∷ []) (home.passes seen kept) each)
+        subst (λ q. AreExplainedAlong s.sectors whole.start whole.history 0 (states_in home.past ++ last ∷ []) q) (sym whole.all_drawn)
+        (more_along s.sectors whole.start whole.history 0 e.upto m (states_in home.past) last before e.within (λ i low high. e.now i (let a = e.stamped in omega (arith, a, low)) high))
+
+    throughout : IsTrue keeps → AreExplainedAlong s.sectors whole.start whole.history 0 (state_in k.view.store ++ states_behind (counted_in k.view.store) s) (length whole.history)
+    throughout kept =
+        once_along s.sectors whole.start whole.history 0 (length whole.history) (state_in k.view.store ++ states_behind (counted_in k.view.store) s)
+        (states_in home.past ++ cells_of s.sectors s.moments.state ∷ []) (home.passes seen kept) along
 
     -- the history of which it is known what is committed is the whole one
     same : knows.history ≡ whole.history
@@ -180,15 +196,34 @@ module _ (k : Start) (origin : Moments) (visible keeps : Bool) (names : NamesCel
             let from = whole.merged.from x there in
             mine_has x.client x knows.history (subst (Has x) (knows.around.entries x.client from.0 from.1) from.2)
 
+    abbrev d : KnowsDisk k v knows.history c
+    d = knows.disk seen tt c has_store
+
+    kept : s.stop ≡ None → IsKeptGoing (store_of c) k.tree knows.history d.parts d.known
+    kept going = kept_going (store_of c) k.tree knows.history d.parts d.known going d.kept
+
+    ledger : s.stop ≡ None → (l : Ledger) × HasLedger s l
+    ledger going =
+        let here = kept going in
+        let l = here.going.ledger in
+        let has = here.going.has in (
+          l,
+          record {
+            going = has.going;
+            by = subst (λ (x : State). IsLedgerBy s.journal s.sectors x l) state_is has.by;
+            superblock_is = has.superblock_is;
+            added = has.added;
+            numbered = has.numbered;
+            unused = λ txn late. subst (λ (x : State). IsUnused s.journal.geometry s.journal.epoch txn x) state_is (has.unused txn late);
+            settled = has.settled;
+            older = has.older;
+            fits = has.fits;
+          },
+        )
+
     module _ (going : s.stop ≡ None) (committed : AreAllKnown names files) (there : AllAreThere k.geometry) (is_last : AllIsLast k.geometry) where
-      abbrev d : KnowsDisk k v knows.history c
-      d = knows.disk seen tt c has_store
-
-      kept : IsKeptGoing (store_of c) k.tree knows.history d.parts d.known
-      kept = kept_going (store_of c) k.tree knows.history d.parts d.known going d.kept
-
       abbrev counts : Counts
-      counts = kept.going.counts
+      counts = (kept going).going.counts
 
       held_is : d.parts.names ≡ names.value
       held_is = (d.cells.names tt names has_names).names
@@ -203,7 +238,7 @@ module _ (k : Start) (origin : Moments) (visible keeps : Bool) (names : NamesCel
           let told = d.knows.names_told tt names has_names in
           let later = fewer_names_before k.tree knows.history names.changed names.known committed.names_known in
           let known = d.knows.names tt names has_names in
-          let covered = kept.covers.names in
+          let covered = (kept going).covers.names in
           omega (arith, told, later, known, covered)
 
       file_done : (file : ℕ) (x : FileCell) → Has (file, x) v.files → length (changes_of file k.tree knows.history) ≤ counts.files file
@@ -212,7 +247,7 @@ module _ (k : Start) (origin : Moments) (visible keeps : Bool) (names : NamesCel
           let told = d.knows.files_told file x has in
           let later = fewer_before file k.tree knows.history x.changed x.known (committed.files_known x one.1) in
           let known = d.knows.files file x has in
-          let covered = kept.covers.files file in
+          let covered = (kept going).covers.files file in
           omega (arith, told, later, known, covered)
 
       has_done : (file : ℕ) → has (fin.keys d.parts.names.held) file ≡ is_some (fin.get d.parts.names.held file)
@@ -220,7 +255,7 @@ module _ (k : Start) (origin : Moments) (visible keeps : Bool) (names : NamesCel
 
       has_files : (held : (file : ℕ) → IsSome (fin.get names.value.held file) → (x : FileCell) × Has (file, x) v.files) → HasFiles (store_of c) k.tree knows.history d.parts (fin.keys d.parts.names.held)
       has_files held = record {
-        names = record { going = kept.going; names = names_done; numbered = λ file live. kept.numbered file (live_known file live) live };
+        names = record { going = (kept going).going; names = names_done; numbered = λ file live. (kept going).numbered file (live_known file live) live };
         files = λ file done.
             let live : IsSome (fin.get d.parts.names.held file) = sym (has_done file) ∙ done in
             let x = held file (subst (λ (y : NamesPart). is_some (fin.get y.held file) ≡ true) held_is live) in
@@ -260,11 +295,15 @@ module _ (k : Start) (origin : Moments) (visible keeps : Bool) (names : NamesCel
     parts = whole.parts;
     are = whole.are;
     has_names = whole.cells.names tt names has_names;
-    has_files = λ x of. whole.cells.files x.value.file.file x (has_file x of);
+    has_files = file_cells;
     all_files = all_files;
-    once = λ file. subst (λ (cs : List (ℕ × FileCell)). count eqb file cs ≤ 1) all.files_are (whole.once file);
+    once = once;
+    few = few_files whole.parts (tree_after whole.start whole.history) whole.are files file_cells all_files once k.geometry whole.free whole.server;
+    bytes = all_bytes whole.parts (tree_after whole.start whole.history) whole.are files file_cells all_files once;
+    ledger = λ seen. ledger rest disk_whole seen;
     crash = λ seen. crash rest disk_whole seen;
     stamped = λ seen. stamped rest disk_whole seen;
     throughout = λ seen. throughout rest disk_whole seen;
+    noted = λ seen. (states_in home.past ++ cells_of s.sectors s.moments.state ∷ [], along rest disk_whole seen);
     last = λ seen going committed. last rest disk_whole seen going committed there is_last held;
   }

@@ -52,22 +52,22 @@ none_there (x ∷ xs) none = absurd (none x (inl refl))
 pub each_rises : (past : List Stretch) (upto : ℕ) → AreJoined past upto → (y : Stretch) → Has y past → y.from ≤ y.to
 each_rises [] upto joined y has = absurd has
 each_rises (x ∷ past) upto joined y (inl is) = subst (λ (z : Stretch). z.from ≤ z.to) (sym is) joined.0
-each_rises (x ∷ past) upto joined y (inr has) = by joined.1
+each_rises (x ∷ past) upto joined y (inr has) = by joined.1 (λ u j. each_rises past u j y has)
   where
-    by : ((x.states ≡ []) × AreJoined past upto) ⊎ ((1 ≤ length x.states) × (x.to ≡ upto) × ((z : ℕ) × (x.from ≤ z) × (z ≤ upto) × AreJoined past z)) → y.from ≤ y.to
-    by (inl h) = each_rises past upto h.1 y has
-    by (inr h) = each_rises past h.2.0 h.2.3 y has
+    by : ((x.states ≡ []) × AreJoined past upto) ⊎ ((1 ≤ length x.states) × (x.to ≡ upto) × ((z : ℕ) × (x.from ≤ z) × (z ≤ upto) × AreJoined past z)) → ((u : ℕ) → AreJoined past u → y.from ≤ y.to) → y.from ≤ y.to
+    by (inl h) rest = rest upto h.1
+    by (inr h) rest = rest h.2.0 h.2.3
 
 -- one in which the disk passed a state ends no later than all of them
 pub each_within : (past : List Stretch) (upto : ℕ) → AreJoined past upto → (y : Stretch) → Has y past → 1 ≤ length y.states → y.to ≤ upto
 each_within [] upto joined y has some = absurd has
-each_within (x ∷ past) upto joined y has some = by joined.1 has
+each_within (x ∷ past) upto joined y has some = by joined.1 has (λ u j there. each_within past u j y there some)
   where
-    by : ((x.states ≡ []) × AreJoined past upto) ⊎ ((1 ≤ length x.states) × (x.to ≡ upto) × ((z : ℕ) × (x.from ≤ z) × (z ≤ upto) × AreJoined past z)) → (y ≡ x) ⊎ Has y past → y.to ≤ upto
-    by (inl h) (inl is) = (let none = ap (λ (w : Stretch). length w.states) is in let e = ap (length {A = Cells}) h.0 in absurd (omega (arith, none, e, some)))
-    by (inl h) (inr there) = each_within past upto h.1 y there some
-    by (inr h) (inl is) = (let same = ap (λ (w : Stretch). w.to) is in let e = h.1 in omega (arith, same, e))
-    by (inr h) (inr there) = (let l = each_within past h.2.0 h.2.3 y there some in let m = h.2.2 in omega (arith, l, m))
+    by : ((x.states ≡ []) × AreJoined past upto) ⊎ ((1 ≤ length x.states) × (x.to ≡ upto) × ((z : ℕ) × (x.from ≤ z) × (z ≤ upto) × AreJoined past z)) → (y ≡ x) ⊎ Has y past → ((u : ℕ) → AreJoined past u → Has y past → y.to ≤ u) → y.to ≤ upto
+    by (inl h) (inl is) rest = (let none = ap (λ (w : Stretch). length w.states) is in let e = ap (length {A = Cells}) h.0 in absurd (omega (arith, none, e, some)))
+    by (inl h) (inr there) rest = rest upto h.1 there
+    by (inr h) (inl is) rest = (let same = ap (λ (w : Stretch). w.to) is in let e = h.1 in omega (arith, same, e))
+    by (inr h) (inr there) rest = (let l = rest h.2.0 h.2.3 there in let m = h.2.2 in omega (arith, l, m))
 
 pub some_there : {A : Type 0} (x : A) (xs : List A) → Has x xs → 1 ≤ length xs
 some_there x [] has = absurd has

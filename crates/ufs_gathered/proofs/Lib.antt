@@ -3,7 +3,9 @@ mod Homes
 mod Histories
 mod Throughout
 mod AllThere
+mod Lengths
 mod AtEnd
 pub mod Cleaned
 mod Remaining
 mod Left
+mod Raised

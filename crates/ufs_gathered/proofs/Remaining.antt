@@ -11,6 +11,14 @@ use Rattle.ufs_turns.specs.HeldStore.{IsHeldStore, IsStoreIn}
 use Rattle.ufs_gathered.specs.Gathered.{AreHome, HasAllOf, HasFilesToo, HasPoolsAlone, with_all}
 use Rattle.ufs_gathered.proofs.AllThere.{has_all, store_there}
 
+pub files_too : (files : List FileCell) (v w : View) → HasPoolsAlone v → HasThemToo files v w → HasFilesToo files w
+files_too files v w alone too = record {
+  clients = too.clients ∙ alone.clients;
+  files = too.files ∙ ap (λ ps. ps ++ under_numbers files) alone.files;
+  names = too.names ∙ alone.names;
+  store = too.store ∙ alone.store;
+}
+
 module _ (names : NamesCell) (right : View) (named : HasNamesAlone names right) (k : Start) (origin : Moments) (visible keeps : Bool) (own : View) (s : StoreState) (home : IsHeldStore k origin visible keeps own s)
     (files : List FileCell) (rest : View) (rested : HasFilesToo files rest) (clients : List View) (lists : List (List Entry)) (at_home : AreHome lists clients) where
   -- the two hands apart

@@ -40,14 +40,14 @@ module _ (sectors : ℕ) (start : PosixTree) (history : List Entry) where
 
   pub past_along : (past : List Stretch) (upto : ℕ) → AreJoined past upto → ((x : Stretch) → Has x past → (c : Cells) → Has c x.states → Between x.from x.to c) → Along 0 (states_in past) upto
   past_along [] upto joined each = sym joined
-  past_along (x ∷ past) upto joined each = by joined.1
+  past_along (x ∷ past) upto joined each = by joined.1 (λ u j. past_along past u j (λ y has. each y (inr has)))
     where
-      by : ((x.states ≡ []) × AreJoined past upto) ⊎ ((1 ≤ length x.states) × (x.to ≡ upto) × ((y : ℕ) × (x.from ≤ y) × (y ≤ upto) × AreJoined past y)) → Along 0 (states_in past ++ x.states) upto
-      by (inl h) =
-          let front = past_along past upto h.1 (λ y has. each y (inr has)) in
+      by : ((x.states ≡ []) × AreJoined past upto) ⊎ ((1 ≤ length x.states) × (x.to ≡ upto) × ((y : ℕ) × (x.from ≤ y) × (y ≤ upto) × AreJoined past y)) → ((u : ℕ) → AreJoined past u → Along 0 (states_in past) u) → Along 0 (states_in past ++ x.states) upto
+      by (inl h) front_to =
+          let front = front_to upto h.1 in
           subst (λ (q : List Cells). Along 0 (states_in past ++ q) upto) (sym h.0) (subst (λ (q : List Cells). Along 0 q upto) (sym (append-nil (states_in past))) front)
-      by (inr h) =
-          both 0 h.2.0 upto (states_in past) x.states (past_along past h.2.0 h.2.3 (λ y has. each y (inr has)))
+      by (inr h) front_to =
+          both 0 h.2.0 upto (states_in past) x.states (front_to h.2.0 h.2.3)
           (within x.from upto h.2.0 x.states h.2.1 h.2.2 (λ c has. subst (λ (q : ℕ). Between x.from q c) h.1 (each x (inl refl) c has)) h.0)
 
   -- the last one may be explained by still more

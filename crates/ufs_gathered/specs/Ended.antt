@@ -1,5 +1,5 @@
 -- What is known of a session on hands that has ended.
-use Rattle.std.specs.Prelude.{ℕ, ◌≡◌, ◌≤◌, ◌<◌, ◌-◌, ◌^◌, ◌⊎◌, ◌++◌, eqb, Bool, IsTrue, true, List, [], ◌∷◌, length, map, take, Some, None, IsSome}
+use Rattle.std.specs.Prelude.{ℕ, ◌≡◌, ◌≤◌, ◌<◌, ◌+◌, ◌-◌, ◌^◌, ◌⊎◌, ◌++◌, eqb, Bool, IsTrue, true, List, [], ◌∷◌, length, map, take, Some, None, IsSome, sum_by}
 use Rattle.std.specs.FinMap as fin
 use Rattle.ufs_client.specs.Played.{IsMerged, transcript}
 use Rattle.ufs_disk.specs.Disk.{Leaves, State}
@@ -15,6 +15,8 @@ use Rattle.ufs_crash_laws.specs.Changes.{asks_commit}
 use Rattle.ufs_hand_laws.specs.FaultsOnce.{told}
 use Rattle.ufs_hand_laws.specs.Owned.{Has, count}
 use Rattle.ufs_hand_laws.specs.Parts.{Cells}
+use Rattle.ufs_ledger.specs.Ledger.{Ledger}
+use Rattle.ufs_store.specs.Ledgers.{HasLedger}
 use Rattle.ufs_store.specs.State.{StoreState}
 use Rattle.ufs_held.specs.Together.{under_numbers}
 use Rattle.ufs_promise_laws.specs.OnDisk.{IsExplainedImage}
@@ -28,6 +30,7 @@ use Rattle.ufs_joint.specs.Picks.{Pick}
 use Rattle.ufs_joint.specs.Servers.{AreServedSo}
 use Rattle.ufs_joint.specs.Sound.{IsExplainedState, MayHaveBegun}
 use Rattle.ufs_joint.specs.Whole.{HasFileCell, HasNamesCell}
+use Rattle.ufs_told.specs.Sizes.{total_size}
 use Rattle.ufs_turns.specs.HeldStore.{counted_in, sectors_in, state_in}
 
 -- ---- scripts
@@ -63,6 +66,10 @@ abbrev pub AreExplainedAlong : ℕ → PosixTree → List Entry → ℕ → List
 AreExplainedAlong sectors start history from [] to = from ≡ to
 AreExplainedAlong sectors start history from (state ∷ states) to =
     (upto : ℕ) × (from ≤ upto) × ((i : ℕ) → from ≤ i → i ≤ upto → IsExplainedState sectors start (take i history) state) × AreExplainedAlong sectors start history upto states to
+
+-- how large the file of a cell is
+abbrev pub size_of_cell : FileCell → ℕ
+size_of_cell c = length c.value.file.content.bytes
 
 -- All that changed of names and files is known as committed, and so is the birth of each live file.
 pub record AreAllKnown (names : NamesCell) (files : List FileCell) : Type 0 where
@@ -103,11 +110,18 @@ pub record HasEnded (k : Start) (origin : Moments) (keeps : Bool) (tickets : ℕ
   pub has_files : (c : FileCell) → Has c files → HasFileCell parts c.value.file.file c
   pub all_files : (file : ℕ) → IsSome (fin.get parts.files file) → (c : FileCell) × Has c files × (c.value.file.file ≡ file)
   pub once : (file : ℕ) → count eqb file (under_numbers files) ≤ 1
-  -- over a visible disk: what a crash leaves now is explained by the whole history, and proper;
+  -- they are no more than the image's inodes, and together as large as all files of the tree
+  pub few : length files ≤ k.geometry.inodes + 1
+  pub bytes : sum_by size_of_cell files ≡ total_size (tree_after start history)
+  -- over a visible disk: where the store goes on it knows its ledger;
+  pub ledger : k.is_visible ≡ true → s.stop ≡ None → (l : Ledger) × HasLedger s l
+  -- what a crash leaves now is explained by the whole history, and proper;
   pub crash : k.is_visible ≡ true → Leaves (IsExplainedImage s.sectors start history) s.moments.state
   -- so it is with each state that the disk was in since the session began, by the first entries, where it keeps its moments;
   pub stamped : k.is_visible ≡ true → IsTrue keeps → (state : Cells) → Has state (states_behind (counted_in k.view.store) s) → IsExplainedAtStamps s.sectors start history state
   -- they are so in the order of time, from the state at the beginning on, and by all entries at the end;
   pub throughout : k.is_visible ≡ true → IsTrue keeps → AreExplainedAlong s.sectors start history 0 (state_in k.view.store ++ states_behind (counted_in k.view.store) s) (length history)
+  -- so it is with some states in that order, also where the disk doesn't keep its moments;
+  pub noted : k.is_visible ≡ true → (states : List Cells) × AreExplainedAlong s.sectors start history 0 states (length history)
   -- and once everything is committed, and the store goes on, it stands for the last tree.
   pub last : k.is_visible ≡ true → s.stop ≡ None → AreAllKnown names files → Leaves (StandsForTree s.sectors (tree_after start history)) s.moments.state

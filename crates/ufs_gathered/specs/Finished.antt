@@ -1,7 +1,8 @@
 -- What is known of a session on hands that has ended, and of the disk on which it ran, once everything was committed and its image was
 -- made clean, or once that failed.
-use Rattle.std.specs.Prelude.{ℕ, ◌≡◌, ◌⊎◌, Bool, true, false, List, IfErr, OnOk, Option, None, Some, Result, Ok, Err}
+use Rattle.std.specs.Prelude.{ℕ, ◌≡◌, ◌≤◌, ◌+◌, ◌⊎◌, Bool, true, false, List, IfErr, OnOk, Option, None, Some, Result, Ok, Err}
 use Rattle.ufs_base.specs.Faults.{RoseTo}
+use Rattle.ufs_base.specs.Images.{Image}
 use Rattle.ufs_base.specs.declared.lack.Lack.TheVariants as lack
 use Rattle.ufs_base.specs.declared.memory.Memory.{Memory}
 use Rattle.ufs_disk.specs.Disk.{Leaves}
@@ -20,6 +21,7 @@ use Rattle.ufs_store.specs.State.{StoreState}
 use Rattle.ufs_store.specs.declared.fault.StoreFault.{StoreFault}
 use Rattle.ufs_store.specs.declared.fault.StoreFault.TheVariants as refusal
 use Rattle.ufs_promise_laws.specs.OnDisk.{IsExplainedBetween}
+use Rattle.ufs_told.specs.Sizes.{total_size}
 use Rattle.ufs_gathered.specs.Ended.{HasEnded}
 
 -- ---- how it ends
@@ -50,14 +52,25 @@ EndsBy all stop before now (Err (cause.Device fault)) = ((all ≡ false) × (sto
 EndsBy all stop before now (Err (cause.Stopped fault)) = (all ≡ false) × (stop ≡ Some fault) × (now ≡ before)
 EndsBy all stop before now (Err (cause.Lack why)) = (stop ≡ None) × (now ≡ before)
 
+-- ---- how far it raises the numbers
+
+-- The image of so many inodes has an epoch and a next commit number that rose so from these: by the commits of all files and of the
+-- names, and by a recovery.
+pub record ClosesBy (from number inodes : ℕ) (behind : Image) : Type 0 where
+  pub epoch : from ≤ (superblock_of behind).epoch
+  pub epoch_most : (superblock_of behind).epoch ≤ from + (inodes + 3)
+  pub number_most : (superblock_of behind).next ≤ number + (inodes + 2)
+
 -- ---- the whole
 
 -- The session ended so, with names, files and store as they were behind the commits, and so the disk was left.
-pub record HasFinished (k : Start) (origin : Moments) (keeps : Bool) (tickets : ℕ) (lists : List (List Entry)) (sectors faults : ℕ) (now : Moments) (ended : Result (Unit {0}) CloseFault) : Type 0 where
+pub record HasFinished (k : Start) (origin : Moments) (keeps : Bool) (tickets : ℕ) (lists : List (List Entry)) (bytes : Option ℕ) (sectors faults : ℕ) (now : Moments) (ended : Result (Unit {0}) CloseFault) : Type 0 where
   pub names : NamesCell
   pub files : List FileCell
   pub store : StoreState
   pub session : HasEnded k origin keeps tickets lists names files store
+  -- where the files were measured they are together as large as all files of the tree
+  pub measured : (n : ℕ) → bytes ≡ Some n → n ≡ total_size (tree_after session.start session.history)
   -- whether everything was committed
   pub all : Bool
   pub ends : EndsBy all store.stop store.faults faults ended

@@ -1,12 +1,12 @@
 // A session on hands is ended over a disk: everything is committed, and the image is made clean.
-ghost use Rattle.std.specs.Prelude.{ℕ, ◌≡◌, ◌<◌, ◌↔◌, ◌+◌, eqb, length, List, IfErr, IsTrue, None, OnOk, Some, Err, false, true};
+ghost use Rattle.std.specs.Prelude.{ℕ, ◌≡◌, ◌<◌, ◌↔◌, ◌+◌, eqb, length, List, IfErr, IsSome, IsTrue, None, OnOk, Some, Err, false, true};
 ghost use Rattle.ufs_base.specs.declared.lack.Lack.TheVariants as lack;
 ghost use Rattle.ufs_disk.specs.Disk.{Leaves};
 ghost use Rattle.ufs_disk.specs.Moments.{LeavesOnly, reads};
 ghost use Rattle.ufs_brink.specs.Closes.{OpensAsLeft, closing_fault, tells_unsound};
 ghost use Rattle.ufs_brink.specs.declared.closing.CloseFault.TheVariants as cause;
 ghost use Rattle.ufs_gathered.specs.Ended.{AreAllKnown};
-ghost use Rattle.ufs_gathered.specs.Finished.{EndsBehind, HasFinished, ended_by, left_by};
+ghost use Rattle.ufs_gathered.specs.Finished.{ClosesBy, EndsBehind, HasFinished, ended_by, left_by};
 ghost use Rattle.ufs_gathered.specs.Gathered.{AreAllBack, AreHome, HasFilesToo, HasPoolsAlone};
 ghost use Rattle.ufs_held.specs.Together.{under_numbers};
 ghost use Rattle.ufs_image.specs.Proper.{IsProperImage};
@@ -22,6 +22,7 @@ ghost use Rattle.ufs_turns.specs.Lent.{RunIn, stop_in, tally_in};
 
 use crate::ending::{Ended, close_gathered, end};
 use crate::gathering::{Actors, Remains, gather_remains};
+use crate::measuring::length_of;
 use std::alloc::Global;
 use std::sync::ledger::{Ledger, Share};
 use ufs_base::{Lack, Memory};
@@ -39,6 +40,8 @@ use ufs_turns::{Direct, HeldStore};
 pub struct Finished<D: Disk> {
     /// How many entries the session has.
     pub tickets: u64,
+    /// How large all files are together at the end; nothing where they were let go.
+    pub bytes: Option<u128>,
     pub disk: D,
     pub ended: Result<(), CloseFault>,
 }
@@ -47,7 +50,9 @@ pub struct Finished<D: Disk> {
 /// is lent to the commits. Where one fails no other call of the disk is made, and the image is left in use.
 ///
 /// What a crash leaves is explained by the session's history at each moment, and stands for the last tree once everything is committed.
-/// All of the end tells one fault of the device at most, by which alone the count goes on (`counted`).
+/// All of the end tells one fault of the device at most, by which alone the count goes on (`counted`); and where it ends well, it raises the
+/// store's epoch and next commit number by no more than the commits of all files, which are no more than inodes, and of the names, and the
+/// recovery do (`raised`).
 pub fn finish<N: Naming, D: Disk, L: Ledger>(
     alloc: Global,
     table: HandTable<N>,
@@ -62,9 +67,11 @@ pub fn finish<N: Naming, D: Disk, L: Ledger>(
     requires pools { HasPoolsAlone actors.pools }
     requires back { AreAllBack N.start actors.names actors.files.items actors.pools actors.clients.items }
     ensures finished { (lists : List (List Entry)) → AreHome lists actors.clients.items
-        → HasFinished N.start N.origin D.keeps result.tickets lists (D.size result.disk) (D.faults result.disk) (D.moments result.disk) result.ended }
+        → HasFinished N.start N.origin D.keeps result.tickets lists result.bytes (D.size result.disk) (D.faults result.disk) (D.moments result.disk) result.ended }
     ensures stopped { (fault : ℕ) → (result.ended ≡ Err (cause.Stopped fault)) ↔ (stop_in actors.store.store ≡ Some fault) }
     ensures counted { IsTold (tally_in actors.store.store).faults (D.faults result.disk) (closing_fault result.ended) }
+    ensures measured { IsSome result.bytes }
+    ensures raised { N.start.is_visible ≡ true → OnOk result.ended (ClosesBy (tally_in actors.store.store).epoch (tally_in actors.store.store).number N.start.geometry.inodes (reads (D.moments result.disk))) }
 {
     let Actors {
         mut names,
@@ -82,6 +89,7 @@ pub fn finish<N: Naming, D: Disk, L: Ledger>(
         &mut pools,
         geometry,
     );
+    let bytes = length_of(files.as_slice());
     let actors = Actors {
         names,
         files,
@@ -94,6 +102,7 @@ pub fn finish<N: Naming, D: Disk, L: Ledger>(
     let ended = clean_if(alloc, &mut disk, done);
     Finished {
         tickets,
+        bytes: Some(bytes),
         disk,
         ended,
     }
@@ -111,9 +120,10 @@ pub fn leave<N: Naming, D: Disk, L: Ledger>(
     requires home { (lists : List (List Entry)) × AreHome lists remains.clients.items }
     requires back { (files : List FileCell) × HasFilesToo files remains.rest × AreAllBack N.start remains.names files remains.rest remains.clients.items }
     ensures finished { (lists : List (List Entry)) → AreHome lists remains.clients.items
-        → HasFinished N.start N.origin D.keeps result.tickets lists (D.size result.disk) (D.faults result.disk) (D.moments result.disk) result.ended }
+        → HasFinished N.start N.origin D.keeps result.tickets lists result.bytes (D.size result.disk) (D.faults result.disk) (D.moments result.disk) result.ended }
     ensures stopped { (fault : ℕ) → (result.ended ≡ Err (cause.Stopped fault)) ↔ (stop_in remains.store.store ≡ Some fault) }
     ensures counted { IsTold (tally_in remains.store.store).faults (D.faults result.disk) (closing_fault result.ended) }
+    ensures open { OnOk result.ended ⊥ }
     ensures lack { stop_in remains.store.store ≡ None → result.ended ≡ Err (cause.Lack (lack.Memory memory)) }
 {
     let gathered = gather_remains(&table, remains);
@@ -121,6 +131,7 @@ pub fn leave<N: Naming, D: Disk, L: Ledger>(
     let stop = store.stopped();
     Finished {
         tickets,
+        bytes: None,
         disk: store.into_disk(),
         ended: Err(cause_of(stop, memory)),
     }

@@ -65,7 +65,7 @@ pub(crate) fn gather_files<N: Naming>(
     }
 }
 
-// All rights come to that of the names.
+// All rights come to that of the names, those to the files by the hand of the pools.
 pub(crate) fn gather<N: Naming, S: Door, L: Ledger>(
     table: &HandTable<N>,
     actors: Actors<N, S, L>,
@@ -80,20 +80,20 @@ pub(crate) fn gather<N: Naming, S: Door, L: Ledger>(
         names,
         files,
         store,
-        pools,
+        mut pools,
         clients,
     } = actors;
-    let (noted, mut hand) = names.into_parts();
-    drop(noted);
-    let (own, store) = store.into_parts();
-    hand.join(table, own);
-    gather_files(table, &mut hand, files);
-    hand.join(table, pools);
-    gather_hands(table, &mut hand, clients);
-    Gathered { hand, store }
+    gather_files(table, &mut pools, files);
+    let remains = Remains {
+        names,
+        store,
+        rest: pools,
+        clients,
+    };
+    gather_remains(table, remains)
 }
 
-// The same of what remains.
+// The same, where the files' rights are with the pools.
 pub(crate) fn gather_remains<N: Naming, S: Door, L: Ledger>(
     table: &HandTable<N>,
     remains: Remains<N, S, L>,

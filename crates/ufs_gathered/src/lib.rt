@@ -4,6 +4,7 @@
 mod ending;
 mod finishing;
 mod gathering;
+mod measuring;
 
 pub use ending::{Ended, end};
 pub use finishing::{Finished, finish, leave};

@@ -1,5 +1,5 @@
 -- A session that was played is finished.
-use Rattle.std.proofs.Common.{◌≡◌, ℕ, zero, suc, ◌+◌, Bool, List, [], ◌∷◌, length, map, Result, inl, inr, ⊎_elim, refl, ap, sym, ◌∙◌, subst, arith}
+use Rattle.std.proofs.Common.{◌≡◌, ℕ, zero, suc, ◌+◌, Bool, List, [], ◌∷◌, length, map, Option, Result, inl, inr, ⊎_elim, refl, ap, sym, ◌∙◌, subst, arith}
 use Rattle.ufs_caller.specs.Callers.{Caller, entries_in}
 use Rattle.ufs_caller.specs.declared.told.Told.{Told}
 use Rattle.ufs_client.specs.Played.{IsMerged, transcript}
@@ -44,12 +44,12 @@ made_by k lists history merged made e has =
 
 -- ---- the whole
 
-module _ (k : Start) (origin : Moments) (keeps : Bool) (scripts : List (List Op)) (tickets : ℕ) (lists : List (List Entry)) (answers : List (List Told)) (clients : List Caller) (sectors faults : ℕ) (now : Moments) (ended : Result (Unit {0}) CloseFault)
+module _ (k : Start) (origin : Moments) (keeps : Bool) (scripts : List (List Op)) (tickets : ℕ) (lists : List (List Entry)) (answers : List (List Told)) (clients : List Caller) (bytes : Option ℕ) (sectors faults : ℕ) (now : Moments) (ended : Result (Unit {0}) CloseFault)
     (told : lists ≡ lists_of clients) (are : lists ≡ map entries_in answers) (given : scripts_of clients ≡ scripts) (made : AreAllMadeThere k answers) where
-  pub has_played : HasFinished k origin keeps tickets (lists_of clients) sectors faults now ended → AnswerFirst scripts (lists_of clients) → AnswerAll scripts (lists_of clients)
-      → HasPlayed k origin keeps scripts tickets lists sectors faults now ended
+  pub has_played : HasFinished k origin keeps tickets (lists_of clients) bytes sectors faults now ended → AnswerFirst scripts (lists_of clients) → AnswerAll scripts (lists_of clients)
+      → HasPlayed k origin keeps scripts tickets lists bytes sectors faults now ended
   has_played finished first all =
-      let fin : HasFinished k origin keeps tickets lists sectors faults now ended = subst (λ (l : List (List Entry)). HasFinished k origin keeps tickets l sectors faults now ended) (sym told) finished in
+      let fin : HasFinished k origin keeps tickets lists bytes sectors faults now ended = subst (λ (l : List (List Entry)). HasFinished k origin keeps tickets l bytes sectors faults now ended) (sym told) finished in
       let begun : AnswerFirst scripts lists = subst (AnswerFirst scripts) (sym told) first in
       let over : AnswerAll scripts lists = subst (AnswerAll scripts) (sym told) all in
       let history = fin.session.history in

@@ -45,6 +45,8 @@ pub struct Played<D: Disk> {
     pub told: Vec<Vec<Told>>,
     /// How many entries it has.
     pub tickets: u64,
+    /// How large all files are together at the end; nothing where memory was wanting to commit anything.
+    pub bytes: Option<u128>,
     pub disk: D,
     /// Whether everything was committed, and the image made clean.
     pub ended: Result<(), CloseFault>,
@@ -72,7 +74,7 @@ fn finish_rest<N: Naming, D: Disk, L: Ledger>(
     requires back { AreBackHere N.start rest.names rest.home rest.pools rest.clients.items }
     ensures told { result.0 ≡ rest.told }
     ensures finished { (lists : List (List Entry)) → AreHome lists rest.clients.items
-        → HasFinished N.start N.origin D.keeps result.1.tickets lists (D.size result.1.disk) (D.faults result.1.disk) (D.moments result.1.disk) result.1.ended }
+        → HasFinished N.start N.origin D.keeps result.1.tickets lists result.1.bytes (D.size result.1.disk) (D.faults result.1.disk) (D.moments result.1.disk) result.1.ended }
     ensures stopped { (fault : ℕ) → (result.1.ended ≡ Err (cause.Stopped fault)) ↔ (stop_in store.store ≡ Some fault) }
     ensures counted { IsTold (tally_in store.store).faults (D.faults result.1.disk) (closing_fault result.1.ended) }
 {
@@ -112,7 +114,7 @@ impl<N: Naming, D: Disk, L: Ledger> Session<N, D, L> {
     fn end(self, alloc: Global) -> Played<D>
         requires start { (b : Beginning) × (s : StoreState) × (N.start ≡ start_first b s) }
         requires rest { IsAtRest self.participants.clients.items self.participants.primary }
-        ensures finished { HasFinished N.start N.origin D.keeps result.tickets (lists_of self.participants.clients.items) (D.size result.disk) (D.faults result.disk) (D.moments result.disk) result.ended }
+        ensures finished { HasFinished N.start N.origin D.keeps result.tickets (lists_of self.participants.clients.items) result.bytes (D.size result.disk) (D.faults result.disk) (D.moments result.disk) result.ended }
         ensures told { map (λ t. entries_in t.items) result.told.items ≡ lists_of self.participants.clients.items }
         ensures made { AreAllMadeThere N.start (map (λ t. t.items) result.told.items) }
         ensures stopped { (fault : ℕ) → (result.ended ≡ Err (cause.Stopped fault)) ↔ (stop_in self.store.store ≡ Some fault) }
@@ -130,12 +132,14 @@ impl<N: Naming, D: Disk, L: Ledger> Session<N, D, L> {
         let (told, finished) = finish_rest(alloc, table, &geometry, rest, store, share);
         let Finished {
             tickets,
+            bytes,
             disk,
             ended,
         } = finished;
         Played {
             told,
             tickets,
+            bytes,
             disk,
             ended,
         }
@@ -146,7 +150,7 @@ impl<N: Naming, D: Disk, L: Ledger> Session<N, D, L> {
     /// alone the count goes on. Else the session comes back, and may go on.
     pub fn finish(self, alloc: Global) -> Result<Played<D>, Session<N, D, L>>
         requires start { (b : Beginning) × (s : StoreState) × (N.start ≡ start_first b s) }
-        ensures finished { IfOk result (λ p. HasFinished N.start N.origin D.keeps p.tickets (lists_of self.participants.clients.items) (D.size p.disk) (D.faults p.disk) (D.moments p.disk) p.ended) }
+        ensures finished { IfOk result (λ p. HasFinished N.start N.origin D.keeps p.tickets (lists_of self.participants.clients.items) p.bytes (D.size p.disk) (D.faults p.disk) (D.moments p.disk) p.ended) }
         ensures told { IfOk result (λ p. map (λ t. entries_in t.items) p.told.items ≡ lists_of self.participants.clients.items) }
         ensures made { IfOk result (λ p. AreAllMadeThere N.start (map (λ t. t.items) p.told.items)) }
         ensures stopped { IfOk result (λ p. (fault : ℕ) → (p.ended ≡ Err (cause.Stopped fault)) ↔ (stop_in self.store.store ≡ Some fault)) }
@@ -168,7 +172,7 @@ impl<N: Naming, D: Disk, L: Ledger> Session<N, D, L> {
     pub fn play(self, alloc: Global, schedule: &[Actor]) -> Result<Played<D>, Unended<N, D, L>>
         requires start { (b : Beginning) × (s : StoreState) × (N.start ≡ start_first b s) }
         requires there { AllByRecursion (IsThere N.start) schedule.now }
-        ensures played { IfOk result (λ p. HasPlayed N.start N.origin D.keeps (scripts_of self.participants.clients.items) p.tickets (map (λ t. entries_in t.items) p.told.items) (D.size p.disk) (D.faults p.disk) (D.moments p.disk) p.ended) }
+        ensures played { IfOk result (λ p. HasPlayed N.start N.origin D.keeps (scripts_of self.participants.clients.items) p.tickets (map (λ t. entries_in t.items) p.told.items) p.bytes (D.size p.disk) (D.faults p.disk) (D.moments p.disk) p.ended) }
         ensures made { IfOk result (λ p. AreAllMadeThere N.start (map (λ t. t.items) p.told.items)) }
         ensures turns { IfOk result (λ p. IsPlayedOut N.start schedule.now (global_of self.participants (Some self.store)) (map (λ t. entries_in t.items) p.told.items) (D.faults p.disk) p.ended) }
         ensures in_turn { ServesAlone N.start (global_of self.participants (Some self.store)) → HaveAskedNothing self.participants.clients.items → schedule.now ≡ [] → IfOk result (λ p. AreInTurn (map (λ t. entries_in t.items) p.told.items)) }

@@ -1,4 +1,5 @@
-use Rattle.std.proofs.Common.{◌≡◌, ℕ, eqb, List, Option, true, false, ◌∙◌, ap, sym, subst}
+use Rattle.std.proofs.Common.{◌≡◌, ◌+◌, ℕ, eqb, List, Option, true, false, length, ◌∙◌, ap, refl, sym, subst}
+use Rattle.std.specs.List.{sum_by}
 use Rattle.std.proofs.lemmas.List.{with_items_is}
 use Rattle.std.specs.Prelude.{IfErr, OnOk, is_ok}
 use Rattle.std.proofs.lemmas.Result.{on_ok_weaker}
@@ -11,14 +12,16 @@ use Rattle.ufs_image.specs.Volume.{superblock_of}
 use Rattle.ufs_recovery.specs.Recovered.{IsCleanDisk, IsRecovered}
 use Rattle.ufs_joint.specs.Cells.{FileCell, StoreCell}
 use Rattle.ufs_hand_laws.specs.Owned.{count}
+use Rattle.ufs_hand_laws.proofs.Owning.{same_some}
 use Rattle.ufs_store.specs.Refusals.{IsTold, fault_in, stop_after}
 use Rattle.ufs_store.specs.State.{StoreState}
 use Rattle.ufs_store.specs.Tables.{state_of}
-use Rattle.ufs_turns.specs.Lent.{stop_in, tally_in}
-use Rattle.ufs_gathered.specs.Ended.{HasEnded}
+use Rattle.ufs_turns.specs.Lent.{HasGoneBy, Tally, stop_in, tally_in}
+use Rattle.ufs_gathered.specs.Ended.{HasEnded, size_of_cell}
 use Rattle.ufs_gathered.specs.Finished.{EndsBehind, EndsBy}
 use Rattle.ufs_gathered.specs.Gathered.{AreAllBack}
 use Rattle.ufs_gathered.proofs.Cleaned.{back_then, ends_by, explained_on, going_on, of_commits, of_done, proper, stands_last, stop_is, tells_stop, told_by}
+use Rattle.ufs_gathered.proofs.Raised.{raised_by, tally_of}
 use Rattle.ufs_gathered.proofs.finishing.finish.Goals as goal
 
 pub end-tickets-requires-clause-back : goal.end-tickets-requires-clause-back
@@ -59,6 +62,11 @@ returns-clause-finished g c lists at_home =
       files = d.new.files;
       store = s;
       session = session;
+      measured = λ n is.
+          sym (same_some c.length_of-bytes.result n is)
+          ∙ c.length_of-bytes.ensures
+          ∙ ap (λ (files : List FileCell). sum_by size_of_cell files) (c.as_slice.ensures.value ∙ whole)
+          ∙ session.bytes;
       all = is_ok d.result.0;
       ends = ends_so;
       size = closed.ensures.size ∙ into.size;
@@ -99,3 +107,21 @@ returns-clause-stopped g c fault =
     let before = g.D.Disk.faults c.into_disk-disk.result in
     let count = g.D.Disk.faults closed.new.disk in
     tells_stop before count was d.result.0 closed.result (of_commits was d.result.0 (stop_in d.result.1.store) d.ensures.halts d.ensures.halted d.ensures.stopped d.ensures.refused) closed.ensures.ends fault
+
+pub returns-clause-measured : goal.returns-clause-measured
+returns-clause-measured g c = refl
+
+pub returns-clause-raised : goal.returns-clause-raised
+unfolding returns-clause-finished
+returns-clause-raised g c seen =
+    let d = c.commit_straight-done in
+    let home = c.requires.home in
+    let fin = returns-clause-finished g c home.0 home.1 in
+    let last = c.end-tickets.result.store in
+    let s : StoreState = state_of (g.D.Disk.size last.disk) (g.D.Disk.moments last.disk) (g.D.Disk.faults last.disk) last.tables in
+    let n = length c.args.actors.files.items in
+    let behind : tally_in d.result.1.store ≡ tally_of s = ap tally_in c.end-tickets.ensures.store.store.has in
+    let ran : HasGoneBy (fault_in d.result.0) (1 + n) (1 + n) (tally_in c.args.actors.store.store) (tally_of s) =
+    subst (λ (t : Tally). HasGoneBy (fault_in d.result.0) (1 + n) (1 + n) (tally_in c.args.actors.store.store) t) behind
+    (subst (λ (m : ℕ). HasGoneBy (fault_in d.result.0) (1 + m) (1 + m) (tally_in c.args.actors.store.store) (tally_in d.result.1.store)) (ap (λ (files : List FileCell). length files) c.as_mut_slice.ensures.value) d.ensures.ran) in
+    raised_by g.N.Naming.start g.N.Naming.origin g.D.Disk.keeps _ home.0 _ _ _ _ _ fin (tally_in c.args.actors.store.store) (fault_in d.result.0) n ran (d.auto.files ∙ ap (λ (files : List FileCell). length files) c.as_mut_slice.ensures.value) seen

@@ -15,7 +15,7 @@ use Rattle.ufs_rounds.proofs.session.Session.play.Goals as goal
 pub returns-in-Ok-clause-played : goal.returns-in-Ok-clause-played
 returns-in-Ok-clause-played g c =
     let told : List (Vec Told Global) = c.end.result.told.items in
-    has_played _ _ _ _ _ _ (map (λ (t : Vec Told Global). t.items) told) c.play-played.new.self.clients.items _ _ _ _ c.end.ensures.told (both_maps (λ (t : Vec Told Global). t.items) told) c.play-played.ensures.scripts c.end.ensures.made c.end.ensures.finished
+    has_played _ _ _ _ _ _ (map (λ (t : Vec Told Global). t.items) told) c.play-played.new.self.clients.items _ _ _ _ _ c.end.ensures.told (both_maps (λ (t : Vec Told Global). t.items) told) c.play-played.ensures.scripts c.end.ensures.made c.end.ensures.finished
     c.play-played.ensures.first c.in-Ok.ensures.all
 
 pub returns-in-Ok-clause-turns : goal.returns-in-Ok-clause-turns
