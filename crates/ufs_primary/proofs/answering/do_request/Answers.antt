@@ -41,12 +41,13 @@ returns-in-Redirected-clause-done g c = λ coming.
     let q = c.lend-request.result in
     let l = c.lend-request.ensures in
     let had = c.args.baton.now in
+    let has = c.lend-request.new.self in
     let is = subst (IsTried visible before after c.args.stock.now c.serve.new.self q) c.in-Redirected.is c.serve.ensures.tried in
     let old = all_said c.args.answers.now.items in
     let new = all_said c.say-in-Redirected.new.answers.items in
-    done_as g.Q.ServerPost.answers g.Q.ServerPost.same g.Q.ServerPost.answers_full visible before after had had (primary_of c.args.stock.now coming old c.args.waiting.now.items) (primary_of c.serve.new.self coming new c.args.waiting.now.items) c.args.request q c.args.post.now c.say-in-Redirected.new.post (turn.Redirected c.in-Redirected.file)
+    done_as g.Q.ServerPost.answers g.Q.ServerPost.same g.Q.ServerPost.answers_full visible before after had has (primary_of c.args.stock.now coming old c.args.waiting.now.items) (primary_of c.serve.new.self coming new c.args.waiting.now.items) c.args.request q c.args.post.now c.say-in-Redirected.new.post (turn.Redirected c.in-Redirected.file)
     (lent_still c.args.request q had l.ask l.leases_back l.hand)
-    (is_redirected g.Q.ServerPost.answers g.Q.ServerPost.same g.Q.ServerPost.answers_full visible before after had had c.args.stock.now c.serve.new.self coming old new c.args.waiting.now.items q c.in-Redirected.answer c.in-Redirected.file c.args.post.now c.say-in-Redirected.new.post is.0 is.1 c.say-in-Redirected.ensures.goes)
+    (is_redirected g.Q.ServerPost.answers g.Q.ServerPost.same g.Q.ServerPost.answers_full visible before after had has c.args.stock.now c.serve.new.self coming old new c.args.waiting.now.items q c.in-Redirected.answer c.in-Redirected.file c.args.post.now c.say-in-Redirected.new.post is.0 is.1 c.say-in-Redirected.ensures.goes)
 
 pub returns-in-Redirected-clause-store : goal.returns-in-Redirected-clause-store
 returns-in-Redirected-clause-store g c = λ _.
@@ -61,11 +62,12 @@ returns-in-Ok-clause-done g c = λ coming.
     let q = c.lend-request.result in
     let l = c.lend-request.ensures in
     let had = c.args.baton.now in
+    let has = c.lend-request.new.self in
     let is = subst (IsTried visible before after c.args.stock.now c.serve.new.self q) c.in-Away.is c.serve.ensures.tried in
     let old = all_said c.args.answers.now.items in
-    done_as g.Q.ServerPost.answers g.Q.ServerPost.same g.Q.ServerPost.answers_full visible before after had had (primary_of c.args.stock.now coming old c.args.waiting.now.items) (primary_of c.put_off.new.stock coming old c.put_off.new.waiting.items) c.args.request q c.args.post.now c.args.post.now (turn.Waiting c.in-Away.file)
+    done_as g.Q.ServerPost.answers g.Q.ServerPost.same g.Q.ServerPost.answers_full visible before after had has (primary_of c.args.stock.now coming old c.args.waiting.now.items) (primary_of c.put_off.new.stock coming old c.put_off.new.waiting.items) c.args.request q c.args.post.now c.args.post.now (turn.Waiting c.in-Away.file)
     (lent_still c.args.request q had l.ask l.leases_back l.hand)
-    (is_waiting g.Q.ServerPost.answers g.Q.ServerPost.same g.Q.ServerPost.answers_full visible before after had had c.args.stock.now c.serve.new.self c.put_off.new.stock coming old c.args.waiting.now.items c.put_off.new.waiting.items q c.in-Away.request c.in-Away.file c.args.post.now is.0 is.1 is.2 c.in-Ok.ensures.put c.put_off.ensures.rest)
+    (is_waiting g.Q.ServerPost.answers g.Q.ServerPost.same g.Q.ServerPost.answers_full visible before after had has c.args.stock.now c.serve.new.self c.put_off.new.stock coming old c.args.waiting.now.items c.put_off.new.waiting.items q c.in-Away.request c.in-Away.file c.args.post.now is.0 is.1 is.2 c.in-Ok.ensures.put c.put_off.ensures.rest)
 
 pub returns-in-Ok-clause-store : goal.returns-in-Ok-clause-store
 returns-in-Ok-clause-store g c = λ _.
