@@ -1,6 +1,6 @@
 -- What goes through the rings of a session whose primary alone serves.
-use Rattle.std.proofs.Common.{◌≡◌, ◌⊎◌, inl, inr, ⊎_elim, ℕ, zero, suc, ◌+◌, ◌*◌, ◌≤◌, ◌<◌, Bool, true, false, eqb, eqb-true, length, set, slice_get, List, [], ◌∷◌, ◌++◌, Option, None, Some, refl, ap, sym, ◌∙◌, subst, arith}
-use Rattle.circular_buffer.specs.Buffer.{Buffer, buffer}
+use Rattle.std.proofs.Common.{◌≡◌, ◌⊎◌, inl, inr, ⊎_elim, ℕ, zero, suc, ◌+◌, ◌≤◌, Bool, true, false, eqb, eqb-true, length, set, slice_get, List, [], ◌∷◌, ◌++◌, None, Some, refl, ap, sym, ◌∙◌, subst, arith}
+use Rattle.circular_buffer.specs.Buffer.{Buffer}
 use Rattle.ufs_hand_laws.proofs.Keys.{itself}
 use Rattle.ufs_hand_laws.specs.Owned.{Has, one, weigh}
 use Rattle.ufs_model.specs.declared.data.Actor.{Actor}

@@ -1,5 +1,5 @@
 -- A client's turn in a session whose primary alone serves.
-use Rattle.std.proofs.Common.{◌≡◌, ◌⊎◌, inl, inr, ⊎_elim, ℕ, zero, ◌+◌, ◌*◌, ◌≤◌, Bool, true, false, eqb, eqb-true, is_some, length, set, slice_get, List, [], ◌∷◌, Option, None, Some, IsSome, IfSome, refl, ap, sym, ◌∙◌, subst, true≢false, arith}
+use Rattle.std.proofs.Common.{◌≡◌, ◌⊎◌, inl, inr, ⊎_elim, ℕ, ◌+◌, ◌*◌, ◌≤◌, Bool, true, false, eqb, eqb-true, is_some, length, set, slice_get, List, [], Option, None, Some, IsSome, IfSome, refl, ap, sym, ◌∙◌, subst, true≢false, arith}
 use Rattle.circular_buffer.specs.Buffer.{Buffer}
 use Rattle.ufs_caller.proofs.Servers.{server_there, told_renewed, used_there}
 use Rattle.ufs_caller.specs.Callers.{Caller, Errand, file_answered, file_asked, file_hinted}
@@ -24,7 +24,7 @@ use Rattle.ufs_msg.specs.declared.answer.Answer.TheVariants as answer
 use Rattle.ufs_ring.specs.Buffers.{HasGained, HasLost}
 use Rattle.ufs_rounds.specs.Alone.{AsksPrimary, CarryNoFile, IsServedThere, ServesAlone, asked_by, gone_of, unkept}
 use Rattle.ufs_rounds.specs.Moves.{client_moved}
-use Rattle.ufs_rounds.specs.Rings.{Asks, Hears, HasNoAnswer, IsAskFull, IsQuiet, Rings, Requests}
+use Rattle.ufs_rounds.specs.Rings.{Asks, Hears, HasNoAnswer, IsAskFull, IsQuiet, Rings}
 use Rattle.ufs_rounds.specs.Turns.{GlobalState, IsCallerTurn, IsClientTurn}
 use Rattle.ufs_rounds.proofs.Alone.{AreNear, GoOn, goes_asked, goes_heard, goes_still, held, length_at, near_quiet, near_same, near_then, only_primary, weigh_set}
 use Rattle.ufs_rounds.proofs.Asking.{set_there, there_now}

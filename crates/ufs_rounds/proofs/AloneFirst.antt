@@ -1,5 +1,5 @@
 -- A session without a worker, at its beginning: the primary serves alone.
-use Rattle.std.proofs.Common.{◌≡◌, ℕ, zero, suc, ◌+◌, ◌≤◌, length, List, [], ◌∷◌, None, Option, Some, IfSome, replicate, slice_get, refl, ap, sym, ◌∙◌, subst, arith}
+use Rattle.std.proofs.Common.{◌≡◌, ℕ, zero, suc, ◌≤◌, length, List, [], ◌∷◌, None, Option, Some, IfSome, replicate, slice_get, ap, sym, ◌∙◌, subst, arith}
 use Rattle.std.proofs.lemmas.List.{length-replicate}
 use Rattle.circular_buffer.specs.Buffer.{Buffer}
 use Rattle.ufs_caller.specs.Callers.{Caller, Errand}
@@ -11,7 +11,7 @@ use Rattle.ufs_msg.specs.Plain.{empty}
 use Rattle.ufs_msg.specs.Requests.{Asked}
 use Rattle.ufs_msg.specs.There.{client_count, worker_count}
 use Rattle.ufs_msg.specs.declared.answer.Answer.{Answer}
-use Rattle.ufs_rounds.specs.Alone.{AsksPrimary, HasNothingOut, ServesAlone, asked_by, gone_of}
+use Rattle.ufs_rounds.specs.Alone.{HasNothingOut, ServesAlone, asked_by, gone_of}
 use Rattle.ufs_rounds.specs.Dealing.{HaveAskedNothing, HoldNothing}
 use Rattle.ufs_rounds.specs.Numbers.{AreClients}
 use Rattle.ufs_rounds.specs.Scripts.{script_of, scripts_of}

@@ -1,5 +1,5 @@
 -- The primary's turn in a session in which it serves alone.
-use Rattle.std.proofs.Common.{◌≡◌, ◌⊎◌, inl, inr, ⊎_elim, ℕ, zero, suc, ◌+◌, ◌-◌, ◌*◌, ◌≤◌, ◌<◌, Bool, true, false, eqb, eqb-true, length, set, slice_get, List, [], ◌∷◌, ◌++◌, Option, None, Some, IfSome, refl, ap, sym, ◌∙◌, subst, true≢false, arith}
+use Rattle.std.proofs.Common.{◌≡◌, ◌⊎◌, inl, inr, ⊎_elim, ℕ, zero, suc, ◌+◌, ◌-◌, ◌≤◌, ◌<◌, Bool, true, false, eqb, eqb-true, length, slice_get, List, [], ◌∷◌, ◌++◌, Option, None, Some, refl, ap, sym, ◌∙◌, subst, true≢false, arith}
 use Rattle.std.proofs.lemmas.Option.{slice_get_within}
 use Rattle.std.specs.FinMap as fin
 use Rattle.std.specs.FinMap.{get-empty}
@@ -27,7 +27,7 @@ use Rattle.ufs_msg.specs.Answers.{Told}
 use Rattle.ufs_msg.specs.Requests.{Asked}
 use Rattle.ufs_msg.specs.Rows.{HappensAt}
 use Rattle.ufs_msg.specs.Servers.{HappensFor, IsSoFor}
-use Rattle.ufs_msg.specs.There.{IsServerThere, client_count, worker_count}
+use Rattle.ufs_msg.specs.There.{IsServerThere, client_count}
 use Rattle.ufs_msg.specs.declared.answer.Answer.{Answer}
 use Rattle.ufs_msg.specs.declared.answer.Answer.TheVariants as answer'
 use Rattle.ufs_msg.specs.declared.letter.Letter.{Letter}
@@ -44,11 +44,11 @@ use Rattle.ufs_primary.specs.declared.turn.PrimaryTurn.TheVariants as did
 use Rattle.ufs_ring.specs.Buffers.{HasGained, HasLost, IsEmpty}
 use Rattle.ufs_serving.specs.Posts.{IsFullFor, IsSaid, said}
 use Rattle.ufs_serving.specs.Sending.{AllWent, AreLeft, GoInOrder}
-use Rattle.ufs_rounds.specs.Alone.{CarryNoFile, HasNothingOut, IsServedThere, ServesAlone, asked_by, gone_of, unkept}
+use Rattle.ufs_rounds.specs.Alone.{HasNothingOut, IsServedThere, ServesAlone, asked_by, gone_of, unkept}
 use Rattle.ufs_rounds.specs.Moves.{primary_moved}
 use Rattle.ufs_rounds.specs.Rings.{Answers, Gets, HasNoLetter, HasNoRequest, IsAnswerFull, IsLetterFull, IsQuiet, Reads, Rings, Sends}
-use Rattle.ufs_rounds.specs.Turns.{GlobalState, IsFirstTurn, IsPrimaryTurn}
-use Rattle.ufs_rounds.proofs.Alone.{AreNear, held, length_at, near_quiet, near_same, near_then, none_joined, nothing_at, one_joined, other_none, weigh_set}
+use Rattle.ufs_rounds.specs.Turns.{GlobalState, IsPrimaryTurn}
+use Rattle.ufs_rounds.proofs.Alone.{AreNear, held, length_at, near_quiet, near_same, near_then, none_joined, nothing_at, one_joined, weigh_set}
 use Rattle.ufs_rounds.proofs.AloneClients.{kept_of, todo}
 use Rattle.ufs_rounds.proofs.Asking.{set_there}
 use Rattle.ufs_rounds.proofs.Together.{length_push}

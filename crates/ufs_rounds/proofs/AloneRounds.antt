@@ -1,5 +1,5 @@
 -- Steps of a session whose primary alone serves: they come to rest.
-use Rattle.std.proofs.Common.{◌≡◌, ◌⊎◌, inl, inr, ⊎_elim, ℕ, zero, suc, ◌+◌, ◌*◌, ◌≤◌, ◌<◌, Bool, true, false, is_some, length, map, slice_get, List, [], ◌∷◌, ◌++◌, Option, None, Some, IsSome, Result, Ok, Err, refl, ap, sym, ◌∙◌, subst, true≢false, arith}
+use Rattle.std.proofs.Common.{◌≡◌, ◌⊎◌, inl, inr, ⊎_elim, ℕ, zero, suc, ◌+◌, ◌*◌, ◌≤◌, ◌<◌, Bool, true, false, is_some, length, map, slice_get, List, [], ◌∷◌, ◌++◌, Option, None, Some, IsSome, Err, refl, ap, sym, ◌∙◌, subst, true≢false, arith}
 use Rattle.std.proofs.lemmas.Option.{slice_get_within}
 use Rattle.std.specs.FinMap as fin
 use Rattle.std.specs.Ordering.{nat_cmp}
@@ -11,9 +11,9 @@ use Rattle.ufs_at_primary.specs.declared.ordered.Ordered.{Ordered}
 use Rattle.ufs_at_primary.specs.declared.ordered.Ordered.TheVariants as ordered
 use Rattle.ufs_base.specs.declared.lack.Lack.{Lack}
 use Rattle.ufs_caller.specs.Callers.{Caller, Errand}
-use Rattle.ufs_hand_laws.specs.Owned.{Has, one, weigh}
+use Rattle.ufs_hand_laws.specs.Owned.{one, weigh}
 use Rattle.ufs_home.specs.Home.{HomeState, is_waited}
-use Rattle.ufs_home.specs.Moves.{IsMoved, IsOrdered, moved_here, order_of}
+use Rattle.ufs_home.specs.Moves.{IsMoved, IsOrdered, order_of}
 use Rattle.ufs_home.specs.declared.moved.Moved.{Moved}
 use Rattle.ufs_home.specs.declared.moved.Moved.TheVariants as moved
 use Rattle.ufs_joint.specs.Cells.{Start}
@@ -27,16 +27,15 @@ use Rattle.ufs_owner.specs.Owners.{count_out, is_primary}
 use Rattle.ufs_owner.specs.declared.owner.Owner.{Owner}
 use Rattle.ufs_owner.specs.declared.owner.Owner.TheVariants as owner
 use Rattle.ufs_owner.specs.declared.owner.Standing.{Standing}
-use Rattle.ufs_rounds.specs.Alone.{HasNothingOut, ServesAlone, gone_of, unkept}
-use Rattle.ufs_rounds.specs.Moves.{first_lack}
-use Rattle.ufs_rounds.specs.Rest.{AreIdle, EndsQuietly, GoesOn, HasSettled, HaveTurns, IsAtRest, IsInOrder, IsOnlyHeard, IsPlayed, IsQuietRound, IsWhy}
+use Rattle.ufs_rounds.specs.Alone.{ServesAlone, gone_of, unkept}
+use Rattle.ufs_rounds.specs.Rest.{AreIdle, EndsQuietly, HasSettled, IsAtRest, IsInOrder, IsOnlyHeard, IsPlayed, IsQuietRound, IsWhy}
 use Rattle.ufs_rounds.specs.Steps.{AreStepsWhere, CallOf, HadTurn, IsStep, Step, TurnOf, does_move, moves_in, some_moved, who_in}
 use Rattle.ufs_rounds.specs.Turns.{GlobalState, IsTurnOf}
 use Rattle.ufs_rounds.specs.declared.rounds.Unfinished.{Unfinished}
 use Rattle.ufs_rounds.specs.declared.rounds.Unfinished.TheVariants as unfinished
 use Rattle.ufs_rounds.specs.declared.turned.Turned.{Turned}
 use Rattle.ufs_rounds.specs.declared.turned.Turned.TheVariants as turned
-use Rattle.ufs_rounds.proofs.Alone.{AreNear, held, nothing_at, weigh_most}
+use Rattle.ufs_rounds.proofs.Alone.{held, nothing_at, weigh_most}
 use Rattle.ufs_rounds.proofs.AloneClients.{client_moves, client_nearer, client_rests, client_then, kept_of, kept_one, todo}
 use Rattle.ufs_rounds.proofs.AlonePrimary.{primary_owns, primary_nearer, primary_rests, primary_then}
 

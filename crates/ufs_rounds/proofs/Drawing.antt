@@ -1,13 +1,12 @@
 -- The entries that turns draw, in a session whose primary alone serves.
-use Rattle.std.proofs.Common.{◌≡◌, ◌≢◌, ◌⊎◌, inl, inr, ⊎_elim, ℕ, zero, suc, ◌+◌, ◌≤◌, ◌<◌, Bool, true, false, eqb, eqb-true, is_some, length, map, set, slice_get, List, [], ◌∷◌, ◌++◌, append_assoc, None, Option, Some, IsSome, refl, ap, sym, ◌∙◌, subst, true≢false, arith}
+use Rattle.std.proofs.Common.{◌≡◌, ◌≢◌, ◌⊎◌, inl, inr, ⊎_elim, ℕ, zero, suc, ◌+◌, ◌≤◌, ◌<◌, Bool, true, false, eqb, eqb-true, is_some, length, slice_get, List, [], ◌∷◌, ◌++◌, append_assoc, None, Option, Some, IsSome, refl, ap, sym, ◌∙◌, subst, true≢false, arith}
 use Rattle.std.proofs.lemmas.List.{append-nil}
 use Rattle.std.proofs.lemmas.Option.{slice_get_within}
 use native.Mathlib.Decide.{dec_le}
 use Rattle.std.specs.Prelude.{unwrap_or}
 use Rattle.circular_buffer.specs.Buffer.{Buffer}
 use Rattle.ufs_baton.specs.Baton.{IsDrawnWith}
-use Rattle.ufs_caller.specs.Callers.{Caller, Errand, entries_in}
-use Rattle.ufs_caller.specs.Turns.{AnswersItself, IsAnswered}
+use Rattle.ufs_caller.specs.Callers.{Caller, entries_in}
 use Rattle.ufs_caller.specs.declared.told.Told.{Told as Told'}
 use Rattle.ufs_caller.specs.declared.turn.Turn.{Turn}
 use Rattle.ufs_caller.specs.declared.turn.Turn.TheVariants as turn
@@ -17,7 +16,6 @@ use Rattle.ufs_hand_laws.proofs.Owning.{has_append}
 use Rattle.ufs_hand_laws.specs.Owned.{Has, one}
 use Rattle.ufs_joint.specs.Cells.{Start}
 use Rattle.ufs_model.specs.History.{entries_of}
-use Rattle.ufs_model.specs.declared.data.Actor.{Actor}
 use Rattle.ufs_model.specs.declared.data.Actor.TheVariants as actor
 use Rattle.ufs_model.specs.declared.data.Entry.{Entry}
 use Rattle.ufs_model.specs.declared.data.Op.{Op}
@@ -31,19 +29,17 @@ use Rattle.ufs_ring.specs.Buffers.{HasLost}
 use Rattle.ufs_rounds.specs.Alone.{ServesAlone, gone_of}
 use Rattle.ufs_rounds.specs.Drawn.{HasDrawn, answered_in}
 use Rattle.ufs_rounds.specs.Rest.{AreIdle}
-use Rattle.ufs_rounds.specs.Rings.{IsQuiet, Rings}
+use Rattle.ufs_rounds.specs.Rings.{Rings}
 use Rattle.ufs_rounds.specs.Scripts.{lists_of}
 use Rattle.ufs_rounds.specs.Steps.{AreStepsWhere, CallOf, IsStep, Step, TurnOf}
-use Rattle.ufs_rounds.specs.Turns.{GlobalState, IsCallerTurn, IsClientTurn, IsTurnOf}
-use Rattle.ufs_rounds.specs.declared.turned.Turned.{Turned}
+use Rattle.ufs_rounds.specs.Turns.{GlobalState, IsCallerTurn, IsClientTurn}
 use Rattle.ufs_rounds.specs.declared.turned.Turned.TheVariants as turned
-use Rattle.ufs_rounds.proofs.Alone.{AreNear, length_at, nothing_at, set_else, some_one}
+use Rattle.ufs_rounds.proofs.Alone.{length_at, nothing_at, set_else, some_one}
 use Rattle.ufs_rounds.proofs.AloneClients.{sent_on}
 use Rattle.ufs_rounds.proofs.AlonePrimary.{HasRested, HasServed, caller_at, primary_did}
 use Rattle.ufs_rounds.proofs.AloneRounds.{no_worker, step_then}
-use Rattle.ufs_rounds.proofs.Asking.{set_there, there_now}
+use Rattle.ufs_rounds.proofs.Asking.{set_there}
 use Rattle.ufs_rounds.proofs.Entries.{none_of, other_push, own_push, rises_push}
-use Rattle.ufs_rounds.proofs.Together.{length_map}
 
 -- ---- answers
 

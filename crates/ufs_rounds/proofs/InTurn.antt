@@ -1,18 +1,16 @@
 -- Without a schedule each client asks all that it was given before the next one does: so the entries stand one client's behind the other's.
-use Rattle.std.proofs.Common.{◌≡◌, ◌⊎◌, inl, inr, ⊎_elim, ℕ, zero, suc, ◌+◌, ◌≤◌, ◌<◌, Bool, true, false, is_some, length, map, set, slice_get, List, [], ◌∷◌, ◌++◌, append_assoc, None, Option, Some, IsSome, Ok, refl, ap, sym, ◌∙◌, subst, true≢false, arith}
+use Rattle.std.proofs.Common.{◌≡◌, ◌⊎◌, inl, inr, ℕ, zero, suc, ◌+◌, ◌≤◌, ◌<◌, Bool, true, false, is_some, length, map, set, slice_get, List, [], ◌∷◌, ◌++◌, append_assoc, None, Some, IsSome, Ok, refl, ap, sym, ◌∙◌, subst, true≢false, arith}
 use Rattle.std.proofs.lemmas.List.{append-nil}
 use Rattle.std.proofs.lemmas.Option.{slice_get_within}
 use native.Mathlib.Decide.{dec_le}
 use Rattle.circular_buffer.specs.Buffer.{Buffer}
-use Rattle.ufs_caller.specs.Callers.{Caller, Errand, entries_in}
+use Rattle.ufs_caller.specs.Callers.{Caller, entries_in}
 use Rattle.ufs_caller.specs.declared.turn.Turn.{Turn}
 use Rattle.ufs_caller.specs.declared.turn.Turn.TheVariants as turn
 use Rattle.ufs_client.specs.Played.{IsMerged}
-use Rattle.ufs_hand_laws.proofs.Keys.{itself}
-use Rattle.ufs_hand_laws.specs.Owned.{Has, one}
+use Rattle.ufs_hand_laws.specs.Owned.{one}
 use Rattle.ufs_joint.specs.Cells.{Start}
 use Rattle.ufs_model.specs.History.{joined}
-use Rattle.ufs_model.specs.declared.data.Actor.{Actor}
 use Rattle.ufs_model.specs.declared.data.Actor.TheVariants as actor
 use Rattle.ufs_model.specs.declared.data.Entry.{Entry}
 use Rattle.ufs_model.specs.declared.data.Op.{Op}
@@ -23,17 +21,16 @@ use Rattle.ufs_rounds.specs.Alone.{ServesAlone, asked_by, gone_of}
 use Rattle.ufs_rounds.specs.Dealing.{HaveAskedNothing}
 use Rattle.ufs_rounds.specs.Drawn.{HasDrawn, IsTimeOf, answered_in}
 use Rattle.ufs_rounds.specs.Moves.{client_done}
-use Rattle.ufs_rounds.specs.Rest.{AreIdle, IsAtRest, IsInOrder, IsItsTime, IsOverAt, IsPlayed}
+use Rattle.ufs_rounds.specs.Rest.{IsAtRest, IsInOrder, IsItsTime, IsOverAt, IsPlayed}
 use Rattle.ufs_rounds.specs.Scripts.{lists_of}
 use Rattle.ufs_rounds.specs.Steps.{AreStepsWhere, CallOf, IsStep, Step, TurnOf, who_in}
 use Rattle.ufs_rounds.specs.Turns.{GlobalState, IsClientTurn}
-use Rattle.ufs_rounds.specs.declared.turned.Turned.{Turned}
 use Rattle.ufs_rounds.specs.declared.turned.Turned.TheVariants as turned
 use Rattle.ufs_rounds.proofs.Alone.{length_at, nothing_at, own_one, set_else, some_one}
 use Rattle.ufs_rounds.proofs.AloneFirst.{asks_nothing}
 use Rattle.ufs_rounds.proofs.AlonePrimary.{HasRested, HasServed, caller_at, primary_did}
 use Rattle.ufs_rounds.proofs.AloneRounds.{no_worker, step_then, steps_alone}
-use Rattle.ufs_rounds.proofs.Asking.{asks_next, done_same, set_there, there_now}
+use Rattle.ufs_rounds.proofs.Asking.{asks_next, done_same, set_there}
 use Rattle.ufs_rounds.proofs.Drawing.{IsToldByItself, IsToldMore, IsToldNothing, answered_push, client_told, drawn_merged, drawn_still, entries_push, itself_told, list_at, more_told, no_answers, nothing_told, served_more}
 use Rattle.ufs_rounds.proofs.Entries.{joined_last}
 use Rattle.ufs_rounds.proofs.Places.{map_same}

@@ -1,5 +1,5 @@
 -- A session that was played is finished.
-use Rattle.std.proofs.Common.{◌≡◌, ℕ, zero, suc, ◌+◌, Bool, List, [], ◌∷◌, length, map, Option, Result, inl, inr, ⊎_elim, refl, ap, sym, ◌∙◌, subst, arith}
+use Rattle.std.proofs.Common.{◌≡◌, ℕ, zero, suc, ◌+◌, Bool, List, [], ◌∷◌, length, map, Option, Result, inl, inr, refl, ap, sym, ◌∙◌, subst, arith}
 use Rattle.ufs_caller.specs.Callers.{Caller, entries_in}
 use Rattle.ufs_caller.specs.declared.told.Told.{Told}
 use Rattle.ufs_client.specs.Played.{IsMerged, transcript}

@@ -1,4 +1,4 @@
-use Rattle.std.proofs.Common.{◌≡◌, ℕ, length, Some, ap, sym, ◌∙◌, subst, arith}
+use Rattle.std.proofs.Common.{ℕ, length, Some, ap, sym, ◌∙◌, subst, arith}
 use Rattle.ufs_rounds.specs.Dealing.{HoldNothing}
 use Rattle.ufs_rounds.specs.View.{global_of}
 use Rattle.ufs_rounds.proofs.AloneFirst.{alone_at_first}
