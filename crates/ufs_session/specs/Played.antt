@@ -12,6 +12,7 @@ use Rattle.ufs_hand_laws.specs.Parts.{Start}
 use Rattle.ufs_hand_laws.specs.Visible.{IsDiskVisible}
 use Rattle.ufs_promise_laws.specs.Parts.{Parts}
 use Rattle.ufs_promise_laws.specs.Stored.{ArePartsOf}
+use Rattle.ufs_told.specs.MayBegin.{MayBegin}
 
 -- The tree is the start's. Over a disk that the start doesn't see, its files may have other bytes, and as many.
 pub record IsLikeStart (k : Start) (tree : PosixTree) : Type 0 where
