@@ -1,5 +1,5 @@
 // A request is served, or it is said why not.
-ghost use Rattle.std.specs.Prelude.{ℕ, ◌≡◌, ◌≢◌, ◌<◌, ◌^◌, Bool, IfNone, IfSome, Option, true};
+ghost use Rattle.std.specs.Prelude.{ℕ, ◌≡◌, ◌≢◌, ◌<◌, ◌^◌, Bool, IfNone, IfSome, Option, true, is_some};
 ghost use Rattle.ufs_baton.specs.Baton.{IsToldSince};
 ghost use Rattle.ufs_bitmap.specs.Blocks.{BlockSet};
 ghost use Rattle.ufs_joint.specs.FirstHand.{HasPoolAlone, pool_of};
@@ -85,6 +85,7 @@ fn sync_lent<N: Naming, T: Turns<N>>(
     ensures pool { (pool : BlockSet) → HasPoolAlone (pool_of 0) pool right.old → HasPoolAlone (pool_of 0) pool right.new }
     ensures served { (told : Told) × (result ≡ says.Served told) × IsAllSynced N.start.is_visible (T.tells door.old) (T.tells door.new) names.old names.new files.old.items files.new.items request.ask told }
     ensures drawn { IsToldSince request.hand.seen result }
+    ensures telling { is_some (T.tells door.new) ≡ is_some (T.tells door.old) }
 {
     serve_sync_all(
         table,
@@ -114,7 +115,7 @@ fn lacking<N: Naming>(
 }
 
 impl<N: Naming> Stock<N> {
-    ghost use Rattle.std.specs.Prelude.{ℕ, ◌≡◌, ◌<◌, ◌^◌, Bool, IfSome, IsSome, None, Option, true};
+    ghost use Rattle.std.specs.Prelude.{ℕ, ◌≡◌, ◌<◌, ◌^◌, Bool, IfSome, IsSome, None, Option, true, is_some};
     ghost use Rattle.std.specs.FinMap as fin;
     ghost use Rattle.ufs_held_names.specs.Asked.{IsNeeded};
     ghost use Rattle.ufs_home.specs.Places.{file_here};
@@ -159,6 +160,7 @@ impl<N: Naming> Stock<N> {
         requires hinted { is_by_hint request.ask.op ≡ hinted }
         ensures tried { IsTried N.start.is_visible (T.tells door.old) (T.tells door.new) self.old self.new request result }
         ensures drawn { IsTriedSince request.hand.seen result }
+        ensures telling { is_some (T.tells door.new) ≡ is_some (T.tells door.old) }
     {
         if !self.home.has(file) {
             return self.send_on(table, request, file, hinted);
@@ -191,6 +193,7 @@ impl<N: Naming> Stock<N> {
         requires sync { request.ask.op ≡ op.Sync }
         ensures tried { IsTried N.start.is_visible (T.tells door.old) (T.tells door.new) self.old self.new request result }
         ensures drawn { IsTriedSince request.hand.seen result }
+        ensures telling { is_some (T.tells door.new) ≡ is_some (T.tells door.old) }
     {
         no_file_is_out();
         if let Some(file) = self.home.some_out() {
@@ -228,6 +231,7 @@ impl<N: Naming> Stock<N> {
         requires low { self.old.names.value.next < 2 ^ 31 }
         ensures tried { IsTried N.start.is_visible (T.tells door.old) (T.tells door.new) self.old self.new request result }
         ensures drawn { IsTriedSince request.hand.seen result }
+        ensures telling { is_some (T.tells door.new) ≡ is_some (T.tells door.old) }
     {
         let lent = lend_touched(
             table,
@@ -265,6 +269,7 @@ impl<N: Naming> Stock<N> {
         requires kind { IsByNames request.ask }
         ensures tried { IsTried N.start.is_visible (T.tells door.old) (T.tells door.new) self.old self.new request result }
         ensures drawn { IsTriedSince request.hand.seen result }
+        ensures telling { is_some (T.tells door.new) ≡ is_some (T.tells door.old) }
     {
         let request = see_request(table, &mut self.names, &mut self.right, request);
         let (request, needed) = ask_needed(&self.names, request);
@@ -287,6 +292,7 @@ impl<N: Naming> Stock<N> {
     ) -> Tried<N>
         ensures tried { IsTried N.start.is_visible (T.tells door.old) (T.tells door.new) self.old self.new request result }
         ensures drawn { IsTriedSince request.hand.seen result }
+        ensures telling { is_some (T.tells door.new) ≡ is_some (T.tells door.old) }
     {
         let (request, kind) = kind_asked(request);
         match kind {

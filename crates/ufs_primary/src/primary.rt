@@ -123,6 +123,7 @@ impl<N: Naming> Primary<N> {
         ensures store { result ≢ turn.Served → T.tells door.new ≡ T.tells door.old }
         // no other turn draws an entry
         ensures seen { result ≢ turn.Served → baton.new ≡ baton.old }
+        ensures telling { is_some (T.tells door.new) ≡ is_some (T.tells door.old) }
     {
         self.stock.send_letters(post);
         send_answers(&mut self.answers, post);
