@@ -21,3 +21,4 @@ pub mod Entries
 pub mod Drawing
 pub mod InTurn
 pub mod Telling
+pub mod Faults
