@@ -1,24 +1,23 @@
 -- The entries that turns draw tell the faults of the store's disk, one turn after the other.
-use Rattle.std.proofs.Common.{◌≡◌, ◌⊎◌, inl, inr, ℕ, ◌+◌, ◌*◌, ◌-◌, ◌^◌, ◌≤◌, ◌<◌, Bool, true, false, cond, leb, leb-true, min, is_some, List, [], ◌∷◌, ◌++◌, None, Option, Some, refl, ap, sym, ◌∙◌, subst, true≢false, arith}
+use Rattle.std.proofs.Common.{◌≡◌, ◌⊎◌, inl, inr, ℕ, ◌+◌, ◌-◌, ◌^◌, ◌<◌, Bool, true, false, cond, leb, leb-true, is_some, List, [], ◌∷◌, ◌++◌, None, Option, Some, refl, ap, sym, ◌∙◌, subst, true≢false, arith}
 use Rattle.std.proofs.lemmas.Bool.{leb-false}
 use Rattle.ufs_base.specs.Faults.{RoseTo}
 use Rattle.ufs_crash_laws.specs.Changes.{asks_commit}
 use Rattle.ufs_held.specs.Stopping.{ExcusesByStop, RestsByReply, StopsByReply, fault_by}
-use Rattle.ufs_joint.specs.Cells.{Start, StoreCell, View}
+use Rattle.ufs_joint.specs.Cells.{Start, View}
 use Rattle.ufs_model.specs.declared.data.Entry.{Entry}
 use Rattle.ufs_model.specs.declared.data.Excuse.{Excuse}
 use Rattle.ufs_model.specs.declared.data.Excuse.TheVariants as excuse
 use Rattle.ufs_model.specs.declared.data.Reply.{Reply}
 use Rattle.ufs_model.specs.declared.data.Reply.TheVariants as reply
 use Rattle.ufs_store.specs.Refusals.{IsTold, stop_after}
-use Rattle.ufs_store.specs.State.{StoreState, geometry_of_store}
+use Rattle.ufs_store.specs.State.{StoreState}
 use Rattle.ufs_told.proofs.Beside.{stop_stays}
 use Rattle.ufs_told.proofs.CausedLemmas.{commits_turn}
 use Rattle.ufs_told.proofs.ToldLemmas.{none_read, none_told, one_raised, one_told, told_on}
-use Rattle.ufs_told.specs.Numbers.{most_raised}
-use Rattle.ufs_told.specs.Replies.{TellsFaults, device_in, is_refused, may_turn, stopped_in}
-use Rattle.ufs_told.specs.Told.{AreFaultsTold, HasRead, IsCaused, IsRaisedBy, TellsRequest}
-use Rattle.ufs_turns.specs.Lent.{HasGoneBy, StopsByFault, stop_in, tally_in}
+use Rattle.ufs_told.specs.Replies.{TellsFaults, device_in, may_turn, stopped_in}
+use Rattle.ufs_told.specs.Told.{AreFaultsTold, IsCaused, IsRaisedBy, TellsRequest}
+use Rattle.ufs_turns.specs.Lent.{stop_in}
 use Rattle.ufs_turns.specs.Told.{fault_told}
 use Rattle.ufs_rounds.specs.Alone.{ServesAlone}
 use Rattle.ufs_rounds.specs.Drawn.{HasDrawn}

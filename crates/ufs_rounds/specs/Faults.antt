@@ -1,5 +1,5 @@
 -- How the entries of a session tell the faults of its store's disk.
-use Rattle.std.specs.Prelude.{◌≡◌, is_some, List, Option, None, Some}
+use Rattle.std.specs.Prelude.{◌≡◌, is_some, List, Option, Some}
 use Rattle.ufs_joint.specs.Cells.{StoreCell, View}
 use Rattle.ufs_model.specs.declared.data.Entry.{Entry}
 use Rattle.ufs_store.specs.State.{StoreState}
