@@ -24,6 +24,7 @@ use Rattle.ufs_at_primary.specs.Excused.{IsExcusedHere}
 use Rattle.ufs_at_primary.specs.Here.{IsServedHere}
 use Rattle.ufs_at_primary.specs.Kinds.{IsByNames, IsOnFile, IsOnNone}
 use Rattle.ufs_at_primary.specs.Named.{IsNamesServed}
+use Rattle.ufs_at_primary.specs.Room.{IsRoomMade}
 use Rattle.ufs_at_primary.specs.Stock.{StockState}
 use Rattle.ufs_at_primary.specs.declared.tried.Tried.{Tried}
 use Rattle.ufs_at_primary.specs.declared.tried.Tried.TheVariants as tried
@@ -125,6 +126,13 @@ pub data IsServed (visible : Bool) (before after : Option View) (s t : StockStat
   All : IsAllHere visible before after s t ask told → IsServed visible before after s t ask told
   Lacked : IsLackedHere visible before after s t ask told → IsServed visible before after s t ask told
 
+-- Room was made for it before, and then it was served.
+pub record IsServedInRoom (visible : Bool) (before after : Option View) (s t : StockState) (ask : Ask) (told : Told) : Type 0 where
+  pub between : StockState
+  pub then : Option View
+  pub room : IsRoomMade visible before then s between
+  pub served : IsServed visible then after between t ask told
+
 -- ---- or it isn't
 
 -- The request is the same, with the right of its client.
@@ -145,7 +153,7 @@ module _ {N : Type 0} where
 
   -- It is served, or excused for want of memory; or all is as it was, and it is sent on, or is to wait.
   abbrev pub IsTried : (visible : Bool) (before after : Option View) → StockState → StockState → Asked → Tried N → Type 0
-  IsTried visible before after s t r (tried.Answered a) = (told : Told) × (a ≡ says.Served told) × IsServed visible before after s t r.ask told
+  IsTried visible before after s t r (tried.Answered a) = (told : Told) × (a ≡ says.Served told) × IsServedInRoom visible before after s t r.ask told
   IsTried visible before after s t r (tried.Redirected a file) = IsSentOn s r a file × (t ≡ s) × (after ≡ before)
   IsTried visible before after s t r (tried.Away q file) = IsStill r q × IsAway s r.ask file × (t ≡ s) × (after ≡ before)
 

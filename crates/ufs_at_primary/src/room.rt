@@ -23,7 +23,7 @@ impl<N: Naming> Stock<N> {
     /// more blocks than there are and some were dropped, everything is committed and a checkpoint made, behind which these are unassigned;
     /// that memory is wanting for it, or that the disk fails, is told by no answer. Answers the want of memory by which the names couldn't
     /// be committed.
-    pub fn make_room<T: Turns<N>>(
+    pub(crate) fn make_room<T: Turns<N>>(
         &mut self,
         table: &HandTable<N>,
         request: Request<N>,

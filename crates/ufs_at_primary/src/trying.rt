@@ -165,6 +165,10 @@ impl<N: Naming> Stock<N> {
         if !self.home.has(file) {
             return self.send_on(table, request, file, hinted);
         }
+        let (request, room) = self.make_room(table, request, door);
+        if let Err(memory) = room {
+            return lacking(table, &self.home, &mut self.right, request, memory);
+        }
         let held = match self.home.lend(file) {
             Ok(held) => held,
             Err(memory) => return lacking(table, &self.home, &mut self.right, request, memory),
@@ -279,6 +283,10 @@ impl<N: Naming> Stock<N> {
         };
         if let Some(file) = missing(&self.home, needed) {
             return Tried::Away { request, file };
+        }
+        let (request, room) = self.make_room(table, request, door);
+        if let Err(memory) = room {
+            return lacking(table, &self.home, &mut self.right, request, memory);
         }
         self.serve_touching(table, request, needed, door)
     }

@@ -59,14 +59,7 @@ fn do_request<N: Naming, Q: ServerPost<N, Letter<Parcel<N>>>, T: Turns<N>>(
     ensures me { Q.me post.new ≡ Q.me post.old }
     ensures telling { is_some (T.tells door.new) ≡ is_some (T.tells door.old) }
 {
-    let (request, room) = stock.make_room(table, request, door);
     let request = baton.lend(table, request);
-    if let Err(memory) = room {
-        let answer = stock.excuse(table, request, memory);
-        let answer = baton.follow(table, answer);
-        say(answers, answer, post);
-        return PrimaryTurn::Served;
-    }
     match stock.serve(table, request, door) {
         Tried::Answered(answer) => {
             let answer = baton.follow(table, answer);
