@@ -1,5 +1,5 @@
 -- What is done before a request, so that it finds room.
-use Rattle.std.specs.Prelude.{ℕ, ◌+◌, ◌≡◌, ◌⊎◌, Bool, List, Option, IsSome, is_some, length}
+use Rattle.std.specs.Prelude.{ℕ, ◌+◌, ◌≡◌, ◌≤◌, ◌⊎◌, Bool, List, Option, IsSome, is_some, length}
 use Rattle.std.specs.FinMap as fin
 use Rattle.std.specs.FinSet as set
 use Rattle.ufs_held_names.specs.HeldNames.{AreCommitted}
@@ -36,9 +36,10 @@ record AreTidiedFiles (visible : Bool) (s t : StockState) : Type 0 where
 -- on, or has stopped at that fault; its numbers rise by no more than a commit of everything and a checkpoint raise them.
 pub record IsRoomMade (visible : Bool) (before after : Option View) (s t : StockState) : Type 0 where
   pub names : AreTidied visible s.names t.names
-  pub files : (t.home ≡ s.home) ⊎ AreTidiedFiles visible s t
+  -- by how much the epoch and the next commit number may rise: a commit of names, and one of everything with a checkpoint
+  pub most : ℕ
+  pub files : ((t.home ≡ s.home) × (most ≤ 1)) ⊎ ((a : AreTidiedFiles visible s t) × (most ≤ 3 + length a.olds))
   pub telling : is_some after ≡ is_some before
   pub fault : Option ℕ
   pub stop : StopsByFault before after fault
-  pub most : ℕ
   pub ran : Runs before after fault most most
