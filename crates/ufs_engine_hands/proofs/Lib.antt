@@ -1,0 +1,4 @@
+pub mod ThroughoutLemmas
+pub mod StampedLemmas
+pub mod EndLemmas
+mod PlayedLemmas
