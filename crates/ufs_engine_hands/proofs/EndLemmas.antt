@@ -19,7 +19,7 @@ use Rattle.ufs_model.proofs.Facts.Histories.{order_none}
 use Rattle.ufs_engine_hands.specs.Plays.{AreFaultsOf, IsClosingFault, IsEndFault, IsStopOf, IsUnstopped, served_end}
 use Rattle.ufs_engine_hands.specs.declared.playing.PlayFault.{PlayFault}
 use Rattle.ufs_engine_hands.specs.declared.playing.PlayFault.TheVariants as ending
-use Rattle.ufs_engine_hands.specs.Sizes.{total_size}
+use Rattle.ufs_told.specs.Sizes.{total_size}
 use Rattle.ufs_engine_hands.specs.Served.{IsPlayedFrom}
 use Rattle.ufs_told.proofs.ToldLemmas.{none_caused}
 use Rattle.ufs_told.specs.Told.{AreFaultsTold, AreToldStop, HasRisen, IsCountStill, IsReadFault, IsStopFault}

@@ -1,4 +1,7 @@
-pub mod ThroughoutLemmas
+mod Rooms
+mod Within
+mod Walking
+mod Along
 pub mod StampedLemmas
 pub mod EndLemmas
 mod PlayedLemmas

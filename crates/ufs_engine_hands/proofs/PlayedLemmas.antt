@@ -18,9 +18,9 @@ use Rattle.ufs_store.specs.State.{StoreState}
 use Rattle.ufs_engine_hands.specs.Played.{IsPlayedOn}
 use Rattle.ufs_engine_hands.specs.Plays.{AreFaultsOf, HasBytes, IsEndFault, IsStampedThroughout, served_end}
 use Rattle.ufs_engine_hands.specs.Served.{IsPlayedFrom}
-use Rattle.ufs_engine_hands.specs.Throughout.{IsExplainedThroughout}
+use Rattle.ufs_told.specs.Throughout.{IsExplainedThroughout}
 use Rattle.ufs_engine_hands.specs.declared.playing.PlayFault.{PlayFault}
-use Rattle.ufs_engine_hands.proofs.ThroughoutLemmas.{between_joined, throughout_after}
+use Rattle.ufs_told.proofs.ThroughoutLemmas.{between_joined, throughout_after}
 
 -- At the end what a crash leaves is explained by all entries.
 pub explained_behind : (keeps : Bool) (sectors : ℕ) (start : PosixTree) (before told : List Entry) (old new : Moments) → IsExplainedThroughout keeps sectors start before told old new → Leaves (IsExplainedImage sectors start (before ++ told)) new.state

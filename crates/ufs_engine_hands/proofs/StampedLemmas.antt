@@ -9,7 +9,7 @@ use Rattle.ufs_disk.proofs.Runs.{started}
 use Rattle.ufs_engine_hands.specs.Plays.{IsStampedThroughout}
 use Rattle.ufs_model.specs.PosixTree.{PosixTree}
 use Rattle.ufs_model.specs.declared.data.Entry.{Entry}
-use Rattle.ufs_engine_hands.specs.Throughout.{IsExplainedThroughout}
+use Rattle.ufs_told.specs.Throughout.{IsExplainedThroughout}
 use Rattle.ufs_hand_laws.specs.Owned.{Has}
 use Rattle.ufs_store_steps.specs.Cells.{cells_of}
 use Rattle.ufs_promise_laws.specs.OnDisk.{IsExplainedBetween, IsExplainedImage}

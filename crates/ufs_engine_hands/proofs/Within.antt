@@ -2,6 +2,7 @@
 use Rattle.std.proofs.Common.{◌≡◌, ◌≢◌, ◌∙◌, ℕ, ◌+◌, ◌*◌, ◌/◌, ◌<◌, ◌≤◌, inl, inr, List, [], ◌∷◌, Bool, true, false, Some, ap, sym, refl, subst, arith}
 use Rattle.std.specs.Prelude.{IsTrue, Ok, not, nat_lt, ◌==◌, ◌%◌, ◌^◌}
 use Rattle.std.specs.List.{list_all, slice_get}
+use Rattle.std.proofs.Math.Nat.{div-lt_iff_lt-mul}
 use Rattle.std.proofs.lemmas.Bool.{and_parts}
 use Rattle.std.proofs.lemmas.Bool.Decides.{nat_tests}
 use Rattle.ufs_base.specs.Images.{Image}
@@ -115,11 +116,14 @@ module _ (sectors : ℕ) (image other : Image) (same : (s : ℕ) → s < sectors
         subst (λ (n : ℕ). n < v.superblock.next) (ap (λ f. f.number) forms) less
       where
         forms : form_at v.geometry image inode ≡ form_at v.geometry other inode
-        forms = form_agrees v.geometry (λ s. s < sectors) (λ i numbered. before_data _ (inode_metadata v.geometry i numbered)) image other same inode ?
+        forms = form_agrees v.geometry (λ s. s < sectors) (λ i numbered. before_data _ (inode_metadata v.geometry i numbered)) image other same inode (let from = ranged.from_one in let most = ranged.within in grind (arith, nat_tests, from, most))
 
     -- the bitmap's sectors are on the disk
     bit_there : (block : ℕ) → block < 32768 * bitmap_blocks v.geometry → is_marked v.image block ≡ is_marked w.image block
-    bit_there block low = ap (λ (bytes : List ℕ). byte_at (block / 8 % 512) bytes / 2 ^ (block % 8) % 2 == 1) (there.4 (8 * first_of_bitmap + block / 4096) (before_data _ ?))
+    bit_there block low = ap (λ (bytes : List ℕ). byte_at (block / 8 % 512) bytes / 2 ^ (block % 8) % 2 == 1) (there.4 (8 * first_of_bitmap + block / 4096) (before_data (8 * first_of_bitmap + block / 4096) (omega (arith, row))))
+      where
+        row : block / 4096 < 8 * bitmap_blocks v.geometry
+        row = (div-lt_iff_lt-mul {k = 4096} {x = block} {y = 8 * bitmap_blocks v.geometry} (omega arith)).1 (omega (arith, low))
 
     differ_none : differing v.geometry v.image (sound_nodes v.geometry v.image) (all_bits v.geometry) ≡ []
     differ_none = map_empty BitmapDiffers _ (both_empty (tree_damage v.geometry v.image) _ (ap (λ (b : Bool). damage b v.geometry v.image) (sym marked_clean) ∙ clean.undamaged)).1

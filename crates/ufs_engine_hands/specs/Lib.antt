@@ -1,6 +1,5 @@
 pub mod Asked
-pub mod Sizes
 pub mod Served
-pub mod Throughout
+pub mod Stamped
 pub mod Plays
 pub mod Played

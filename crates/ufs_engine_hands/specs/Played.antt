@@ -14,7 +14,7 @@ use Rattle.ufs_recovery.specs.Recovered.{IsCleanDisk}
 use Rattle.ufs_store.specs.State.{StoreState}
 use Rattle.ufs_engine_hands.specs.Plays.{AreFaultsOf, HasBytes, IsEndFault, IsStampedThroughout, served_end}
 use Rattle.ufs_engine_hands.specs.Served.{IsPlayedFrom}
-use Rattle.ufs_engine_hands.specs.Throughout.{IsExplainedThroughout}
+use Rattle.ufs_told.specs.Throughout.{IsExplainedThroughout}
 use Rattle.ufs_engine_hands.specs.declared.playing.PlayFault.{PlayFault}
 
 -- It was played over the store that was mounted, from a tree that may have been its image's: this was told, so it ended, and so the disk

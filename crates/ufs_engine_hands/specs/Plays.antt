@@ -14,9 +14,9 @@ use Rattle.ufs_model.specs.declared.data.Op.{Op}
 use Rattle.ufs_engine_hands.specs.declared.playing.PlayFault.{PlayFault}
 use Rattle.ufs_engine_hands.specs.declared.playing.PlayFault.TheVariants.{Image, Device, Stopped, Lack}
 use Rattle.ufs_recovery.specs.Recovered.{IsProperDisk}
-use Rattle.ufs_engine_hands.specs.Sizes.{total_size}
+use Rattle.ufs_told.specs.Sizes.{total_size}
 use Rattle.ufs_engine_hands.specs.Served.{IsPlayedFrom}
-use Rattle.ufs_engine_hands.specs.Throughout.{AreMomentsStamped}
+use Rattle.ufs_engine_hands.specs.Stamped.{AreMomentsStamped}
 use Rattle.ufs_told.specs.Told.{AreFaultsCaused, AreToldStop, HasRisen, IsCountStill, devices_in, reads_in}
 use Rattle.ufs_hand_laws.specs.Owned.{Has}
 use Rattle.ufs_promise_laws.specs.OnDisk.{IsExplainedBetween}

@@ -19,7 +19,7 @@ ghost use Rattle.ufs_engine_hands.specs.Plays.{AreFaultsOf, HasBytes, IsEndFault
 ghost use Rattle.ufs_engine_hands.specs.declared.playing.PlayFault.TheVariants as ending;
 ghost use Rattle.ufs_recovery.specs.Recovered.{IsCleanDisk};
 ghost use Rattle.ufs_engine_hands.specs.Served.{IsPlayedFrom};
-ghost use Rattle.ufs_engine_hands.specs.Throughout.{IsExplainedThroughout};
+ghost use Rattle.ufs_told.specs.Throughout.{IsExplainedThroughout};
 ghost use Rattle.ufs_start.specs.Refused.{HasStartCause};
 ghost use Rattle.ufs_start.specs.declared.fault.StartFault.{StartFault};
 ghost use Rattle.ufs_start.specs.declared.fault.StartFault.TheVariants as start;

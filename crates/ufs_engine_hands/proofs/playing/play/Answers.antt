@@ -21,7 +21,7 @@ use Rattle.ufs_store.specs.Tables.{state_of}
 use Rattle.ufs_engine_hands.specs.Played.{IsPlayedOn}
 use Rattle.ufs_engine_hands.specs.Plays.{AreFaultsOf, IsStampedThroughout, MayPlay, served_end}
 use Rattle.ufs_engine_hands.specs.Served.{IsPlayedFrom}
-use Rattle.ufs_engine_hands.specs.Throughout.{IsExplainedThroughout}
+use Rattle.ufs_told.specs.Throughout.{IsExplainedThroughout}
 use Rattle.ufs_engine_hands.proofs.EndLemmas.{never_ended, no_faults, none_played, not_served}
 use Rattle.ufs_engine_hands.proofs.PlayedLemmas.{clean_from, closing_from, crash_from, faults_from, last_from, numbers_from, played_from, sized_from, stamped_from, throughout_from}
 use Rattle.ufs_engine_hands.proofs.StampedLemmas.{none_stamped}

@@ -1,5 +1,5 @@
--- What a crash leaves while entries are answered.
-use Rattle.std.specs.Prelude.{ℕ, ◌≤◌, Bool, List, [], ◌∷◌, ◌++◌, drop, length, map}
+-- What a crash leaves of the states that a hand stamped.
+use Rattle.std.specs.Prelude.{ℕ, ◌≤◌, List, drop, length, map}
 use Rattle.ufs_crash_laws.specs.Explained.{IsExplainedFrom}
 use Rattle.ufs_disk.specs.Moments.{Moments, all}
 use Rattle.ufs_hand_laws.specs.Owned.{Has}
@@ -7,15 +7,7 @@ use Rattle.ufs_hand_laws.specs.Parts.{Cells}
 use Rattle.ufs_hand_laws.specs.Shown.{EachOpensTo}
 use Rattle.ufs_model.specs.PosixTree.{PosixTree}
 use Rattle.ufs_model.specs.declared.data.Entry.{Entry}
-use Rattle.ufs_promise_laws.specs.OnDisk.{IsExplainedBetween}
 use Rattle.ufs_store_steps.specs.Cells.{cells_of}
-
--- The disk passes from the one moment to the other while these entries are answered behind those: at each moment whatever a crash
--- leaves is explained by the entries that were answered by then, and is proper.
-abbrev pub IsExplainedThroughout : Bool → ℕ → PosixTree → (before told : List Entry) → Moments → Moments → Type 0
-IsExplainedThroughout keeps sectors start before [] old new = IsExplainedBetween keeps sectors start before old new
-IsExplainedThroughout keeps sectors start before (entry ∷ told) old new =
-    (answered : Moments) × IsExplainedBetween keeps sectors start before old answered × IsExplainedThroughout keeps sectors start (before ++ entry ∷ []) told answered new
 
 -- Whatever a crash leaves in this state is explained by the first entries, for each number of them from one stamp to another.
 abbrev pub IsExplainedAtStamps : PosixTree → List Entry → Cells → Type 0
