@@ -1,5 +1,5 @@
 -- What is known of the cells of a session's disk is so of its states.
-use Rattle.std.proofs.Common.{◌≡◌, ◌∙◌, inl, inr, ℕ, zero, ◌<◌, ◌≤◌, Bool, true, false, List, [], ◌∷◌, ◌++◌, length, map, take, None, Some, refl, sym, ap, subst, arith}
+use Rattle.std.proofs.Common.{◌≡◌, ◌∙◌, inl, inr, ℕ, zero, suc, ◌<◌, ◌≤◌, Bool, true, false, List, [], ◌∷◌, ◌++◌, length, map, take, None, Some, refl, sym, ap, subst, arith}
 use Rattle.std.specs.Prelude.{IsTrue, Ok, drop}
 use Rattle.std.proofs.Math.Seq.{drop-append_seam}
 use Rattle.ufs_base.specs.Images.{Image}

@@ -1,4 +1,5 @@
 pub mod Asked
+pub mod Left
 pub mod Served
 pub mod Stamped
 pub mod Plays

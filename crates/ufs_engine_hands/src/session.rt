@@ -1,12 +1,14 @@
 // A session on hands over a mounted image, from its beginning to its end.
-ghost use Rattle.std.specs.Prelude.{ℕ, ◌≡◌, ◌≢◌, Err, IsOk, IsTrue, List, OnOk, length, map, true};
+ghost use Rattle.std.specs.Prelude.{ℕ, ◌≡◌, ◌≢◌, [], Err, IsOk, IsTrue, List, OnOk, length, map, true};
 ghost use Rattle.ufs_base.specs.declared.lack.Lack.TheVariants as lack;
 ghost use Rattle.ufs_begin_hands.specs.Values.{value_of};
 ghost use Rattle.ufs_brink.specs.declared.closing.CloseFault.TheVariants as cause;
 ghost use Rattle.ufs_engine_hands.specs.Asked.{IsAskedOf};
+ghost use Rattle.ufs_engine_hands.specs.Left.{IsDiskOf};
 ghost use Rattle.ufs_engine_hands.specs.Played.{IsPlayedOn};
 ghost use Rattle.ufs_engine_hands.specs.declared.playing.PlayFault.TheVariants as ending;
-ghost use Rattle.ufs_joint.specs.FirstHand.{Beginning};
+ghost use Rattle.ufs_joint.specs.FirstHand.{Beginning, start_first};
+ghost use Rattle.ufs_joint.specs.Ready.{IsReady};
 ghost use Rattle.ufs_model.specs.declared.data.Op.{Op};
 ghost use Rattle.ufs_rounds.specs.Mounting.{IsMounted};
 ghost use Rattle.ufs_start.specs.declared.fault.StartFault.{StartFault};
@@ -19,8 +21,9 @@ use ufs_base::{Lack, Memory};
 use ufs_begin_hands::Ready;
 use ufs_brink::CloseFault;
 use ufs_client::ToldLists;
+use ufs_dealt::dealt_law;
 use ufs_disk::Disk;
-use ufs_joint::Naming;
+use ufs_joint::{Begun, Naming};
 use ufs_promise_laws::on_disk_law;
 use ufs_rounds::Session;
 use ufs_store::{Door, Store};
@@ -34,6 +37,7 @@ pub(crate) fn play_named<N: Naming, D: Disk, L: Ledger>(
     asked: Asked,
 ) -> Played<D>
     requires name { (ready.opened.table ≡ N.table) × (ready.opened.start ≡ N.start) }
+    requires origin { N.origin ≡ (⟦<Store<D> as Door>⟧.store ready.store).moments }
     requires ledger { blank.name ≡ L.name }
     requires parts { blank.parts ≡ L.parts }
     requires one { blank.parts ≡ 1 }
@@ -59,24 +63,43 @@ pub(crate) fn play_named<N: Naming, D: Disk, L: Ledger>(
             },
             Err(_unended) => unreachable!(),
         },
-        Err(unbegun) => leave(alloc, unbegun.ready, unbegun.memory),
+        Err(unbegun) => leave::<N, D>(alloc, unbegun.ready, unbegun.memory),
     }
 }
 
-// No session begins over the image, which is left in use.
-fn leave<D: Disk>(alloc: Global, ready: Ready<D>, memory: Memory) -> Played<D>
+// Where there is no memory for the session the image is left in use, and nothing was told.
+fn leave<N: Naming, D: Disk>(alloc: Global, ready: Ready<D>, memory: Memory) -> Played<D>
+    requires name { (ready.opened.table ≡ N.table) × (ready.opened.start ≡ N.start) }
+    requires ready { (b : Beginning) × (N.start ≡ start_first b (⟦<Store<D> as Door>⟧.store ready.store)) × IsReady b (⟦<Store<D> as Door>⟧.store ready.store) }
     ensures told { result.told ≡ [] }
     ensures ended { result.ended ≡ Err (ending.Lack (lack.Memory memory)) }
-    ensures size { D.size result.disk ≡ (⟦<Store<D> as Door>⟧.store ready.store).sectors }
-    ensures faults { D.faults result.disk ≡ (⟦<Store<D> as Door>⟧.store ready.store).faults }
-    ensures moments { D.moments result.disk ≡ (⟦<Store<D> as Door>⟧.store ready.store).moments }
+    ensures left { IsDiskOf D.size D.moments D.faults (⟦<Store<D> as Door>⟧.store ready.store) result.disk }
 {
     Played {
         told: ToldLists::from_vec(Vec::new(alloc)),
         bytes: 0,
         ended: Err(PlayFault::Lack(Lack::Memory(memory))),
-        disk: ready.store.into_disk(),
+        disk: unplayed::<N, D>(ready),
     }
+}
+
+// The session ends at once, and the disk comes back.
+fn unplayed<N: Naming, D: Disk>(ready: Ready<D>) -> D
+    requires name { (ready.opened.table ≡ N.table) × (ready.opened.start ≡ N.start) }
+    requires ready { (b : Beginning) × (N.start ≡ start_first b (⟦<Store<D> as Door>⟧.store ready.store)) × IsReady b (⟦<Store<D> as Door>⟧.store ready.store) }
+    ensures { IsDiskOf D.size D.moments D.faults (⟦<Store<D> as Door>⟧.store ready.store) result }
+{
+    let Ready {
+        names: _,
+        files: _,
+        store,
+        opened,
+    } = ready;
+    let geometry = store.geometry();
+    dealt_law();
+    let Begun { table, hand } = opened.named::<N>();
+    hand.close(table, &geometry);
+    store.into_disk()
 }
 
 // How a session ends that was closed so. Each request was answered.
