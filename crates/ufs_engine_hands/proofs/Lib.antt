@@ -5,3 +5,5 @@ mod Along
 pub mod StampedLemmas
 pub mod EndLemmas
 mod PlayedLemmas
+mod Ending
+mod Clients

@@ -1,11 +1,12 @@
 // A session on hands over a mounted image, from its beginning to its end.
-ghost use Rattle.std.specs.Prelude.{ℕ, ◌≡◌, ◌≢◌, [], Err, IsOk, IsTrue, List, OnOk, length, map, true};
+ghost use Rattle.std.specs.Prelude.{ℕ, ◌≡◌, ◌≢◌, [], Err, IfSome, IsOk, IsSome, IsTrue, List, Ok, OnOk, length, map, true};
 ghost use Rattle.ufs_base.specs.declared.lack.Lack.TheVariants as lack;
 ghost use Rattle.ufs_begin_hands.specs.Values.{value_of};
 ghost use Rattle.ufs_brink.specs.declared.closing.CloseFault.TheVariants as cause;
 ghost use Rattle.ufs_engine_hands.specs.Asked.{IsAskedOf};
 ghost use Rattle.ufs_engine_hands.specs.Left.{IsDiskOf};
 ghost use Rattle.ufs_engine_hands.specs.Played.{IsPlayedOn};
+ghost use Rattle.ufs_engine_hands.specs.Plays.{served_end};
 ghost use Rattle.ufs_engine_hands.specs.declared.playing.PlayFault.TheVariants as ending;
 ghost use Rattle.ufs_joint.specs.FirstHand.{Beginning, start_first};
 ghost use Rattle.ufs_joint.specs.Ready.{IsReady};
@@ -57,8 +58,8 @@ pub(crate) fn play_named<N: Naming, D: Disk, L: Ledger>(
         Ok(session) => match session.play(alloc, &[]) {
             Ok(played) => Played {
                 told: tell(lists, rooms, played.told),
-                bytes: played.bytes,
-                ended: whole_end(played.ended),
+                bytes: bytes_of(played.bytes),
+                ended: whole_end(played.ended, played.bytes),
                 disk: played.disk,
             },
             Err(_unended) => unreachable!(),
@@ -102,17 +103,30 @@ fn unplayed<N: Naming, D: Disk>(ready: Ready<D>) -> D
     store.into_disk()
 }
 
-// How a session ends that was closed so. Each request was answered.
-fn whole_end(closed: Result<(), CloseFault>) -> Result<(), PlayFault>
+// How large the files are, where they were counted.
+fn bytes_of(bytes: Option<u128>) -> u128
+    ensures { IfSome bytes (λ n. result ≡ n) }
+{
+    match bytes {
+        Some(bytes) => bytes,
+        None => 0,
+    }
+}
+
+// How a session ends that was closed so. Each request was answered. Where there was no memory to commit and to count its files it lacks
+// that, also where its store had stopped.
+fn whole_end(closed: Result<(), CloseFault>, bytes: Option<u128>) -> Result<(), PlayFault>
     ensures closed { OnOk result (IsOk closed) }
     ensures device { (fault : ℕ) → result ≡ Err (ending.Device fault) → closed ≡ Err (cause.Device fault) }
     ensures stopped { (fault : ℕ) → result ≡ Err (ending.Stopped fault) → closed ≡ Err (cause.Stopped fault) }
     ensures begun { (fault : StartFault) → result ≢ Err (ending.Image fault) }
+    ensures measured { served_end result ≡ Ok tt → IsSome bytes }
 {
     match closed {
+        Err(CloseFault::Lack(lack)) => Err(PlayFault::Lack(lack)),
+        _ if bytes.is_none() => Err(PlayFault::Lack(Lack::Told)),
         Ok(()) => Ok(()),
         Err(CloseFault::Device { fault }) => Err(PlayFault::Device { fault }),
         Err(CloseFault::Stopped { fault }) => Err(PlayFault::Stopped { fault }),
-        Err(CloseFault::Lack(lack)) => Err(PlayFault::Lack(lack)),
     }
 }
