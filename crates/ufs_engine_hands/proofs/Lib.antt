@@ -7,3 +7,4 @@ pub mod EndLemmas
 mod PlayedLemmas
 mod Ending
 mod Clients
+mod Leaving

@@ -49,6 +49,8 @@ pub(crate) fn play_named<N: Naming, D: Disk, L: Ledger>(
         → IsPlayedOn N.start D.keeps scripts (⟦<Store<D> as Door>⟧.store ready.store) result.told result.bytes result.ended (D.size result.disk) (D.faults result.disk) (D.moments result.disk) }
     ensures begun { (fault : StartFault) → result.ended ≢ Err (ending.Image fault) }
 {
+    let geometry = ready.store.geometry();
+    on_disk_law(&geometry);
     let Asked {
         clients,
         lists,
@@ -74,6 +76,7 @@ fn leave<N: Naming, D: Disk>(alloc: Global, ready: Ready<D>, memory: Memory) -> 
     requires ready { (b : Beginning) × (N.start ≡ start_first b (⟦<Store<D> as Door>⟧.store ready.store)) × IsReady b (⟦<Store<D> as Door>⟧.store ready.store) }
     ensures told { result.told ≡ [] }
     ensures ended { result.ended ≡ Err (ending.Lack (lack.Memory memory)) }
+    ensures bytes { result.bytes ≡ 0 }
     ensures left { IsDiskOf D.size D.moments D.faults (⟦<Store<D> as Door>⟧.store ready.store) result.disk }
 {
     Played {
