@@ -1,5 +1,4 @@
 -- Who gets a turn by a schedule word.
-use Rattle.std.specs.Prelude.{ℕ, ◌≤◌, ◌<◌}
 use Rattle.ufs_model.specs.declared.data.Actor.{Actor}
 use Rattle.ufs_model.specs.declared.data.Actor.TheVariants as actor
 use Rattle.ufs_script.specs.declared.lists.ScheduleWord.{ScheduleWord}

@@ -1,6 +1,5 @@
 use Rattle.std.proofs.Common.{◌≡◌, ◌+◌, ◌++◌, ◌∷◌, [], ℕ, suc, length, map, take, ap, sym, ◌∙◌, arith}
 use Rattle.std.proofs.lemmas.Option.{slice_get_read}
-use Rattle.ufs_model.specs.declared.data.Actor.{Actor}
 use Rattle.ufs_script.specs.declared.lists.ScheduleWord.{ScheduleWord}
 use Rattle.ufs_turn_words.specs.Actors.{IsTurnAlone, actor_in}
 use Rattle.ufs_turn_words.proofs.Lists.{each_there, length_push, map_more, map_whole}
