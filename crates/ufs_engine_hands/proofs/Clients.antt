@@ -43,7 +43,7 @@ module _ (k : Start) (keeps : Bool) (opened : StoreState) (bytes : ℕ) (ended :
     seen = is.seen;
     played = none_asked is.start (served_end ended) is.played;
     sized = is.sized;
-    faults = is.faults;
+    tells = is.tells;
     closing = is.closing;
     size = is.size;
     throughout = is.throughout;

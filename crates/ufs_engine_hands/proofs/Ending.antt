@@ -102,10 +102,10 @@ module _ (k : Start) (keeps : Bool) (scripts : List (List Op)) (opened : StoreSt
     served_through = by keeps refl
       where
         by : (q : Bool) → keeps ≡ q → IsExplainedThroughout keeps last.sectors start [] history opened.moments last.moments
-        by true kept = kept_throughout k opened.moments keeps tickets lists r.finished.names r.finished.files last r.finished.session sees counted_first first_state (subst IsTrue (sym kept) tt)
+        by true kept = kept_throughout k opened.moments keeps tickets lists r.finished.names r.finished.files last r.finished.session sees counted_first first_state kept
         by false unkept =
             let noted = r.finished.session.noted sees in
-            unkept_throughout last.sectors start keeps history (λ kept. subst IsTrue unkept kept) opened.moments last.moments noted.0 begins_there noted.1 (r.finished.session.crash sees)
+            unkept_throughout last.sectors start keeps history (λ kept. let no : false ≡ true = sym unkept ∙ kept in cc) opened.moments last.moments noted.0 begins_there noted.1 (r.finished.session.crash sees)
 
     through : IsExplainedThroughout keeps last.sectors start [] history opened.moments now
     through = throughout_before keeps last.sectors start [] history opened.moments last.moments now served_through (r.finished.moments sees)
@@ -144,7 +144,7 @@ module _ (k : Start) (keeps : Bool) (scripts : List (List Op)) (opened : StoreSt
       seen = r.finished.session.begun.seen;
       played = subst (IsPlayedFrom start scripts lists (served_end ended)) r.one_by_one played_so;
       sized = λ ok. r.finished.measured total (whole.measured ok) ∙ ap (λ (h : List Entry). total_size (tree_after start h)) r.one_by_one;
-      faults = subst (λ (h : List Entry). AreFaultsOf opened.faults faults h) r.one_by_one (faults_of opened r.before ready.going history r.told faults closed r.counted r.stopped);
+      tells = subst (λ (h : List Entry). AreFaultsOf opened.faults faults h) r.one_by_one (faults_of opened r.before ready.going history r.told faults closed r.counted r.stopped);
       closing = subst (λ (h : List Entry). IsEndFault opened.faults faults h ended) r.one_by_one
           (end_fault opened r.before ready.going history r.told faults closed r.counted r.stopped ended whole.closed_well whole.device whole.stopped);
       size = all_large;

@@ -38,7 +38,7 @@ module _ (k : Start) (b : Beginning) (s : StoreState) (from : k ≡ start_first 
     seen = λ sees. refl;
     played = none_played k.tree scripts;
     sized = λ ok. absurd (never_ended _ ok);
-    faults = no_faults s.faults faults;
+    tells = no_faults s.faults faults;
     closing = tt;
     size = as_large;
     throughout = still;

@@ -39,7 +39,7 @@ module _ (k : Start) (keeps : Bool) (scripts : List (List Op)) (opened : StoreSt
   -- ---- over any disk
 
   pub faults_from : (before : ℕ) → opened.faults ≡ before → AreFaultsOf before faults (joined told)
-  faults_from before passed = subst (λ (n : ℕ). AreFaultsOf n faults (joined told)) passed is.faults
+  faults_from before passed = subst (λ (n : ℕ). AreFaultsOf n faults (joined told)) passed is.tells
 
   pub closing_from : (before : ℕ) → opened.faults ≡ before → IsEndFault before faults (joined told) ended
   closing_from before passed = subst (λ (n : ℕ). IsEndFault n faults (joined told) ended) passed is.closing

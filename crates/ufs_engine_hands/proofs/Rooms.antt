@@ -1,10 +1,10 @@
 -- Room for transcripts.
 use Rattle.std.proofs.Common.{◌≡◌, ◌∙◌, ◌+◌, ◌≤◌, ℕ, zero, suc, List, [], ◌∷◌, ◌++◌, length, map, take, Some, None, slice_get, refl, sym, ap, subst, arith}
 use Rattle.std.specs.Global.{Vec}
+use Rattle.ufs_caller.specs.Callers.{entries_in}
 use Rattle.ufs_caller.specs.declared.told.Told.{Told}
 use Rattle.ufs_model.specs.declared.data.Entry.{Entry}
 use Rattle.ufs_model.specs.declared.data.Op.{Op}
-use Rattle.std.proofs.lemmas.List.{length-map}
 use Rattle.ufs_gathered.specs.Ended.{AnswerAll}
 use Rattle.ufs_engine_hands.specs.Asked.{AreRoomsFor, DoFit, HasRoomFor, given, lists_in}
 
@@ -45,13 +45,17 @@ rooms_as_many [] (r ∷ rooms) are = absurd are
 rooms_as_many (x ∷ scripts) [] are = absurd are
 rooms_as_many (x ∷ scripts) (r ∷ rooms) are = ap suc (rooms_as_many scripts rooms are.1)
 
+as_long : (told : List Told) → length (entries_in told) ≡ length told
+as_long [] = refl
+as_long (x ∷ told) = ap suc (as_long told)
+
 fits : (scripts : List (List Op)) (told : List (Vec Told)) (rooms : List (Vec Entry)) → AreRoomsFor scripts rooms → AnswerAll scripts (lists_in told) → DoFit told rooms
 fits [] told [] are all = tt
 fits [] told (r ∷ rooms) are all = absurd are
 fits (x ∷ scripts) told [] are all = absurd are
 fits (x ∷ scripts) [] (r ∷ rooms) are all = tt
 fits (x ∷ scripts) (t ∷ told) (r ∷ rooms) are all =
-    (record { none = are.0.none; enough = (let as_many = all 0 in let same = length-map (λ (y : Told). y.entry) t.items in let room = are.0.enough in omega (arith, as_many, same, room)) }, fits scripts told rooms are.1 (λ i. all (suc i)))
+    (record { none = are.0.none; enough = (let as_many = all 0 in let same = as_long t.items in let room = are.0.enough in omega (arith, as_many, same, room)) }, fits scripts told rooms are.1 (λ i. all (suc i)))
 
 pub given_fit : (scripts : List (List Op)) (told : List (Vec Told)) (rooms : List (Vec Entry)) → AreRoomsFor scripts rooms → AnswerAll (given scripts) (lists_in told) → DoFit told rooms
 given_fit [] told [] are all = tt

@@ -25,7 +25,7 @@ pub record IsPlayedOn (k : Start) (keeps : Bool) (scripts : List (List Op)) (ope
   pub seen : k.is_visible ≡ true → start ≡ k.tree
   pub played : IsPlayedFrom start scripts told (served_end ended) (joined told)
   pub sized : HasBytes start (joined told) (served_end ended) bytes
-  pub faults : AreFaultsOf opened.faults faults (joined told)
+  pub tells : AreFaultsOf opened.faults faults (joined told)
   pub closing : IsEndFault opened.faults faults (joined told) ended
   pub size : sectors ≡ opened.sectors
   -- over a visible disk, from the moment at which the image was mounted on
