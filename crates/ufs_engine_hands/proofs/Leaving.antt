@@ -1,12 +1,14 @@
 -- An image that was mounted, and on which nothing was played.
-use Rattle.std.proofs.Common.{◌≡◌, ◌∙◌, ℕ, Bool, true, List, [], Result, Ok, Err, refl, sym, ap, subst}
+use Rattle.std.proofs.Common.{◌≡◌, ◌∙◌, ℕ, Bool, true, List, [], Result, Ok, Err, refl, sym, ap, subst, arith}
 use Rattle.std.specs.FinMap as map
 use Rattle.ufs_base.specs.declared.lack.Lack.{Lack}
 use Rattle.ufs_disk.specs.Disk.{Leaves}
 use Rattle.ufs_disk.specs.Moments.{Moments}
 use Rattle.ufs_disk.proofs.Runs.{started}
+use Rattle.ufs_dealt.specs.First.{LiveFilesAreThere}
 use Rattle.ufs_joint.specs.Cells.{Start}
-use Rattle.ufs_joint.specs.FirstHand.{Beginning, server_first, start_first}
+use Rattle.ufs_joint.specs.Ends.{HoldsAll}
+use Rattle.ufs_joint.specs.FirstHand.{Beginning, names_first, server_first, start_first, store_first}
 use Rattle.ufs_joint.specs.Ready.{IsReady}
 use Rattle.ufs_layout.specs.declared.geometry.Geometry.{Geometry}
 use Rattle.ufs_model.specs.PosixTree.{PosixTree}
@@ -18,6 +20,18 @@ use Rattle.ufs_engine_hands.specs.Played.{IsPlayedOn}
 use Rattle.ufs_engine_hands.specs.declared.playing.PlayFault.TheVariants as ending
 use Rattle.ufs_engine_hands.proofs.EndLemmas.{never_ended, no_faults, none_played}
 use Rattle.ufs_engine_hands.proofs.StampedLemmas.{none_stamped}
+
+-- The first hand has every cell.
+pub holds_first : LiveFilesAreThere → (b : Beginning) (s : StoreState) → IsReady b s → HoldsAll (start_first b s) (start_first b s).view
+holds_first there b s ready = record {
+  clients = λ c. omega arith;
+  pools = λ n. omega arith;
+  names = names_first b.names;
+  has_names = refl;
+  store = store_first s;
+  has_store = refl;
+  files = λ file live. there b s ready file live;
+}
 
 module _ (k : Start) (b : Beginning) (s : StoreState) (from : k ≡ start_first b s) (ready : IsReady b s) where
   same_tree : k.tree ≡ b.tree

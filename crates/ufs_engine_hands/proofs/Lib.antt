@@ -8,3 +8,4 @@ mod PlayedLemmas
 mod Ending
 mod Clients
 mod Leaving
+mod Running

@@ -26,12 +26,12 @@ use Rattle.ufs_engine_hands.proofs.EndLemmas.{never_ended, no_faults, none_playe
 use Rattle.ufs_engine_hands.proofs.PlayedLemmas.{clean_from, closing_from, crash_from, faults_from, last_from, numbers_from, played_from, sized_from, stamped_from, throughout_from}
 use Rattle.ufs_engine_hands.proofs.StampedLemmas.{none_stamped}
 use Rattle.ufs_engine_hands.proofs.playing.play.Given.{Over}
-use Rattle.ufs_engine_hands.proofs.playing.play.Goals.{After-play_named}
+use Rattle.ufs_engine_hands.proofs.playing.play.Goals.{After-drop-script}
 use Rattle.ufs_engine_hands.proofs.playing.play.Goals as goal
 
 -- ---- it was played
 
-module _ (g : Over) (c : After-play_named g) where
+module _ (g : Over) (c : After-drop-script g) where
   abbrev k : Start
   k = c.in-Ok.begun.ready.opened.start
 
