@@ -5,6 +5,7 @@ mod AllTold
 mod SyncedHere
 mod Beside
 mod AtHome
+mod Rooms
 mod Trials
 mod Outcomes
 mod Births

@@ -151,6 +151,10 @@ module _ {N : Type 0} where
     pub has : owner_at s.home.owners file ≡ owner.Worker worker
     pub answer : a ≡ says.Redirect (record { request = r; to = actor.Worker worker })
 
+  -- It is served with what is here, or excused.
+  abbrev pub IsAnsweredHere : (visible : Bool) (before after : Option View) → StockState → StockState → Asked → Answer N → Type 0
+  IsAnsweredHere visible before after s t r a = (told : Told) × (a ≡ says.Served told) × IsServed visible before after s t r.ask told
+
   -- It is served, or excused for want of memory; or all is as it was, and it is sent on, or is to wait.
   abbrev pub IsTried : (visible : Bool) (before after : Option View) → StockState → StockState → Asked → Tried N → Type 0
   IsTried visible before after s t r (tried.Answered a) = (told : Told) × (a ≡ says.Served told) × IsServedInRoom visible before after s t r.ask told

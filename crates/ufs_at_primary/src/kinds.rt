@@ -89,7 +89,7 @@ fn kind_on_none(op: &Op) -> Kind
     }
 }
 
-pub(crate) fn kind_of(ask: &Ask) -> Kind
+fn kind_of(ask: &Ask) -> Kind
     ensures { IsKind ask.now result }
 {
     if !is_on_file(&ask.op) {

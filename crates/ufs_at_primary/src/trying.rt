@@ -15,7 +15,7 @@ ghost use Rattle.ufs_owner.specs.Owners.{owner_at};
 ghost use Rattle.ufs_owner.specs.declared.owner.Owner.TheVariants as owner;
 ghost use Rattle.ufs_at_primary.specs.All.{IsAllSynced};
 ghost use Rattle.ufs_at_primary.specs.Kinds.{IsOnFile};
-ghost use Rattle.ufs_at_primary.specs.Served.{IsTried, IsTriedSince};
+ghost use Rattle.ufs_at_primary.specs.Served.{IsAnsweredHere};
 ghost use Rattle.ufs_at_primary.specs.Stock.{stock_of};
 ghost use Rattle.ufs_hand_laws.specs.Owned.{Has};
 
@@ -36,6 +36,7 @@ use ufs_joint::{Hand, HandTable, Naming};
 use ufs_layout::Geometry;
 use ufs_model::Actor;
 use ufs_msg::{Answer, Redirected, Request};
+use ufs_names::notes_are_beside;
 use ufs_owner::{Owner, no_file_is_out};
 use ufs_turns::Turns;
 
@@ -105,13 +106,13 @@ fn lacking<N: Naming>(
     right: &mut Hand<N>,
     request: Request<N>,
     memory: Memory,
-) -> Tried<N>
+) -> Answer<N>
     requires pool { (pool : BlockSet) × HasPoolAlone (pool_of 0) pool right.old }
     ensures pool { (pool : BlockSet) → HasPoolAlone (pool_of 0) pool right.old → HasPoolAlone (pool_of 0) pool right.new }
-    ensures tried { (visible : Bool) (tells : Option View) (names : NamesCell) (pool : BlockSet) → IsTried visible tells tells (stock_of names home.now pool) (stock_of names home.now pool) request result }
-    ensures drawn { IsTriedSince request.hand.seen result }
+    ensures answered { (visible : Bool) (tells : Option View) (names : NamesCell) (pool : BlockSet) → IsAnsweredHere visible tells tells (stock_of names home.now pool) (stock_of names home.now pool) request result }
+    ensures drawn { IsToldSince request.hand.seen result }
 {
-    Tried::Answered(excuse(table, home, request, memory, right))
+    excuse(table, home, request, memory, right)
 }
 
 impl<N: Naming> Stock<N> {
@@ -123,7 +124,8 @@ impl<N: Naming> Stock<N> {
     ghost use Rattle.ufs_model.specs.declared.data.Op.TheVariants as op;
     ghost use Rattle.ufs_msg.specs.There.{is_by_hint};
     ghost use Rattle.ufs_at_primary.specs.Kinds.{IsByNames, IsOnFile};
-    ghost use Rattle.ufs_at_primary.specs.Served.{IsTried, IsTriedSince};
+    ghost use Rattle.ufs_baton.specs.Baton.{IsToldSince};
+    ghost use Rattle.ufs_at_primary.specs.Served.{IsAnsweredHere, IsTried, IsTriedSince};
 
     // A request on a file that isn't here.
     fn send_on(
@@ -147,7 +149,39 @@ impl<N: Naming> Stock<N> {
         Tried::Away { request, file }
     }
 
-    // A request on a file.
+    // A request on a file that is here.
+    fn serve_at_hand<T: Turns<N>>(
+        &mut self,
+        table: &HandTable<N>,
+        request: Request<N>,
+        file: u32,
+        door: &mut T,
+    ) -> Answer<N>
+        requires kind { IsOnFile request.ask file }
+        requires here { IsSome (file_here self.old.home.places file) }
+        ensures answered { IsAnsweredHere N.start.is_visible (T.tells door.old) (T.tells door.new) self.old self.new request result }
+        ensures drawn { IsToldSince request.hand.seen result }
+        ensures telling { is_some (T.tells door.new) ≡ is_some (T.tells door.old) }
+    {
+        let held = match self.home.lend(file) {
+            Ok(held) => held,
+            Err(memory) => return lacking(table, &self.home, &mut self.right, request, memory),
+        };
+        let (held, answer) = serve_here(
+            table,
+            &mut self.names,
+            &self.geometry,
+            held,
+            request,
+            &mut self.pool,
+            &mut self.right,
+            door,
+        );
+        self.home.put_back(held);
+        answer
+    }
+
+    // A request on a file. Where it would lengthen that, and blocks are wanting, what was dropped comes back first.
     fn serve_on_file<T: Turns<N>>(
         &mut self,
         table: &HandTable<N>,
@@ -165,26 +199,9 @@ impl<N: Naming> Stock<N> {
         if !self.home.has(file) {
             return self.send_on(table, request, file, hinted);
         }
-        let (request, room) = self.make_room(table, request, door);
-        if let Err(memory) = room {
-            return lacking(table, &self.home, &mut self.right, request, memory);
-        }
-        let held = match self.home.lend(file) {
-            Ok(held) => held,
-            Err(memory) => return lacking(table, &self.home, &mut self.right, request, memory),
-        };
-        let (held, answer) = serve_here(
-            table,
-            &mut self.names,
-            &self.geometry,
-            held,
-            request,
-            &mut self.pool,
-            &mut self.right,
-            door,
-        );
-        self.home.put_back(held);
-        Tried::Answered(answer)
+        let (request, wanted) = self.measure(file, request);
+        self.make_space(table, wanted, door);
+        Tried::Answered(self.serve_at_hand(table, request, file, door))
     }
 
     // A `sync`.
@@ -205,7 +222,9 @@ impl<N: Naming> Stock<N> {
         }
         let mut files = match self.home.lend_all() {
             Ok(files) => files,
-            Err(memory) => return lacking(table, &self.home, &mut self.right, request, memory),
+            Err(memory) => {
+                return Tried::Answered(lacking(table, &self.home, &mut self.right, request, memory));
+            }
         };
         let answer = sync_lent(
             table,
@@ -227,14 +246,14 @@ impl<N: Naming> Stock<N> {
         request: Request<N>,
         needed: Option<u32>,
         door: &mut T,
-    ) -> Tried<N>
+    ) -> Answer<N>
         requires kind { IsByNames request.ask }
         requires needed { IsNeeded self.old.names.value request.ask needed }
         requires here { IfSome needed (λ file. IsSome (file_here self.old.home.places file)) }
         requires below { (file : ℕ) → IsSome (fin.get self.old.names.value.held file) → file < self.old.names.value.next }
         requires low { self.old.names.value.next < 2 ^ 31 }
-        ensures tried { IsTried N.start.is_visible (T.tells door.old) (T.tells door.new) self.old self.new request result }
-        ensures drawn { IsTriedSince request.hand.seen result }
+        ensures answered { IsAnsweredHere N.start.is_visible (T.tells door.old) (T.tells door.new) self.old self.new request result }
+        ensures drawn { IsToldSince request.hand.seen result }
         ensures telling { is_some (T.tells door.new) ≡ is_some (T.tells door.old) }
     {
         let lent = lend_touched(
@@ -260,10 +279,10 @@ impl<N: Naming> Stock<N> {
             door,
         );
         put_after(&mut self.home, needed, file, next, made);
-        Tried::Answered(answer)
+        answer
     }
 
-    // A request of the names.
+    // A request of the names. Room for it is made where the file that it touches is here.
     fn serve_by_names<T: Turns<N>>(
         &mut self,
         table: &HandTable<N>,
@@ -279,16 +298,19 @@ impl<N: Naming> Stock<N> {
         let (request, needed) = ask_needed(&self.names, request);
         let needed = match needed {
             Ok(needed) => needed,
-            Err(memory) => return lacking(table, &self.home, &mut self.right, request, memory),
+            Err(memory) => {
+                return Tried::Answered(lacking(table, &self.home, &mut self.right, request, memory));
+            }
         };
         if let Some(file) = missing(&self.home, needed) {
             return Tried::Away { request, file };
         }
-        let (request, room) = self.make_room(table, request, door);
-        if let Err(memory) = room {
-            return lacking(table, &self.home, &mut self.right, request, memory);
+        if let Err(memory) = self.make_room(table, door) {
+            return Tried::Answered(self.excuse(table, request, memory));
         }
-        self.serve_touching(table, request, needed, door)
+        // For the prover alone: the file that the request touches is the same, whatever is noted.
+        notes_are_beside();
+        Tried::Answered(self.serve_touching(table, request, needed, door))
     }
 
     /// Serves the request with what is here, or excuses it for want of memory. Where it isn't served all is as it was.

@@ -9,7 +9,7 @@ mod Tried
 mod Lives
 mod Answering
 mod Faultless
-mod SyncedAll
+pub mod SyncedAll
 mod AnsweringAll
 mod Looking
 mod Births
