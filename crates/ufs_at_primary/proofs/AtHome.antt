@@ -166,7 +166,7 @@ here_came names h g c (Err e) came same here = subst (AreHere names) (sym same) 
 abbrev pub AreSameLive : NamesCell → NamesCell → Type 0
 AreSameLive old new = new.value.held ≡ old.value.held
 
-here_names : (h : HomeState) (old new : NamesCell) → AreSameLive old new → AreHere old h → AreHere new h
+pub here_names : (h : HomeState) (old new : NamesCell) → AreSameLive old new → AreHere old h → AreHere new h
 here_names h old new same here f live at = here f (subst (λ (m : Holdings). IsSome (fin.get m f)) same live) at
 
 pub same_names : (old new : NamesCell) → new ≡ old → AreSameLive old new

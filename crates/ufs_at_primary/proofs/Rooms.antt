@@ -29,9 +29,9 @@ use Rattle.ufs_turns.specs.NamesLent.{names_kept}
 use Rattle.ufs_turns.proofs.Runs.{runs_more, runs_still, runs_twice}
 use Rattle.ufs_at_primary.specs.All.{numbers_in}
 use Rattle.ufs_at_primary.specs.Room.{AreAllTidied, AreTidied, AreTidiedFiles, IsTidied}
-use Rattle.ufs_at_primary.specs.Stock.{StockState, stock_of}
+use Rattle.ufs_at_primary.specs.Stock.{AreHere, StockState, stock_of}
 use Rattle.ufs_at_primary.proofs.AllTold.{synced_numbers}
-use Rattle.ufs_at_primary.proofs.AtHome.{AreSameLive, committed_live, same_names, tidied_live}
+use Rattle.ufs_at_primary.proofs.AtHome.{AreSameLive, committed_live, here_names, same_names, tidied_live}
 
 -- ---- names
 
@@ -91,6 +91,16 @@ pub below_still : (visible : Bool) (a b : NamesCell) → AreTidied visible a b �
 below_still visible a b t below file live =
     subst (λ (n : ℕ). file < n) (sym (next_still visible a b t)) (below file (subst (λ m. IsSome (fin.get m file)) (tidied_live visible a b t) live))
 
+-- ---- a commit of them
+
+pub kept_names : (r : Result (Unit {0}) StoreFault) (new old : NamesCell) (s : StockState) (home : HomeState) (pool : BlockSet) → stock_of old home pool ≡ s → OnErr r (new ≡ old) → OnErr r (stock_of new home pool ≡ s)
+kept_names (Ok x) new old s home pool same kept = tt
+kept_names (Err e) new old s home pool same kept = (λ i. stock_of (kept i) home pool) ∙ same
+
+pub commit_here : (visible : Bool) (r : Result (Unit {0}) StoreFault) (h : HomeState) (old new : NamesCell) → OnOk r (AreCommitted visible old new) → OnErr r (new ≡ old) → AreHere old h → AreHere new h
+commit_here visible (Ok x) h old new done kept here = here_names h old new (committed_live visible old new done) here
+commit_here visible (Err e) h old new done kept here = here_names h old new (same_names old new kept) here
+
 -- ---- steps
 
 -- nothing is done
@@ -108,6 +118,20 @@ tidied_still base visible o s = record {
 -- the same files are live
 live_still : (a b : NamesPart) (cs : List FileCell) → b.held ≡ a.held → AreAllLive b cs → AreAllLive a cs
 live_still a b cs same all = record { live = λ f is. all.live f (subst (λ m. IsSome (fin.get m f)) (sym same) is); once = all.once }
+
+-- no more than so is no more than more
+pub tidied_more : (visible : Bool) (had has : Option View) (s s' t : StockState) → s ≡ s' → IsTidied 0 visible had has s t → IsTidied 1 visible had has s' t
+tidied_more visible had has s s' t same is = subst (λ (x : StockState). IsTidied 1 visible had has x t) same
+    (record { names = is.names; most = is.most; files = by is.files; telling = is.telling; fault = is.fault; stop = is.stop; ran = is.ran })
+  where
+    by : ((t.home ≡ s.home) × (is.most ≤ 0)) ⊎ ((a : AreTidiedFiles visible s t) × (is.most ≤ 0 + 2 + length a.olds)) → ((t.home ≡ s.home) × (is.most ≤ 1)) ⊎ ((a : AreTidiedFiles visible s t) × (is.most ≤ 1 + 2 + length a.olds))
+    by (inl x) = (let l = x.1 in inl (x.0, omega (arith, l)))
+    by (inr x) = (let l = x.1 in inr (x.0, omega (arith, l)))
+
+-- a file that a request touches is here still
+pub needed_here : (o : Option ℕ) (p q : Places) → ((file : ℕ) → IsSome (file_here p file) → IsSome (file_here q file)) → IfSome o (λ file. IsSome (file_here p file)) → IfSome o (λ file. IsSome (file_here q file))
+needed_here None p q still here = tt
+needed_here (Some file) p q still here = still file here
 
 module _ (visible : Bool) where
   -- the pool alone changed
@@ -267,7 +291,7 @@ apart_from v n pool cs files pools none once k =
         omega (arith, off, l)
 
 module _ (visible : Bool) (had mid has : Option View) (old new : NamesCell) (olds nows : List FileCell) where
-  short_tidied : (fault : Option ℕ) → StopsShort visible old new olds nows had has → is_some has ≡ is_some had → StopsByFault had has fault → Runs had has fault (1 + length olds) (1 + length olds) → AreAllTidied visible had has old new olds nows
+  pub short_tidied : (fault : Option ℕ) → StopsShort visible old new olds nows had has → is_some has ≡ is_some had → StopsByFault had has fault → Runs had has fault (1 + length olds) (1 + length olds) → AreAllTidied visible had has old new olds nows
   short_tidied fault (AtNames same files free) telling stop ran = record {
     names = record { between = old; committed = inl refl; back = inl same };
     done = 0;
@@ -288,11 +312,6 @@ module _ (visible : Bool) (had mid has : Option View) (old new : NamesCell) (old
     stop = stop;
     ran = runs_more had has fault (1 + length olds) (1 + length olds) (2 + length olds) (2 + length olds) (omega arith) (omega arith) ran;
   }
-
-  -- a commit failed
-  pub failed_tidied : (r : Result (Unit {0}) StoreFault) (e : StoreFault) → r ≡ Err e → OnErr r (StopsShort visible old new olds nows had has) → is_some has ≡ is_some had → StopsByFault had has (fault_in r) → Runs had has (fault_in r) (1 + length olds) (1 + length olds) → AreAllTidied visible had has old new olds nows
-  failed_tidied (Ok x) e is short telling stop ran = absurd cc
-  failed_tidied (Err x) e is short telling stop ran = short_tidied (fault_in (Err x)) short telling stop ran
 
   -- all were committed, and the checkpoint was tried
   pub all_tidied : (last : NamesCell) (r : Result (Unit {0}) StoreFault) → AreCommitted visible old new → AreSynced visible olds nows (length olds) → OnOk r (IsReclaimed new last) → OnErr r (last ≡ new) → is_some mid ≡ is_some had → is_some has ≡ is_some mid

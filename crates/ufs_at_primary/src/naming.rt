@@ -22,7 +22,7 @@ use ufs_serving::{fill, lend_pool, rest, take_pool};
 use ufs_turns::Turns;
 
 // How many blocks a new name wants, at most.
-const FOR_A_NAME: u32 = 1;
+pub(crate) const FOR_A_NAME: u32 = 1;
 
 /// Serves it with the primary's pool, which has this number and gets the block that a new name may want. The client's hand comes back
 /// alone.

@@ -9,6 +9,7 @@ ghost use Rattle.ufs_layout.specs.Areas.{IsGeometry};
 ghost use Rattle.ufs_hand_laws.specs.Owned.{Has};
 ghost use Rattle.ufs_at_primary.specs.Room.{AreAllTidied};
 
+use crate::naming::FOR_A_NAME;
 use crate::stock::Stock;
 use ufs_base::{Lack, Memory};
 use ufs_held::HeldFile;
@@ -20,9 +21,6 @@ use ufs_owner::no_file_is_out;
 use ufs_serving::{fill, measured, rest};
 use ufs_store::StoreFault;
 use ufs_turns::Turns;
-
-// How many blocks a new name wants, at most.
-const FOR_A_NAME: u32 = 1;
 
 // By how many blocks the request would lengthen the file.
 fn measure_with<N: Naming>(held: HeldFile<N>, request: Request<N>) -> (HeldFile<N>, Request<N>, u32)
@@ -55,12 +53,11 @@ fn tidy_all<N: Naming, T: Turns<N>>(
     ensures tidied { AreAllTidied N.start.is_visible (T.tells door.old) (T.tells door.new) names.old names.new files.old files.new }
 {
     match names.commit_all(table, files, right, door, geometry) {
-        Ok(()) => {
-            // That the disk fails the store tells those that ask for a commit.
-            let _told = names.reclaim(table, files, right, door);
-        }
-        Err(_told) => {}
+        Ok(()) => {}
+        Err(_told) => return,
     }
+    // That the disk fails the store tells those that ask for a commit.
+    let _ = names.reclaim(table, files, right, door);
 }
 
 fn tidy_lent<N: Naming, T: Turns<N>>(
@@ -112,8 +109,9 @@ impl<N: Naming> Stock<N> {
         ensures made { IsRoomMade N.start.is_visible (T.tells door.old) (T.tells door.new) self.old self.new }
         ensures idle { sectors_noted self.old.names.value.tree.noted < N.start.geometry.journal / 2 → HasNoneDropped self.old → (self.new ≡ self.old) × (T.tells door.new ≡ T.tells door.old) }
     {
-        if let Err(fault) = self.commit_crowded(table, door) {
-            return told_memory(fault);
+        match self.commit_crowded(table, door) {
+            Ok(()) => {}
+            Err(fault) => return told_memory(fault),
         }
         self.make_space(table, FOR_A_NAME, door);
         Ok(())
@@ -176,12 +174,16 @@ impl<N: Naming> Stock<N> {
         ensures made { IsTidied 0 N.start.is_visible (T.tells door.old) (T.tells door.new) self.old self.new }
         ensures idle { HasNoneDropped self.old → (self.new ≡ self.old) × (T.tells door.new ≡ T.tells door.old) }
     {
-        if wanted == 0 || !self.names.has_dropped() {
+        if wanted == 0 {
             return;
         }
-        if self.is_short(wanted, door) {
-            self.reclaim(table, door);
+        if !self.names.has_dropped() {
+            return;
         }
+        if !self.is_short(wanted, door) {
+            return;
+        }
+        self.reclaim(table, door);
     }
 
     // Where all files are here, commits everything, and makes a checkpoint.

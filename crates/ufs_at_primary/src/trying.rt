@@ -223,7 +223,13 @@ impl<N: Naming> Stock<N> {
         let mut files = match self.home.lend_all() {
             Ok(files) => files,
             Err(memory) => {
-                return Tried::Answered(lacking(table, &self.home, &mut self.right, request, memory));
+                return Tried::Answered(lacking(
+                    table,
+                    &self.home,
+                    &mut self.right,
+                    request,
+                    memory,
+                ));
             }
         };
         let answer = sync_lent(
@@ -299,7 +305,13 @@ impl<N: Naming> Stock<N> {
         let needed = match needed {
             Ok(needed) => needed,
             Err(memory) => {
-                return Tried::Answered(lacking(table, &self.home, &mut self.right, request, memory));
+                return Tried::Answered(lacking(
+                    table,
+                    &self.home,
+                    &mut self.right,
+                    request,
+                    memory,
+                ));
             }
         };
         if let Some(file) = missing(&self.home, needed) {
