@@ -1,8 +1,9 @@
 -- What comes of a request, by what was done.
-use Rattle.std.proofs.Common.{◌≡◌, ◌<◌, ℕ, Bool, List, Option, Some, None, refl, ap, sym, ◌∙◌, subst}
+use Rattle.std.proofs.Common.{◌≡◌, ◌<◌, ℕ, Bool, true, List, Option, Some, None, refl, ap, sym, ◌∙◌, subst}
 use Rattle.std.specs.Prelude.{IfSome, IsSome}
 use Rattle.std.specs.FinMap as fin
 use Rattle.ufs_bitmap.specs.Blocks.{BlockSet}
+use Rattle.ufs_crash_laws.specs.Changes.{asks_commit}
 use Rattle.ufs_held_names.specs.Asked.{IsNeeded, number_of}
 use Rattle.ufs_held_names.specs.SyncAll.{AreAllLive}
 use Rattle.ufs_home.specs.Home.{HomeState}
@@ -82,9 +83,9 @@ pub answered_as : {N : Type 0} (visible : Bool) (before after : Option View) (s 
 answered_as visible before after s t r q a still is = (is.0, is.1, subst (λ (k : Ask). IsServed visible before after s t k is.0) still.ask is.2)
 
 -- Room was made for it before.
-pub in_room : {N : Type 0} (visible : Bool) (before mid after : Option View) (s m t : StockState) (r : Asked) (a : Answer N) → IsRoomMade visible before mid s m → IsAnsweredHere visible mid after m t r a → IsTried visible before after s t r (tried.Answered a)
-in_room visible before mid after s m t r a room is = (is.0, is.1, record { between = m; then = mid; room = room; served = is.2 })
+pub in_room : {N : Type 0} (visible : Bool) (before mid after : Option View) (s m t : StockState) (r : Asked) (a : Answer N) → IsRoomMade visible before mid s m → (asks_commit r.ask.op ≡ true → (m ≡ s) × (mid ≡ before)) → IsAnsweredHere visible mid after m t r a → IsTried visible before after s t r (tried.Answered a)
+in_room visible before mid after s m t r a room spared is = (is.0, is.1, record { between = m; then = mid; room = room; spared = spared; served = is.2 })
 
 -- It needs none.
 pub as_found : {N : Type 0} (visible : Bool) (before after : Option View) (s t : StockState) (r : Asked) (a : Answer N) → IsAnsweredHere visible before after s t r a → IsTried visible before after s t r (tried.Answered a)
-as_found visible before after s t r a is = in_room visible before before after s s t r a (tidied_still 1 visible before s) is
+as_found visible before after s t r a is = in_room visible before before after s s t r a (tidied_still 1 visible before s) (λ commits. (refl, refl)) is

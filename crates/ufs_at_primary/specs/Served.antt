@@ -17,6 +17,7 @@ use Rattle.ufs_msg.specs.declared.answer.Answer.{Answer}
 use Rattle.ufs_msg.specs.declared.answer.Answer.TheVariants as says
 use Rattle.ufs_owner.specs.Owners.{owner_at}
 use Rattle.ufs_owner.specs.declared.owner.Owner.TheVariants as owner
+use Rattle.ufs_crash_laws.specs.Changes.{asks_commit}
 use Rattle.ufs_hand_laws.specs.Parts.{ClientPart}
 use Rattle.ufs_at_primary.specs.All.{IsAllSynced}
 use Rattle.ufs_at_primary.specs.Dirs.{IsDirServed}
@@ -126,11 +127,12 @@ pub data IsServed (visible : Bool) (before after : Option View) (s t : StockStat
   All : IsAllHere visible before after s t ask told → IsServed visible before after s t ask told
   Lacked : IsLackedHere visible before after s t ask told → IsServed visible before after s t ask told
 
--- Room was made for it before, and then it was served.
+-- Room was made for it before, and then it was served. One that asks for a commit needs none.
 pub record IsServedInRoom (visible : Bool) (before after : Option View) (s t : StockState) (ask : Ask) (told : Told) : Type 0 where
   pub between : StockState
   pub then : Option View
   pub room : IsRoomMade visible before then s between
+  pub spared : asks_commit ask.op ≡ true → (between ≡ s) × (then ≡ before)
   pub served : IsServed visible then after between t ask told
 
 -- ---- or it isn't

@@ -1,7 +1,8 @@
 // Room before a request: the names are committed before their notes fill the journal, and what was dropped comes back where blocks are
 // wanting.
-ghost use Rattle.std.specs.Prelude.{ℕ, ◌≡◌, ◌<◌, ◌^◌};
+ghost use Rattle.std.specs.Prelude.{ℕ, ◌≡◌, ◌<◌, ◌^◌, true};
 ghost use Rattle.ufs_bitmap.specs.Blocks.{BlockSet};
+ghost use Rattle.ufs_crash_laws.specs.Changes.{asks_commit};
 ghost use Rattle.ufs_joint.specs.Cells.{FileCell};
 ghost use Rattle.ufs_joint.specs.FirstHand.{HasPoolAlone, pool_of};
 ghost use Rattle.ufs_held_names.specs.SyncAll.{AreAllLive};
@@ -16,22 +17,44 @@ use ufs_held::HeldFile;
 use ufs_held_names::HeldNames;
 use ufs_joint::{Hand, HandTable, Naming};
 use ufs_layout::Geometry;
+use ufs_model::{Ask, Op};
 use ufs_msg::Request;
 use ufs_owner::no_file_is_out;
 use ufs_serving::{fill, measured, rest};
 use ufs_store::StoreFault;
 use ufs_turns::Turns;
 
-// By how many blocks the request would lengthen the file.
+// Whether it asks for a commit.
+fn commits(op: &Op) -> bool
+    ensures { result ≡ asks_commit op.now }
+{
+    match op {
+        Op::Fsync { .. } | Op::Sync => true,
+        _ => false,
+    }
+}
+
+// By how many blocks the request would lengthen the file. None that asks for a commit lengthens it.
+fn wanted_with<N: Naming>(held: HeldFile<N>, ask: &Ask) -> (HeldFile<N>, u32)
+    ensures file { result.0 ≡ held }
+    ensures none { asks_commit ask.now.op ≡ true → result.1 ≡ 0 }
+{
+    if commits(&ask.op) {
+        return (held, 0);
+    }
+    match ask.desc {
+        Some(desc) => measured(held, &ask.op, desc),
+        None => (held, 0),
+    }
+}
+
 fn measure_with<N: Naming>(held: HeldFile<N>, request: Request<N>) -> (HeldFile<N>, Request<N>, u32)
     ensures file { result.0 ≡ held }
     ensures request { result.1 ≡ request }
+    ensures none { asks_commit request.ask.op ≡ true → result.2 ≡ 0 }
 {
     let (hand, ask, leases_back) = request.into_parts();
-    let (held, wanted) = match ask.desc {
-        Some(desc) => measured(held, &ask.op, desc),
-        None => (held, 0),
-    };
+    let (held, wanted) = wanted_with(held, &ask);
     (held, Request::new(hand, ask, leases_back), wanted)
 }
 
@@ -88,7 +111,8 @@ fn told_memory(fault: StoreFault) -> Result<(), Memory> {
 }
 
 impl<N: Naming> Stock<N> {
-    ghost use Rattle.std.specs.Prelude.{◌≡◌, ◌<◌, ◌/◌, ◌⊎◌, IsSome, None, OnErr, OnOk, is_some};
+    ghost use Rattle.std.specs.Prelude.{◌≡◌, ◌<◌, ◌/◌, ◌⊎◌, IsSome, None, OnErr, OnOk, is_some, true};
+    ghost use Rattle.ufs_crash_laws.specs.Changes.{asks_commit};
     ghost use Rattle.ufs_held.specs.Stopping.{Rests};
     ghost use Rattle.ufs_held_names.specs.HeldNames.{AreCommitted};
     ghost use Rattle.ufs_home.specs.Places.{file_here};
@@ -137,10 +161,11 @@ impl<N: Naming> Stock<N> {
         self.names.commit(table, &mut self.right, door)
     }
 
-    /// By how many blocks the request would lengthen the file, which is here; none where memory is wanting for that.
+    /// By how many blocks the request would lengthen the file, which is here; none where memory is wanting to tell.
     pub(crate) fn measure(&mut self, file: u32, request: Request<N>) -> (Request<N>, u32)
         requires here { IsSome (file_here self.old.home.places file) }
         ensures request { result.0 ≡ request }
+        ensures none { asks_commit request.ask.op ≡ true → result.1 ≡ 0 }
         ensures same { self.new ≡ self.old }
     {
         let held = match self.home.lend(file) {
@@ -173,6 +198,7 @@ impl<N: Naming> Stock<N> {
     )
         ensures made { IsTidied 0 N.start.is_visible (T.tells door.old) (T.tells door.new) self.old self.new }
         ensures idle { HasNoneDropped self.old → (self.new ≡ self.old) × (T.tells door.new ≡ T.tells door.old) }
+        ensures spared { wanted ≡ 0 → (self.new ≡ self.old) × (T.tells door.new ≡ T.tells door.old) }
     {
         if wanted == 0 {
             return;

@@ -31,3 +31,15 @@ returns-clause-made g c =
 
 pub returns-clause-idle : goal.returns-clause-idle
 returns-clause-idle g c = λ none. absurd (c.has_dropped.ensures.0 c.if-not-has_dropped.false (ap (λ (s : StockState). s.names.dropped) c.self.view_is ∙ none))
+
+pub returns-then-wanted-eq0-clause-spared : goal.returns-then-wanted-eq0-clause-spared
+returns-then-wanted-eq0-clause-spared g c = λ none. (refl, refl)
+
+pub returns-then-not-has_dropped-clause-spared : goal.returns-then-not-has_dropped-clause-spared
+returns-then-not-has_dropped-clause-spared g c = λ none. (refl, refl)
+
+pub returns-then-not-is_short-clause-spared : goal.returns-then-not-is_short-clause-spared
+returns-then-not-is_short-clause-spared g c = λ none. absurd (c.if-wanted-eq0.false none)
+
+pub returns-clause-spared : goal.returns-clause-spared
+returns-clause-spared g c = λ none. absurd (c.if-wanted-eq0.false none)

@@ -1,4 +1,4 @@
-use Rattle.std.proofs.Common.{◌≡◌, ◌<◌, ◌^◌, ℕ, Some, ap, arith, refl, sym, subst, ◌∙◌, ◌≤◌}
+use Rattle.std.proofs.Common.{◌≡◌, ◌<◌, ◌^◌, ℕ, true, false, Some, ap, arith, refl, sym, subst, ◌∙◌, ◌≤◌}
 use Rattle.std.specs.Prelude.{IfOk, IfSome, IsSome}
 use Rattle.std.specs.FinMap as fin
 use Rattle.ufs_held_names.specs.Asked.{IsNeeded}
@@ -117,7 +117,7 @@ returns-in-Err-make_room-clause-tried g c =
     let after = g.T.Turns.tells c.make_room.new.door in
     let s = stock_of e.new.names f.home f.pool in
     let room = subst (λ (y : StockState). IsRoomMade visible before after y m) ((λ i. stock_of (e.ensures.names i) f.home f.pool) ∙ c.self.view_is) c.make_room.ensures.made in
-    in_room visible before after after c.args.self.now m t c.args.request c.excuse.result room
+    in_room visible before after after c.args.self.now m t c.args.request c.excuse.result room (λ commits. absurd (let k = c.requires.kind in let clash : true ≡ false = sym commits ∙ k.no_commit in cc))
     (answered_as visible after after m t c.args.request q.result.0 c.excuse.result (subst (IsStill c.args.request) (sym q.ensures.same) e.ensures.still) (x.0, x.1, Lacked (record { excused = x.2; rest = c.excuse.ensures.rest; store = refl })))
 
 pub returns-clause-tried : goal.returns-clause-tried
@@ -132,7 +132,7 @@ returns-clause-tried g c =
     let mid = g.T.Turns.tells c.make_room.new.door in
     let after = g.T.Turns.tells x.new.door in
     let room = subst (λ (y : StockState). IsRoomMade visible before mid y m) ((λ i. stock_of (e.ensures.names i) f.home f.pool) ∙ c.self.view_is) c.make_room.ensures.made in
-    in_room visible before mid after c.args.self.now m x.new.self c.args.request x.result room
+    in_room visible before mid after c.args.self.now m x.new.self c.args.request x.result room (λ commits. absurd (let k = c.requires.kind in let clash : true ≡ false = sym commits ∙ k.no_commit in cc))
     (answered_as visible mid after m x.new.self c.args.request q.result.0 x.result (subst (IsStill c.args.request) (sym q.ensures.same) e.ensures.still) x.ensures.answered)
 
 pub returns-in-Err-make_room-clause-telling : goal.returns-in-Err-make_room-clause-telling

@@ -39,6 +39,9 @@ returns-clause-tried g c =
     let t = c.serve_at_hand.new.self in
     let a = c.serve_at_hand.result in
     in_room visible before mid after c.args.self.now m t c.args.request a (tidied_more visible before mid c.measure-request.new.self c.args.self.now m c.measure-request.ensures.same c.make_space.ensures.made)
+    (λ commits.
+    let none = c.make_space.ensures.spared (c.measure-request.ensures.none commits) in
+    (none.0 ∙ c.measure-request.ensures.same, none.1))
     (subst (λ (q : Asked). IsAnsweredHere visible mid after m t q a) c.measure-request.ensures.request c.serve_at_hand.ensures.answered)
 
 pub returns-clause-drawn : goal.returns-clause-drawn
