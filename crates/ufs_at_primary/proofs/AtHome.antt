@@ -375,7 +375,7 @@ module _ (base : ℕ) (visible : Bool) (before after : Option View) (s t : Stock
           let a = x.0 in
           subst (λ (h : HomeState). IsSome (file_here h.places f)) (sym a.home) (alike_put f a.olds a.nows a.lent a.lent a.numbers (λ at. at) (subst (λ (p : Places). IsSome (file_here p f)) (sym a.here.back) here))
 
-  owners_tidied : t.home.owners ≡ s.home.owners
+  pub owners_tidied : t.home.owners ≡ s.home.owners
   owners_tidied = by is.files
     where
       by : ((t.home ≡ s.home) × (is.most ≤ base)) ⊎ ((a : AreTidiedFiles visible s t) × (is.most ≤ base + 2 + length a.olds)) → t.home.owners ≡ s.home.owners

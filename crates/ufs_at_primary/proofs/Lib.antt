@@ -4,8 +4,8 @@ mod DirsTold
 mod AllTold
 mod SyncedHere
 mod Beside
-mod AtHome
-mod Rooms
+pub mod AtHome
+pub mod Rooms
 mod Trials
 mod Outcomes
 mod Births

@@ -1,7 +1,10 @@
-use Rattle.std.proofs.Common.{◌≡◌, ◌⊎◌, inl, inr, ap, arith, refl, sym, subst, ◌∙◌}
+use Rattle.std.proofs.Common.{◌≡◌, inl, inr, ap, arith, refl, sym, subst, ◌∙◌}
+use Rattle.std.specs.Prelude.{◌/◌}
 use Rattle.ufs_held.proofs.Stopping.{stops_still}
 use Rattle.ufs_held_names.specs.HeldNames.{AreCommitted}
+use Rattle.ufs_ilog.specs.Notes.{sectors_noted}
 use Rattle.ufs_joint.specs.Cells.{NamesCell}
+use Rattle.ufs_layout.specs.declared.geometry.Geometry.{Geometry}
 use Rattle.ufs_turns.proofs.Runs.{runs_still}
 use Rattle.ufs_at_primary.specs.Stock.{AreHere, StockState, stock_of}
 use Rattle.ufs_at_primary.proofs.Births.{bare_pool, pool_beside, when_ok}
@@ -40,7 +43,9 @@ returns-clause-rest g c = ap (λ (s : StockState). record s { names = c.commit.n
 pub returns-clause-idle : goal.returns-clause-idle
 returns-clause-idle g c = λ less.
     let crowded = c.is_crowded.ensures.crowded.0 c.if-not-is_crowded.false in
-    absurd (let fewer = less in omega (arith, crowded, fewer))
+    let journal = ap (λ (q : Geometry). q.journal / 2) c.self.invariant.its in
+    let noted = ap (λ (s : StockState). sectors_noted s.names.value.tree.noted) c.self.view_is in
+    absurd (omega (arith, crowded, less, journal, noted))
 
 pub invariant_of-self : goal.invariant_of-self
 invariant_of-self g c =
