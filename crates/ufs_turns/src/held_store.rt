@@ -288,8 +288,9 @@ impl<N: Naming, D: Door, L: Ledger> HeldStore<N, D, L> {
         requires part { 0 < share.old.parts }
         requires lent { (names : NamesCell) × LendsAll names hand.old × (names.dropped ≡ dropped.old) }
         requires away { hand.old.store ≡ [] }
-        ensures ok { OnOk result ((names : NamesCell) → LendsAll names hand.old → LendsAll (without_dropped names) hand.new) }
-        ensures err { OnErr result ((names : NamesCell) → LendsAll names hand.old → LendsAll names hand.new) }
+        ensures ok { OnOk result ((names : NamesCell) → hand.old.names ≡ (tt, names) ∷ [] → hand.new.names ≡ (tt, without_dropped names) ∷ []) }
+        ensures err { OnErr result (hand.new.names ≡ hand.old.names) }
+        ensures files { hand.new.files ≡ hand.old.files }
         ensures away { hand.new.store ≡ [] }
         ensures beside { IsBeside hand.old hand.new }
         ensures back { OnOk result ((dropped.new ≡ set.empty) × (free_in self.new.store ≡ set.union (free_in self.old.store) dropped.old)) }

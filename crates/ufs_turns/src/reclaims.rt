@@ -1,8 +1,7 @@
 // A checkpoint in a turn, behind which the blocks that the names dropped are unassigned.
-ghost use Rattle.std.specs.Prelude.{ℕ, ◌≡◌, ◌++◌, ◌∷◌, [], false, Err, None, Some, IfErr, OnErr, OnOk};
+ghost use Rattle.std.specs.Prelude.{ℕ, ◌≡◌, ◌≤◌, ◌++◌, ◌∷◌, [], false, Err, Some, IfErr, OnErr, OnOk};
 ghost use Rattle.std.specs.FinSet as set;
-ghost use Rattle.ufs_joint.specs.Cells.{NamesCell, StoreCell};
-ghost use Rattle.ufs_joint.specs.Reclaims.{IsReclaimHand};
+ghost use Rattle.ufs_joint.specs.Cells.{NamesCell};
 ghost use Rattle.ufs_joint.specs.Turns.{MayEndTurn};
 ghost use Rattle.ufs_layout.specs.Areas.{IsGeometry};
 ghost use Rattle.ufs_store.specs.Refusals.{fault_in, is_no_space, stop_after};
@@ -16,7 +15,9 @@ use crate::held_store::begin_turn;
 use crate::syncs::{checkpoint_store, told_by};
 use std::marker::Brand;
 use ufs_bitmap::Pool;
-use ufs_joint::{Event, Hand, HandTable, Naming, dropped_blocks_come_back};
+use ufs_joint::{
+    Event, Hand, HandTable, Naming, a_checkpoint_ends, dropped_blocks_come_back,
+};
 use ufs_layout::Geometry;
 use ufs_store::{Door, StoreFault};
 
@@ -31,8 +32,9 @@ pub(crate) fn reclaim_lent<N: Naming, D: Door>(
     requires store { IsStoreIn N.start N.origin D.visible D.keeps hand.old (D.store store.old) }
     requires lent { (names : NamesCell) × LendsAll names hand.old × (names.dropped ≡ dropped.old) }
     ensures store { IsStoreIn N.start N.origin D.visible D.keeps hand.new (D.store store.new) }
-    ensures ok { OnOk result ((names : NamesCell) → LendsAll names hand.old → LendsAll (without_dropped names) hand.new) }
-    ensures err { OnErr result ((names : NamesCell) → LendsAll names hand.old → LendsAll names hand.new) }
+    ensures ok { OnOk result ((names : NamesCell) → hand.old.names ≡ (tt, names) ∷ [] → hand.new.names ≡ (tt, without_dropped names) ∷ []) }
+    ensures err { OnErr result (hand.new.names ≡ hand.old.names) }
+    ensures files { hand.new.files ≡ hand.old.files }
     ensures back { OnOk result ((dropped.new ≡ set.empty) × ((D.store store.new).unassigned.free ≡ set.union (D.store store.old).unassigned.free dropped.old)) }
     ensures kept { OnErr result ((dropped.new ≡ dropped.old) × ((D.store store.new).unassigned.free ≡ (D.store store.old).unassigned.free)) }
     ensures beside { IsBeside hand.old hand.new }
@@ -46,6 +48,7 @@ pub(crate) fn reclaim_lent<N: Naming, D: Door>(
 {
     let geometry = store.geometry();
     dropped_blocks_come_back(&geometry);
+    a_checkpoint_ends(&geometry);
     begin_turn::<N, Brand>(table, hand, &geometry);
     let made = checkpoint_store(store);
     let told = told_by(&made);
@@ -76,6 +79,7 @@ fn end_all<N: Naming, D: Door, E: Event>(
     requires its { geometry.now ≡ N.start.geometry }
     requires may { MayEndTurn N.start.geometry N.start.is_visible hand.old (reclaiming_turn D.keeps done told (D.store store.now) hand.old) }
     ensures ended { hand.new ≡ ended_view (reclaiming_turn D.keeps done told (D.store store.now) hand.old) hand.old result }
+    ensures later { hand.old.seen ≤ result }
 {
     // For the prover alone.
     let _ = store;

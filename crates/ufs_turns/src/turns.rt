@@ -1,4 +1,4 @@
-ghost use Rattle.std.specs.Prelude.{ℕ, ◌≡◌, ◌+◌, ◌++◌, [], true, false, Ok, Err, None, Option, Some, IfErr, IfSome, IsTrue, OnOk, OnErr, is_some, length};
+ghost use Rattle.std.specs.Prelude.{ℕ, ◌≡◌, ◌+◌, ◌++◌, ◌∷◌, [], true, false, Ok, Err, None, Option, Some, IfErr, IfSome, IsTrue, OnOk, OnErr, is_some, length};
 ghost use Rattle.std.specs.FinSet as set;
 ghost use Rattle.ufs_bitmap.specs.Blocks.{BlockSet};
 ghost use Rattle.ufs_bitmap.specs.Taking.{set_of};
@@ -177,8 +177,9 @@ pub trait Turns<N: Naming> {
     fn reclaim(&mut self, hand: &mut Hand<N>, dropped: &mut Pool) -> Result<(), StoreFault>
         requires lent { (names : NamesCell) × LendsAll names hand.old × (names.dropped ≡ dropped.old) }
         requires away { hand.old.store ≡ [] }
-        ensures ok { OnOk result ((names : NamesCell) → LendsAll names hand.old → LendsAll (without_dropped names) hand.new) }
-        ensures err { OnErr result ((names : NamesCell) → LendsAll names hand.old → LendsAll names hand.new) }
+        ensures ok { OnOk result ((names : NamesCell) → hand.old.names ≡ (tt, names) ∷ [] → hand.new.names ≡ (tt, without_dropped names) ∷ []) }
+        ensures err { OnErr result (hand.new.names ≡ hand.old.names) }
+        ensures files { hand.new.files ≡ hand.old.files }
         ensures away { hand.new.store ≡ [] }
         ensures beside { IsBeside hand.old hand.new }
         ensures back { OnOk result ((dropped.new ≡ set.empty) × AreTold (tells self.old) (tells self.new) (λ had has. has ≡ set.union had dropped.old)) }
