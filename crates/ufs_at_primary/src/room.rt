@@ -75,9 +75,8 @@ fn tidy_all<N: Naming, T: Turns<N>>(
     ensures pool { (pool : BlockSet) → HasPoolAlone (pool_of 0) pool right.old → HasPoolAlone (pool_of 0) pool right.new }
     ensures tidied { AreAllTidied N.start.is_visible (T.tells door.old) (T.tells door.new) names.old names.new files.old files.new }
 {
-    match names.commit_all(table, files, right, door, geometry) {
-        Ok(()) => {}
-        Err(_told) => return,
+    if let Err(_told) = names.commit_all(table, files, right, door, geometry) {
+        return;
     }
     // That the disk fails the store tells those that ask for a commit.
     let _ = names.reclaim(table, files, right, door);
@@ -133,9 +132,8 @@ impl<N: Naming> Stock<N> {
         ensures made { IsRoomMade N.start.is_visible (T.tells door.old) (T.tells door.new) self.old self.new }
         ensures idle { sectors_noted self.old.names.value.tree.noted < N.start.geometry.journal / 2 → HasNoneDropped self.old → (self.new ≡ self.old) × (T.tells door.new ≡ T.tells door.old) }
     {
-        match self.commit_crowded(table, door) {
-            Ok(()) => {}
-            Err(fault) => return told_memory(fault),
+        if let Err(fault) = self.commit_crowded(table, door) {
+            return told_memory(fault);
         }
         self.make_space(table, FOR_A_NAME, door);
         Ok(())

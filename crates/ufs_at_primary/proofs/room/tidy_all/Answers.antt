@@ -1,8 +1,7 @@
-use Rattle.std.proofs.Common.{◌≡◌, ◌≤◌, ◌+◌, ℕ, List, arith, length, sym, subst, ◌∙◌}
+use Rattle.std.proofs.Common.{◌≡◌, ◌≤◌, ℕ, List, arith, length, sym, subst, ◌∙◌}
 use Rattle.ufs_joint.specs.Cells.{FileCell}
 use Rattle.ufs_serving.proofs.Lacking.{off_pool}
 use Rattle.ufs_store.specs.Refusals.{fault_in}
-use Rattle.ufs_turns.specs.Lent.{Runs, StopsByFault}
 use Rattle.ufs_at_primary.specs.Room.{AreAllTidied}
 use Rattle.ufs_at_primary.proofs.AllTold.{none_under, same_counts, synced_numbers}
 use Rattle.ufs_at_primary.proofs.Births.{bare_pool, pool_beside}
@@ -28,14 +27,14 @@ reclaim-requires-clause-apart g c =
     let e = c.commit_all.ensures in
     let olds = c.args.files.now in
     let nows = c.commit_all.new.files in
-    let numbers = synced_numbers g.N.Naming.start.is_visible olds nows (length olds) c.in-Ok.ensures.files in
+    let numbers = synced_numbers g.N.Naming.start.is_visible olds nows (length olds) c.in_default.ensures.files in
     let all = c.requires.all in
     apart_from c.commit_all.new.guest 4294967295 p.0 nows e.bare.files (e.beside.pools ∙ p.1.pools) (same_counts 4294967295 olds nows numbers ∙ none_under 4294967295 olds (λ d has. off_pool 0 d.value.file.file (omega arith) (c.requires.low d has)))
     (λ file. subst (λ (n : ℕ). n ≤ 1) (sym (same_counts file olds nows numbers)) (all.once file))
 
 pub reclaim-requires-clause-may : goal.reclaim-requires-clause-may
 reclaim-requires-clause-may g c =
-    may_reclaim g.N.Naming.start.is_visible c.args.names.now c.commit_all.new.self c.args.files.now c.commit_all.new.files c.requires.all c.in-Ok.ensures.names c.in-Ok.ensures.files
+    may_reclaim g.N.Naming.start.is_visible c.args.names.now c.commit_all.new.self c.args.files.now c.commit_all.new.files c.requires.all c.in_default.ensures.names c.in_default.ensures.files
 
 pub returns-clause-pool : goal.returns-clause-pool
 returns-clause-pool g c = λ pool mine.
@@ -53,7 +52,6 @@ returns-clause-tidied g c =
     let has = g.T.Turns.tells c.reclaim.new.door in
     let olds = c.args.files.now in
     let nows = c.commit_all.new.files in
-    let done = c.in-Ok.ensures in
+    let done = c.in_default.ensures in
     subst (λ (cs : List FileCell). AreAllTidied visible had has c.args.names.now c.reclaim.new.self olds cs) (sym then.files)
-    (all_tidied visible had mid has c.args.names.now c.commit_all.new.self olds nows c.reclaim.new.self c.reclaim.result done.names done.files then.ok then.err e.telling then.telling
-    (subst (λ r. StopsByFault had mid (fault_in r)) c.in-Ok.is e.halts) (subst (λ r. Runs had mid (fault_in r) (1 + length olds) (1 + length olds)) c.in-Ok.is e.ran) then.halts then.ran)
+    (all_tidied visible had mid has c.args.names.now c.commit_all.new.self olds nows c.reclaim.new.self c.reclaim.result done.names done.files then.ok then.err e.telling then.telling done.halts done.ran then.halts then.ran)

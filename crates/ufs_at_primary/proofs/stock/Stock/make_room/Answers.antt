@@ -2,7 +2,6 @@ use Rattle.std.proofs.Common.{◌≡◌, sym, subst, ◌∙◌}
 use Rattle.ufs_at_primary.specs.Room.{HasNoneDropped}
 use Rattle.ufs_at_primary.proofs.Rooms.{names_failed, names_then}
 use Rattle.ufs_store.specs.Refusals.{fault_in}
-use Rattle.ufs_turns.specs.Lent.{Runs, StopsByFault}
 use Rattle.ufs_at_primary.proofs.stock.Stock.make_room.Goals as goal
 
 pub returns-in-Err-clause-made : goal.returns-in-Err-clause-made
@@ -18,8 +17,7 @@ returns-clause-made g c =
     let e = c.commit_crowded.ensures in
     let had = g.T.Turns.tells c.args.door.now in
     let mid = g.T.Turns.tells c.commit_crowded.new.door in
-    names_then g.N.Naming.start.is_visible had mid (g.T.Turns.tells c.make_space.new.door) c.args.self.now c.commit_crowded.new.self c.make_space.new.self e.rest c.in-Ok.ensures.names e.telling
-    (subst (λ r. StopsByFault had mid (fault_in r)) c.in-Ok.is e.halts) (subst (λ r. Runs had mid (fault_in r) 1 1) c.in-Ok.is e.ran) c.make_space.ensures.made
+    names_then g.N.Naming.start.is_visible had mid (g.T.Turns.tells c.make_space.new.door) c.args.self.now c.commit_crowded.new.self c.make_space.new.self e.rest c.in_default.ensures.names e.telling c.in_default.ensures.halts c.in_default.ensures.ran c.make_space.ensures.made
 
 pub returns-clause-idle : goal.returns-clause-idle
 returns-clause-idle g c = λ few none.
