@@ -68,11 +68,6 @@ returns-in-Some-clause-tried g c =
       refl,
     )
 
-pub serve_touching-requires-clause-kind : goal.serve_touching-requires-clause-kind
-serve_touching-requires-clause-kind g c =
-    let still = c.see_request-request.ensures.still in
-    subst (λ (r : Asked). IsByNames r.ask) (sym c.ask_needed-request.ensures.same) (subst IsByNames (sym still.ask) c.requires.kind)
-
 pub serve_touching-requires-clause-needed : goal.serve_touching-requires-clause-needed
 serve_touching-requires-clause-needed g c =
     let e = c.see_request-request in
