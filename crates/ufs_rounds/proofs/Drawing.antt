@@ -316,13 +316,13 @@ module _ {N : Type 0} (k : Start) (s t : GlobalState N) (w : ServesAlone k s) (d
             let not = different' client e in
             other_push client drawn x.new.entry (λ is. not (sym is ∙ x.mine)) ∙ d.each client c ring (was_there client c not at) there
 
+    pub client_drawn : IsToldNothing s.seen t.seen number s.rings t.rings h.goes.was h.goes.is ⊎ (IsToldMore s.seen t.seen number s.rings t.rings h.goes.was h.goes.is ⊎ IsToldByItself s.seen t.seen number s.rings t.rings h.goes.was h.goes.is) → HasDrawnMore t drawn
+    client_drawn (inl x) = none_more (nothing_told x)
+    client_drawn (inr (inl x)) = none_more (more_told x)
+    client_drawn (inr (inr x)) = record { more = x.new.entry ∷ []; has = itself_told x }
+
     pub client_more : HasDrawnMore t drawn
-    client_more = by (client_told k s t w number said h rest)
-      where
-        by : IsToldNothing s.seen t.seen number s.rings t.rings h.goes.was h.goes.is ⊎ (IsToldMore s.seen t.seen number s.rings t.rings h.goes.was h.goes.is ⊎ IsToldByItself s.seen t.seen number s.rings t.rings h.goes.was h.goes.is) → HasDrawnMore t drawn
-        by (inl x) = none_more (nothing_told x)
-        by (inr (inl x)) = none_more (more_told x)
-        by (inr (inr x)) = record { more = x.new.entry ∷ []; has = itself_told x }
+    client_more = client_drawn (client_told k s t w number said h rest)
 
   -- ---- in a step
 

@@ -41,7 +41,7 @@ by_device (reply.IsDir n) = refl
 by_device (reply.Names names) = refl
 by_device (reply.Refused x) = refl
 
-said_stop : (r : Reply) (n : ℕ) → stopped_in r ≡ Some n → r ≡ reply.Excused (excuse.Stopped n)
+pub said_stop : (r : Reply) (n : ℕ) → stopped_in r ≡ Some n → r ≡ reply.Excused (excuse.Stopped n)
 said_stop (reply.Excused (excuse.Stopped m)) n is = ap (λ (k : ℕ). reply.Excused (excuse.Stopped k)) (some_is is)
   where
     some_is : {a b : ℕ} → Some a ≡ Some b → a ≡ b

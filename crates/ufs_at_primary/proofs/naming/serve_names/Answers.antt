@@ -73,6 +73,7 @@ returns-clause-done g c =
       telling = c.rest.ensures.telling ∙ c.fill.ensures.telling;
       halts = read_rests (tells c.args.door.now) (tells c.rest.new.door) c.serve-entry.result.entry.reply (untold_by c.serve-entry.result.entry.reply e.faultless)
           (rests_twice (tells c.args.door.now) (tells c.fill.new.door) (tells c.rest.new.door) None c.fill.ensures.telling c.fill.ensures.still c.rest.ensures.still);
+      calm = e.faultless;
       names = e.names;
       file = e.file;
       made = e.made;
