@@ -150,7 +150,7 @@ asked_so visible before after s t ask told (Lacked x) = x.excused.of_ask.asked
 room_owners : (visible : Bool) (before then : Option View) (s t : StockState) → IsRoomMade visible before then s t → t.home.owners ≡ s.home.owners
 room_owners visible before then s t room = by room.files
   where
-    by : ((t.home ≡ s.home) × (room.most ≤ 1)) ⊎ ((a : AreTidiedFiles visible s t) × (room.most ≤ 3 + length a.olds)) → t.home.owners ≡ s.home.owners
+    by : ((t.home ≡ s.home) × (room.most ≤ 1)) ⊎ ((a : AreTidiedFiles visible s t) × (room.most ≤ 1 + 2 + length a.olds)) → t.home.owners ≡ s.home.owners
     by (inl x) = ap (λ (h : HomeState). h.owners) x.0
     by (inr x) = ap (λ (h : HomeState). h.owners) x.0.home
 

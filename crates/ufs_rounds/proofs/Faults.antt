@@ -1,9 +1,8 @@
 -- The entries that turns draw tell the faults of the store's disk, one turn after the other.
-use Rattle.std.proofs.Common.{◌≡◌, ◌≢◌, ◌⊎◌, inl, inr, ℕ, ◌+◌, ◌-◌, ◌^◌, ◌<◌, ◌≤◌, min, Bool, true, false, is_some, length, List, [], ◌∷◌, ◌++◌, None, Option, Some, refl, ap, sym, ◌∙◌, subst, true≢false, arith, grind}
+use Rattle.std.proofs.Common.{◌≡◌, ◌≢◌, ◌⊎◌, inl, inr, ℕ, ◌+◌, ◌-◌, ◌^◌, ◌<◌, ◌≤◌, min, Bool, true, false, is_some, length, List, [], ◌∷◌, ◌++◌, None, Ok, Option, Some, refl, ap, sym, ◌∙◌, subst, true≢false, arith}
 use Rattle.ufs_base.specs.Faults.{RoseTo}
-use Rattle.ufs_at_primary.specs.Here.{IsChangedHere, IsDoneHere}
+use Rattle.ufs_at_primary.specs.Here.{IsDoneHere}
 use Rattle.ufs_at_primary.specs.Dirs.{IsDirDone}
-use Rattle.ufs_at_primary.specs.Room.{IsRoomMade}
 use Rattle.ufs_at_primary.specs.Served.{All, ByNames, IsAllHere, IsByNamesHere, IsLackedHere, IsOnFileHere, IsOnNoneHere, IsServed, IsServedInRoom, Lacked, OnFile, OnNone}
 use Rattle.ufs_at_primary.specs.Stock.{StockState}
 use Rattle.ufs_crash_laws.specs.Changes.{asks_commit}
@@ -35,11 +34,16 @@ use Rattle.ufs_told.specs.Replies.{device_in, is_refused, may_turn, stopped_in}
 use Rattle.ufs_told.specs.Told.{AreFaultsTold, HasRisen, IsCountStill, IsRaisedBy}
 use Rattle.ufs_turns.specs.Lent.{Runs, StopsByFault, stop_in}
 use Rattle.ufs_rounds.specs.Alone.{ServesAlone}
+use Rattle.ufs_client.specs.Played.{IsMerged}
+use Rattle.ufs_model.specs.declared.data.Actor.{Actor}
+use Rattle.ufs_rounds.specs.Dealing.{HaveAskedNothing}
 use Rattle.ufs_rounds.specs.Drawn.{HasDrawn}
+use Rattle.ufs_rounds.specs.Rest.{IsAtRest, IsInOrder, IsPlayed}
+use Rattle.ufs_rounds.specs.Scripts.{lists_of}
 use Rattle.ufs_rounds.specs.Faults.{TellBetween, TellFaults, counts_in}
 use Rattle.ufs_rounds.specs.Steps.{AreStepsWhere, CallOf, IsStep, Step, TurnOf}
 use Rattle.ufs_rounds.specs.Turns.{GlobalState, IsClientTurn, IsPrimaryTurn}
-use Rattle.ufs_rounds.proofs.AloneRounds.{no_worker, step_then}
+use Rattle.ufs_rounds.proofs.AloneRounds.{no_worker, step_then, steps_alone}
 use Rattle.ufs_caller.specs.declared.turn.Turn.{Turn}
 use Rattle.ufs_primary.specs.declared.turn.PrimaryTurn.{PrimaryTurn}
 use Rattle.ufs_primary.specs.declared.turn.PrimaryTurn.TheVariants as did
@@ -47,7 +51,9 @@ use Rattle.ufs_model.specs.declared.data.Actor.TheVariants as actor
 use Rattle.ufs_at_primary.specs.Orders.{dropped_by}
 use Rattle.ufs_rounds.specs.declared.turned.Turned.TheVariants as turned
 use Rattle.ufs_rounds.proofs.AlonePrimary.{HasRested, HasServed, primary_did}
-use Rattle.ufs_rounds.proofs.Drawing.{IsToldByItself, IsToldMore, IsToldNothing, client_drawn, client_told, primary_more, step_more, steps_more}
+use Rattle.ufs_rounds.proofs.Drawing.{HasDrawnMore, IsToldByItself, IsToldMore, IsToldNothing, client_drawn, client_more, client_told, drawn_merged, none_more, primary_more, step_more, steps_more}
+use Rattle.ufs_rounds.proofs.Entries.{one_history}
+use Rattle.ufs_rounds.proofs.InTurn.{none_drawn}
 use Rattle.ufs_rounds.proofs.Telling.{rests_caused, said_stop, stops_caused, told_rests, told_stops}
 
 -- ---- one after the other
@@ -218,7 +224,7 @@ module _ (f read : FileState) (pool : BlockSet) (d : Desc) where
   never_read : (n : ℕ) (request : Op) → may_turn request ≡ false → is_on_file request ≡ true → IsServeCause f read pool d request (excuse.Device n) → ⊥
   never_read n request turns kind (Applied why) = (why read.content.bytes (own_bytes read.content)).cause
   never_read n (op.Seek fd' from far) turns kind (Unread allowed lacks of) = lacks (λ place need. let low = need.below in absurd (omega (arith, low)))
-  never_read n (op.OpenFile path r w creat excl trunc append) turns kind (Unread allowed lacks of) = absurd (true≢false (sym turns))
+  never_read n (op.OpenFile path r w creat excl trunc append) turns kind (Unread allowed lacks of) = absurd (true≢false turns)
   never_read n (op.Close fd') turns kind (Unread allowed lacks of) = absurd (true≢false (sym kind))
   never_read n (op.Read fd' m) turns kind (Unread allowed lacks of) = absurd (true≢false turns)
   never_read n (op.Write fd' bytes) turns kind (Unread allowed lacks of) = absurd (true≢false turns)
@@ -303,14 +309,20 @@ in_room_tells s visible before after p q ask told gets x =
 
 -- ---- step by step
 
-module _ {N : Type 0} (k : Start) (first : StoreState) where
-  -- Of the entries that were drawn none that asks for a commit is excused for want of memory.
-  abbrev pub GetMemory : List Entry → Type 0
-  GetMemory entries = (e : Entry) → Has e entries → e.reply ≡ reply.Excused excuse.Memory → asks_commit e.op ≡ false
+-- Of these entries none that asks for a commit is excused for want of memory.
+abbrev pub GetMemory : List Entry → Type 0
+GetMemory entries = (e : Entry) → Has e entries → e.reply ≡ reply.Excused excuse.Memory → asks_commit e.op ≡ false
 
+-- What is told where an entry is drawn in this step: none that a client answers itself is told a fault.
+abbrev pub MayTell : Step → List Entry → Type 0
+MayTell (TurnOf (actor.Client number) o) more = (e : Entry) → Has e more → IsCalm e
+MayTell _ more = GetMemory more
+
+module _ {N : Type 0} (k : Start) (first : StoreState) where
   module _ (s t : GlobalState N) (w : ServesAlone k s) (drawn : List Entry) (d : HasDrawn s drawn) where
     primary_tells : (o : PrimaryTurn) (h : IsPrimaryTurn k s.store t.store s.seen t.seen s.primary t.primary s.rings t.rings o) (x : HasRested k s t w o ⊎ HasServed k s t w o) (clients : t.clients ≡ s.clients)
         → GetMemory (primary_more k s t w drawn d o x h.seen clients).more → TellFaults first s t (primary_more k s t w drawn d o x h.seen clients).more
+    unfolding primary_more none_more
     primary_tells o h (inl r) clients gets = none_tell first s t (h.store (λ e. idle (sym r.says ∙ e)))
       where
         idle : did.Idle ≡ did.Served → ⊥
@@ -323,19 +335,15 @@ module _ {N : Type 0} (k : Start) (first : StoreState) where
     client_tells : (number : ℕ) (said : Turn) (h : IsClientTurn s.seen t.seen number s.clients t.clients s.rings t.rings said) (rest : t ≡ record s { clients = t.clients; rings = t.rings; seen = t.seen })
         (x : IsToldNothing s.seen t.seen number s.rings t.rings h.goes.was h.goes.is ⊎ (IsToldMore s.seen t.seen number s.rings t.rings h.goes.was h.goes.is ⊎ IsToldByItself s.seen t.seen number s.rings t.rings h.goes.was h.goes.is))
         → ((e : Entry) → Has e (client_drawn k s t w drawn d number said h rest x).more → IsCalm e) → TellFaults first s t (client_drawn k s t w drawn d number said h rest x).more
+    unfolding client_drawn none_more
     client_tells number said h rest (inl x) calm = none_tell first s t (ap (λ (g : GlobalState N). g.store) rest)
     client_tells number said h rest (inr (inl x)) calm = none_tell first s t (ap (λ (g : GlobalState N). g.store) rest)
     client_tells number said h rest (inr (inr x)) calm =
         let same = ap (λ (g : GlobalState N). g.store) rest in
         record { telling = ap is_some same; told = one_calm first s.store t.store x.new.entry same (calm x.new.entry (inl refl)) }
 
-    -- What is told where an entry is drawn in this step: none that asks for a commit is excused for want of memory, and none that a client
-    -- answers itself is told a fault.
-    abbrev pub MayTell : Step → List Entry → Type 0
-    MayTell (TurnOf (actor.Client number) o) more = (e : Entry) → Has e more → IsCalm e
-    MayTell _ more = GetMemory more
-
     pub step_tells : (m : Step) (h : IsStep k m s t) → MayTell m (step_more k s t w drawn d m h).more → TellFaults first s t (step_more k s t w drawn d m h).more
+    unfolding client_drawn step_more client_more none_more
     step_tells (TurnOf (actor.Client number) (turned.Client o)) h may = client_tells number o h.0 h.1 (client_told k s t w number o h.0 h.1) may
     step_tells (TurnOf (actor.Client number) (turned.Worker o)) h may = absurd h
     step_tells (TurnOf (actor.Client number) (turned.Primary o)) h may = absurd h
@@ -345,14 +353,33 @@ module _ {N : Type 0} (k : Start) (first : StoreState) where
     step_tells (TurnOf actor.Primary (turned.Primary o)) h may = primary_tells o h.0 (primary_did k s t w o h.0) (ap (λ (x : GlobalState N). x.clients) h.1) may
     step_tells (CallOf file o) h may = record { telling = h.telling; told = unasked_between first s.store t.store (dropped_by o) 1 1 h.halts h.ran }
 
-  -- so it is with each step
-  abbrev pub StepsTell : Type 0
-  StepsTell = (m : Step) (s t : GlobalState N) (w : ServesAlone k s) (drawn : List Entry) (d : HasDrawn s drawn) (h : IsStep k m s t) → MayTell s t w drawn d m (step_more k s t w drawn d m h).more
-
-  pub steps_tell : StepsTell → (may : Step → GlobalState N → Type 0) (ms : List Step) (s t : GlobalState N) (a : AreStepsWhere k may ms s t) (w : ServesAlone k s) (drawn : List Entry) (d : HasDrawn s drawn)
+  pub steps_tell : ((m : Step) (s t : GlobalState N) (w : ServesAlone k s) (drawn : List Entry) (d : HasDrawn s drawn) (h : IsStep k m s t) → MayTell m (step_more k s t w drawn d m h).more) → (may : Step → GlobalState N → Type 0) (ms : List Step) (s t : GlobalState N) (a : AreStepsWhere k may ms s t) (w : ServesAlone k s) (drawn : List Entry) (d : HasDrawn s drawn)
       → TellFaults first s t (steps_more k may ms s t a w drawn d).more
+  unfolding steps_more
   steps_tell each may [] s t a w drawn d = none_tell first s t (ap (λ (x : GlobalState N). x.store) a)
   steps_tell each may (m ∷ ms) s t a w drawn d =
       let one = step_more k s a.0 w drawn d m a.2 in
       tell_then first s a.0 t one.more (steps_more k may ms a.0 t a.3 (step_then k s a.0 w m a.2) (drawn ++ one.more) one.has).more (step_tells s a.0 w drawn d m a.2 (each m s a.0 w drawn d a.2))
       (steps_tell each may ms a.0 t a.3 (step_then k s a.0 w m a.2) (drawn ++ one.more) one.has)
+
+  -- So the one history of a session that was played to the end tells the faults between its first state and its last.
+  pub played_tells : ((m : Step) (s t : GlobalState N) (w : ServesAlone k s) (drawn : List Entry) (d : HasDrawn s drawn) (h : IsStep k m s t) → MayTell m (step_more k s t w drawn d m h).more) → (schedule : List Actor) (s t : GlobalState N)
+      → ServesAlone k s → HaveAskedNothing s.clients → IsPlayed k schedule s t (Ok tt) → IsAtRest t.clients t.primary → (history : List Entry) → IsMerged (lists_of t.clients) history → TellFaults first s t history
+  played_tells each schedule s t w nothing p rest history merged =
+      subst (TellFaults first s t) (one_history (lists_of t.clients) (one.more ++ two.more) history (drawn_merged k t (one.more ++ two.more) ended rest.idle two.has) merged)
+      (tell_then first s p.then t one.more two.more (steps_tell each (λ m u. Unit {0}) p.turns.turns s p.then p.turns.steps w [] (none_drawn k s w nothing)) (steps_tell each IsInOrder p.goes.more p.then t steps begun one.more one.has))
+    where
+      steps : AreStepsWhere k IsInOrder p.goes.more p.then t
+      steps = subst (AreStepsWhere k IsInOrder p.goes.more p.then) (sym p.goes.ends) p.goes.steps
+
+      begun : ServesAlone k p.then
+      begun = steps_alone k (λ m u. Unit {0}) p.turns.turns s p.then p.turns.steps w
+
+      ended : ServesAlone k t
+      ended = steps_alone k IsInOrder p.goes.more p.then t steps begun
+
+      one : HasDrawnMore p.then []
+      one = steps_more k (λ m u. Unit {0}) p.turns.turns s p.then p.turns.steps w [] (none_drawn k s w nothing)
+
+      two : HasDrawnMore t one.more
+      two = steps_more k IsInOrder p.goes.more p.then t steps begun one.more one.has

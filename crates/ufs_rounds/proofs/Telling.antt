@@ -1,5 +1,5 @@
 -- What a turn of a session tells of the store's faults, by what its server says of the store's cell.
-use Rattle.std.proofs.Common.{◌≡◌, ◌∙◌, ◌+◌, ◌-◌, ◌^◌, ◌<◌, ◌≤◌, ◌⊎◌, ℕ, inl, inr, Bool, true, false, cond, leb, List, [], ◌∷◌, Option, Some, None, ap, refl, subst, sym, arith}
+use Rattle.std.proofs.Common.{◌≡◌, ◌∙◌, ◌+◌, ◌-◌, ◌^◌, ◌<◌, ◌⊎◌, ℕ, inl, inr, Bool, true, false, cond, leb, List, [], ◌∷◌, Option, Some, None, ap, refl, subst, sym, arith}
 use Rattle.std.proofs.lemmas.Bool.{leb-false, leb-true}
 use Rattle.ufs_base.specs.Faults.{RoseTo}
 use Rattle.ufs_model.specs.declared.data.Excuse.TheVariants as excuse
