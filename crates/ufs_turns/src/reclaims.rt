@@ -15,9 +15,7 @@ use crate::held_store::begin_turn;
 use crate::syncs::{checkpoint_store, told_by};
 use std::marker::Brand;
 use ufs_bitmap::Pool;
-use ufs_joint::{
-    Event, Hand, HandTable, Naming, a_checkpoint_ends, dropped_blocks_come_back,
-};
+use ufs_joint::{Event, Hand, HandTable, Naming, a_checkpoint_ends, dropped_blocks_come_back};
 use ufs_layout::Geometry;
 use ufs_store::{Door, StoreFault};
 
