@@ -4,11 +4,12 @@ mod After
 mod Alone
 mod With
 mod Committed
+mod Reclaimed
 mod Lending
 mod Tried
 mod Lives
 mod Answering
-mod Faultless
+pub mod Faultless
 pub mod SyncedAll
 mod AnsweringAll
 mod Looking

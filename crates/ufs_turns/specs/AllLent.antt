@@ -7,17 +7,15 @@ use Rattle.ufs_joint.specs.Disks.{cell_of, states_behind}
 use Rattle.ufs_joint.specs.NamesHands.{AreNumberedOnce}
 use Rattle.ufs_joint.specs.Turns.{Turn}
 use Rattle.ufs_joint.specs.Whole.{no_blocks}
-use Rattle.ufs_names_commit.specs.Laws.{KeepsItsBlocks}
 use Rattle.ufs_store.specs.State.{StoreState}
 use Rattle.ufs_turns.specs.Told.{told_list}
 
--- The hand has these names and each live file. Nothing of the names is left to commit, and each file keeps the blocks that it has on the
--- disk.
+-- The hand has these names and each live file. Nothing of the names is left to commit, and nothing of a file.
 pub record LendsAll (names : NamesCell) (v : View) : Type 0 where
   pub names_are : v.names ≡ (tt, names) ∷ []
   pub files : AreNumberedOnce v.files
   pub live : (file : ℕ) → IsSome (fin.get names.value.held file) → (c : FileCell) × Has (file, c) v.files
-  pub stands : (file : ℕ) (c : FileCell) → Has (file, c) v.files → KeepsItsBlocks c.value
+  pub committed : (file : ℕ) (c : FileCell) → Has (file, c) v.files → c.value.log.committed ≡ c.value.log.noted
   pub noted : names.value.tree.noted ≡ Some []
   pub fresh : names.fresh ≡ []
 

@@ -4,8 +4,9 @@ use Rattle.std.specs.Ordering.{nat_cmp}
 use Rattle.ufs_bitmap.specs.Blocks.{BlockSet}
 use Rattle.ufs_model.specs.History.{is_excused}
 use Rattle.ufs_held.proofs.Stopping.{read_rests, rests_twice}
+use Rattle.ufs_held_names.proofs.Faultless.{untold_by}
 use Rattle.ufs_serving.proofs.Conserving.{none_lost}
-use Rattle.ufs_at_primary.proofs.NamesTold.{free_still, left_of, untold_by}
+use Rattle.ufs_at_primary.proofs.NamesTold.{free_still, left_of}
 use Rattle.ufs_at_primary.proofs.naming.serve_names.Goals as goal
 
 pub fill-requires : goal.fill-requires
