@@ -1,11 +1,15 @@
 -- A turn in which the blocks come back that the names dropped, or can't.
-use Rattle.std.proofs.Common.{◌≡◌, ◌≤◌, ◌++◌, ℕ, Bool, true, false, cond, None, Option, List, [], ◌∷◌, inl, inr, sym, refl, ap, ◌∙◌, subst, arith}
+use Rattle.std.proofs.Common.{◌≡◌, ◌≤◌, ◌++◌, ◌||◌, ℕ, Bool, true, false, cond, None, Option, List, [], ◌∷◌, inl, inr, sym, refl, ap, ◌∙◌, subst, arith}
 use Rattle.std.specs.Prelude.{IsTrue}
 use Rattle.std.specs.FinSet as set
 use Rattle.ufs_bitmap.specs.Blocks.{BlockSet}
 use Rattle.ufs_bitmap.specs.Space.{Space}
+use Rattle.ufs_bitmap.specs.Taking.{has}
+use Rattle.ufs_bitmap.proofs.TakingLemmas.{has-append}
 use Rattle.ufs_disk.specs.Disk.{IsWhole}
 use Rattle.ufs_disk.specs.Moments.{LeavesOnly, Moments}
+use Rattle.ufs_extent.specs.Runs.{blocks_of}
+use Rattle.ufs_file_commits.specs.State.{DurableState, IsNoted}
 use Rattle.ufs_layout.specs.Areas.{first_of_data}
 use Rattle.ufs_ledger.specs.Ledger.{Ledger}
 use Rattle.ufs_hand_laws.specs.Owned.{Has, each}
@@ -15,6 +19,7 @@ use Rattle.ufs_store.specs.Ledgers.{HasLedger, IsLeftByAny, beginning_next, chec
 use Rattle.ufs_store.specs.Numbers.{HasRaised}
 use Rattle.ufs_store.specs.Refusals.{stop_after}
 use Rattle.ufs_store.specs.State.{StoreState, geometry_of_store}
+use Rattle.ufs_names_commit.specs.Laws.{KeepsItsBlocks}
 use Rattle.ufs_promise_laws.specs.Parts.{TheNames, Unassigned}
 use Rattle.ufs_joint.specs.Cells.{NamesCell, Start, StoreCell, View, store_since}
 use Rattle.ufs_joint.specs.Checkpoints.{CheckpointsGoOn, MakesCheckpoint}
@@ -29,6 +34,7 @@ use Rattle.ufs_turns.specs.Lent.{HasRun, IsBeside}
 use Rattle.ufs_turns.specs.Syncs.{HasMade}
 use Rattle.ufs_turns.specs.Told.{fault_told, told_list}
 use Rattle.ufs_turns.proofs.Emptying as emptying
+use Rattle.ufs_turns.proofs.Syncing.{file_sound}
 use Rattle.ufs_turns.proofs.Turning as turning
 
 -- ---- what the hand knows of the dropped blocks
@@ -64,6 +70,14 @@ ran_on told epochs commits s t z dropped back ran = subst (HasRun told epochs co
   raised = record { epoch = ran.raised.epoch; epoch_most = ran.raised.epoch_most; number = ran.raised.number; number_most = ran.raised.number_most };
 })
 
+-- ---- what is committed keeps its blocks
+
+-- The file has still each block that it has on the disk.
+kept : (f : DurableState) → IsNoted f → f.log.committed ≡ f.log.noted → KeepsItsBlocks f
+kept f noted committed b is =
+    let own : has (blocks_of f.file.extents) b ≡ true = ap (λ runs. has (blocks_of runs) b) (sym noted.runs ∙ sym (ap (λ log. log.runs) committed)) ∙ is in
+    has-append (blocks_of f.file.extents) (blocks_of f.dropped) b ∙ ap (λ (v : Bool). v || has (blocks_of f.dropped) b) own
+
 -- ---- between the marks
 
 module _ (k : Start) (origin : Moments) (visible keeps : Bool) (n : ℕ) (v w : View) (s t : StoreState) (knows : Knows k n v) (home : IsStoreIn k origin visible keeps v s) (begun : w ≡ begun_view v n) where
@@ -92,7 +106,7 @@ module _ (k : Start) (origin : Moments) (visible keeps : Bool) (n : ℕ) (v w : 
       store = refl;
       files = lends.files;
       each = lends.live;
-      stands = lends.stands;
+      stands = λ file c has. kept c.value (file_sound k n v knows file c has (lends.files.number file c has)).noted (lends.committed file c has);
       noted = lends.noted;
       fresh = lends.fresh;
       changed = λ seen. (knows.names_changed seen tt names (here k n v knows names lends), knows.names_known seen tt names (here k n v knows names lends));

@@ -7,7 +7,6 @@ use Rattle.ufs_hand_laws.specs.Owned.{Has}
 use Rattle.ufs_joint.specs.Cells.{FileCell}
 use Rattle.ufs_joint.specs.Disks.{cell_of}
 use Rattle.ufs_joint.specs.NamesHands.{AreNumberedOnce}
-use Rattle.ufs_names_commit.specs.Laws.{KeepsItsBlocks}
 use Rattle.ufs_store.specs.Refusals.{fault_in}
 use Rattle.ufs_store.specs.declared.fault.StoreFault.{StoreFault}
 use Rattle.ufs_turns.specs.Lent.{stop_in}
@@ -45,7 +44,7 @@ reclaim_lent-made-requires-clause-lent g c =
         names_are = c.lend.ensures.names ∙ f.1.names_are;
         files = subst AreNumberedOnce files f.1.files;
         live = subst (λ (cs : List (ℕ × FileCell)). (file : ℕ) → IsSome (fin.get f.0.value.held file) → (x : FileCell) × Has (file, x) cs) files f.1.live;
-        stands = subst (λ (cs : List (ℕ × FileCell)). (file : ℕ) (x : FileCell) → Has (file, x) cs → KeepsItsBlocks x.value) files f.1.stands;
+        committed = subst (λ (cs : List (ℕ × FileCell)). (file : ℕ) (x : FileCell) → Has (file, x) cs → x.value.log.committed ≡ x.value.log.noted) files f.1.committed;
         noted = f.1.noted;
         fresh = f.1.fresh;
       },
