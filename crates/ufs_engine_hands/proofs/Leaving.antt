@@ -12,11 +12,13 @@ use Rattle.ufs_joint.specs.FirstHand.{Beginning, names_first, server_first, star
 use Rattle.ufs_joint.specs.Ready.{IsReady}
 use Rattle.ufs_layout.specs.declared.geometry.Geometry.{Geometry}
 use Rattle.ufs_model.specs.PosixTree.{PosixTree}
+use Rattle.ufs_model.specs.declared.data.Entry.{Entry}
 use Rattle.ufs_model.specs.declared.data.Op.{Op}
 use Rattle.ufs_promise_laws.specs.OnDisk.{IsExplainedBetween, IsExplainedImage}
 use Rattle.ufs_promise_laws.specs.OnDiskLaws.{OnDiskIsExplained, OnDiskIsProper}
 use Rattle.ufs_store.specs.State.{StoreState, geometry_of_store}
 use Rattle.ufs_engine_hands.specs.Played.{IsPlayedOn}
+use Rattle.ufs_engine_hands.specs.declared.playing.PlayFault.{PlayFault}
 use Rattle.ufs_engine_hands.specs.declared.playing.PlayFault.TheVariants as ending
 use Rattle.ufs_engine_hands.proofs.EndLemmas.{never_ended, no_faults, none_played}
 use Rattle.ufs_engine_hands.proofs.StampedLemmas.{none_stamped}
@@ -64,3 +66,12 @@ module _ (k : Start) (b : Beginning) (s : StoreState) (from : k ≡ start_first 
     where
       still : k.is_visible ≡ true → IsExplainedBetween keeps sectors k.tree [] s.moments now
       still sees = subst (λ (x : ℕ × Moments). IsExplainedBetween keeps x.0 k.tree [] s.moments x.1) (λ i. (sym as_large i, sym seen i)) (started keeps (IsExplainedImage s.sectors k.tree []) s.moments (begins sees))
+
+  pub left_on : (keeps : Bool) (scripts : List (List Op)) (why : Lack) (told : List (List Entry)) (bytes : ℕ) (ended : Result (Unit {0}) PlayFault) (sectors faults : ℕ) (now : Moments) → told ≡ [] → bytes ≡ 0 → ended ≡ Err (ending.Lack why) → sectors ≡ s.sectors → now ≡ s.moments
+      → (k.is_visible ≡ true → Leaves (IsExplainedImage s.sectors k.tree []) s.moments.state) → IsPlayedOn k keeps scripts s told bytes ended sectors faults now
+  left_on keeps scripts why told bytes ended sectors faults now none empty lacks as_large seen begins =
+      subst (λ (x : List (List Entry) × ℕ × Result (Unit {0}) PlayFault). IsPlayedOn k keeps scripts s x.0 x.1 x.2 sectors faults now) (λ i. (sym none i, sym empty i, sym lacks i)) (left_so keeps scripts why sectors faults now as_large seen begins)
+
+  -- so it is with a store that is as this one
+  pub ready_there : (t : StoreState) → s ≡ t → (first : Beginning) × (k ≡ start_first first t) × IsReady first t
+  ready_there t same = (b, from ∙ ap (start_first b) same, subst (IsReady b) same ready)

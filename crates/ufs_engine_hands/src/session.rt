@@ -26,7 +26,7 @@ use ufs_dealt::dealt_law;
 use ufs_disk::Disk;
 use ufs_joint::{Begun, Naming};
 use ufs_promise_laws::on_disk_law;
-use ufs_rounds::Session;
+use ufs_rounds::{Session, Unbegun};
 use ufs_store::{Door, Store};
 
 /// Plays what is asked in the session of this name, over the image that was mounted for it: each client in order, client 0 first. Where
@@ -66,7 +66,10 @@ pub(crate) fn play_named<N: Naming, D: Disk, L: Ledger>(
             },
             Err(_unended) => unreachable!(),
         },
-        Err(unbegun) => leave::<N, D>(alloc, unbegun.ready, unbegun.memory),
+        Err(unbegun) => {
+            let Unbegun { ready, memory } = unbegun;
+            leave::<N, D>(alloc, ready, memory)
+        }
     }
 }
 
