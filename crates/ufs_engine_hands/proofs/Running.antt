@@ -1,5 +1,5 @@
 -- What turns without a schedule and a worker come to.
-use Rattle.std.proofs.Common.{◌≡◌, ◌∙◌, ◌+◌, ◌<◌, ◌≤◌, ℕ, Bool, true, List, [], ◌∷◌, length, Option, None, Some, Result, Ok, Err, ap, sym, subst, arith}
+use Rattle.std.proofs.Common.{◌≡◌, ◌∙◌, ◌+◌, ◌<◌, ◌≤◌, ℕ, Bool, true, List, [], ◌∷◌, length, Option, None, Some, Result, Ok, Err, ap, sym, subst, true≢false, arith}
 use Rattle.std.specs.Prelude.{IfSome, IsSome, OnOk}
 use Rattle.ufs_base.specs.Images.{Image}
 use Rattle.ufs_brink.specs.Numbers.{ClosesFrom}
@@ -56,7 +56,7 @@ closes_so k b s from ready cells now (Err fault) is = tt
 
 -- where the files were counted
 pub some_of : (bytes : Option ℕ) (total : ℕ) → IsSome bytes → IfSome bytes (λ n. total ≡ n) → bytes ≡ Some total
-some_of None total is same = absurd is
+some_of None total is same = absurd (true≢false (sym is))
 some_of (Some n) total is same = λ i. Some (sym same i)
 
 -- a session has a client

@@ -143,8 +143,8 @@ returns-in-Ok-clause-why g c may fault ends = absurd (c.play_named.ensures.begun
 
 -- ---- nothing was
 
-pub returns-in-Err-clause-legal : goal.returns-in-Err-clause-legal
-returns-in-Err-clause-legal g c =
+pub returns-clause-legal : goal.returns-clause-legal
+returns-clause-legal g c =
     let clients = c.args.script.clients in
     let ended = not_served c.unbegun_end.result c.in-Err.unbegun.fault c.unbegun_end.ensures.which in (
       root_alone,
@@ -154,43 +154,36 @@ returns-in-Err-clause-legal g c =
       (λ ok. absurd (never_ended _ (sym ended ∙ ok))),
     )
 
-pub returns-in-Err-clause-sized : goal.returns-in-Err-clause-sized
-returns-in-Err-clause-sized g c may start begins ok =
-    absurd (never_ended _ (sym (not_served c.unbegun_end.result c.in-Err.unbegun.fault c.unbegun_end.ensures.which) ∙ ok))
+pub returns-clause-once : goal.returns-clause-once
+returns-clause-once g c = subst (λ (told : List (List Entry)). AreTicketsOnce (joined told)) (sym (c.from_vec.ensures ∙ c.new.ensures.items)) (once_rising [] tt)
 
-pub returns-in-Err-clause-once : goal.returns-in-Err-clause-once
-returns-in-Err-clause-once g c = subst (λ (told : List (List Entry)). AreTicketsOnce (joined told)) (sym (c.from_vec.ensures ∙ c.new.ensures.items)) (once_rising [] tt)
-
-pub returns-in-Err-clause-unserved : goal.returns-in-Err-clause-unserved
-returns-in-Err-clause-unserved g c visible refusal none = c.from_vec.ensures ∙ c.new.ensures.items
-
-pub returns-in-Err-clause-faults : goal.returns-in-Err-clause-faults
-returns-in-Err-clause-faults g c =
+pub returns-clause-faults : goal.returns-clause-faults
+returns-clause-faults g c =
     let before = g.D.Disk.faults c.args.disk in
     let now = g.D.Disk.faults c.in-Err.unbegun.disk in
     subst (λ (told : List (List Entry)). AreFaultsOf before now (joined told)) (sym (c.from_vec.ensures ∙ c.new.ensures.items)) (no_faults before now)
 
-pub returns-in-Err-clause-opened : goal.returns-in-Err-clause-opened
-returns-in-Err-clause-opened g c may = c.begin.ensures.opened may.is_visible may.proper
+pub returns-clause-opened : goal.returns-clause-opened
+returns-clause-opened g c may = c.begin.ensures.opened may.is_visible may.proper
 
-pub returns-in-Err-clause-crash : goal.returns-in-Err-clause-crash
-returns-in-Err-clause-crash g c may start begins =
+pub returns-clause-crash : goal.returns-clause-crash
+returns-clause-crash g c may start begins =
     let left = (g.D.Disk.moments c.in-Err.unbegun.disk).state in
     subst (λ (told : List (List Entry)). Leaves (OpensExplained (g.D.Disk.size c.args.disk) start (joined told)) left) (sym (c.from_vec.ensures ∙ c.new.ensures.items))
     (λ image is. ((c.in-Err.ensures.err_moments may.is_visible may.proper start begins).after image is).explained)
 
-pub returns-in-Err-clause-proper : goal.returns-in-Err-clause-proper
-returns-in-Err-clause-proper g c may image is =
+pub returns-clause-proper : goal.returns-clause-proper
+returns-clause-proper g c may image is =
     let from = c.begin.ensures.opened may.is_visible may.proper in
     ((c.in-Err.ensures.err_moments may.is_visible may.proper from.0 from.1).after image is).proper
 
-pub returns-in-Err-clause-moments : goal.returns-in-Err-clause-moments
-returns-in-Err-clause-moments g c may start begins =
+pub returns-clause-moments : goal.returns-clause-moments
+returns-clause-moments g c may start begins =
     subst (λ (told : List (List Entry)). IsExplainedThroughout g.D.Disk.keeps (g.D.Disk.size c.args.disk) start [] (joined told) (g.D.Disk.moments c.args.disk) (g.D.Disk.moments c.in-Err.unbegun.disk))
     (sym (c.from_vec.ensures ∙ c.new.ensures.items)) (c.in-Err.ensures.err_moments may.is_visible may.proper start begins)
 
-pub returns-in-Err-clause-stamped : goal.returns-in-Err-clause-stamped
-returns-in-Err-clause-stamped g c kept may start begins =
+pub returns-clause-stamped : goal.returns-clause-stamped
+returns-clause-stamped g c kept may start begins =
     let size = g.D.Disk.size c.args.disk in
     let old = g.D.Disk.moments c.args.disk in
     let new = g.D.Disk.moments c.in-Err.unbegun.disk in

@@ -1,4 +1,4 @@
-use Rattle.std.proofs.Common.{◌≡◌, ◌∙◌, ◌<◌, ℕ, List, length, Result, refl, sym, subst}
+use Rattle.std.proofs.Common.{◌≡◌, ◌∙◌, ◌<◌, ℕ, List, [], length, Result, refl, sym, subst}
 use Rattle.std.specs.Prelude.{true}
 use Rattle.ufs_brink.specs.declared.closing.CloseFault.{CloseFault}
 use Rattle.ufs_disk.specs.Disk.{Leaves}
@@ -68,7 +68,7 @@ module _ (g : Over) (c : After-whole_end g) where
   alone = no_worker k b opened from c.requires.mounted.1.workers_are
 
   begins : k.is_visible ≡ true → Leaves (IsExplainedImage opened.sectors k.tree []) opened.moments.state
-  begins = begins_so k b opened from is_ready c.geometry.result c.geometry.ensures.is c.on_disk_law.ensures.explained c.on_disk_law.ensures.proper
+  begins = begins_so k b opened from is_ready c.geometry-geometry.result c.geometry-geometry.ensures.is c.on_disk_law.ensures.explained c.on_disk_law.ensures.proper
 
   abbrev lists : List (List Entry)
   lists = lists_in c.in-Ok-play.played.told.items
@@ -133,4 +133,4 @@ returns-in-Err-clause-played g c scripts asked =
     let left = c.leave.result in
     left_on k m.0 opened m.1.start m.1.ready g.D.Disk.keeps scripts _ left.told left.bytes left.ended (g.D.Disk.size left.disk) (g.D.Disk.faults left.disk) (g.D.Disk.moments left.disk) l.told l.bytes l.ended
     (l.left.sectors ∙ (λ i. g.D.Disk.size (c.in-Err.ensures.back i).store.disk)) (l.left.seen ∙ (λ i. g.D.Disk.moments (c.in-Err.ensures.back i).store.disk))
-    (begins_so k m.0 opened m.1.start m.1.ready c.geometry.result c.geometry.ensures.is c.on_disk_law.ensures.explained c.on_disk_law.ensures.proper)
+    (begins_so k m.0 opened m.1.start m.1.ready c.geometry-geometry.result c.geometry-geometry.ensures.is c.on_disk_law.ensures.explained c.on_disk_law.ensures.proper)
