@@ -149,19 +149,19 @@ returns-clause-legal g c =
     let ended = not_served c.unbegun_end.result c.in-Err.unbegun.fault c.unbegun_end.ensures.which in (
       root_alone,
       (λ client fd. get-empty fd_cmp (client, fd)),
-      subst (λ (told : List (List Entry)). IsPlayedFrom root_alone clients told (served_end (Err c.unbegun_end.result)) (joined told)) (sym (c.from_vec.ensures ∙ c.new.ensures.items))
+      subst (λ (told : List (List Entry)). IsPlayedFrom root_alone clients told (served_end (Err c.unbegun_end.result)) (joined told)) (sym (c.from_vec.ensures ∙ c.new-in-Err.ensures.items))
           (subst (λ (r : Result (Unit {0}) EndFault). IsPlayedFrom root_alone clients [] r []) (sym ended) (none_played root_alone clients)),
       (λ ok. absurd (never_ended _ (sym ended ∙ ok))),
     )
 
 pub returns-clause-once : goal.returns-clause-once
-returns-clause-once g c = subst (λ (told : List (List Entry)). AreTicketsOnce (joined told)) (sym (c.from_vec.ensures ∙ c.new.ensures.items)) (once_rising [] tt)
+returns-clause-once g c = subst (λ (told : List (List Entry)). AreTicketsOnce (joined told)) (sym (c.from_vec.ensures ∙ c.new-in-Err.ensures.items)) (once_rising [] tt)
 
 pub returns-clause-faults : goal.returns-clause-faults
 returns-clause-faults g c =
     let before = g.D.Disk.faults c.args.disk in
     let now = g.D.Disk.faults c.in-Err.unbegun.disk in
-    subst (λ (told : List (List Entry)). AreFaultsOf before now (joined told)) (sym (c.from_vec.ensures ∙ c.new.ensures.items)) (no_faults before now)
+    subst (λ (told : List (List Entry)). AreFaultsOf before now (joined told)) (sym (c.from_vec.ensures ∙ c.new-in-Err.ensures.items)) (no_faults before now)
 
 pub returns-clause-opened : goal.returns-clause-opened
 returns-clause-opened g c may = c.begin.ensures.opened may.is_visible may.proper
@@ -169,7 +169,7 @@ returns-clause-opened g c may = c.begin.ensures.opened may.is_visible may.proper
 pub returns-clause-crash : goal.returns-clause-crash
 returns-clause-crash g c may start begins =
     let left = (g.D.Disk.moments c.in-Err.unbegun.disk).state in
-    subst (λ (told : List (List Entry)). Leaves (OpensExplained (g.D.Disk.size c.args.disk) start (joined told)) left) (sym (c.from_vec.ensures ∙ c.new.ensures.items))
+    subst (λ (told : List (List Entry)). Leaves (OpensExplained (g.D.Disk.size c.args.disk) start (joined told)) left) (sym (c.from_vec.ensures ∙ c.new-in-Err.ensures.items))
     (λ image is. ((c.in-Err.ensures.err_moments may.is_visible may.proper start begins).after image is).explained)
 
 pub returns-clause-proper : goal.returns-clause-proper
@@ -180,7 +180,7 @@ returns-clause-proper g c may image is =
 pub returns-clause-moments : goal.returns-clause-moments
 returns-clause-moments g c may start begins =
     subst (λ (told : List (List Entry)). IsExplainedThroughout g.D.Disk.keeps (g.D.Disk.size c.args.disk) start [] (joined told) (g.D.Disk.moments c.args.disk) (g.D.Disk.moments c.in-Err.unbegun.disk))
-    (sym (c.from_vec.ensures ∙ c.new.ensures.items)) (c.in-Err.ensures.err_moments may.is_visible may.proper start begins)
+    (sym (c.from_vec.ensures ∙ c.new-in-Err.ensures.items)) (c.in-Err.ensures.err_moments may.is_visible may.proper start begins)
 
 pub returns-clause-stamped : goal.returns-clause-stamped
 returns-clause-stamped g c kept may start begins =
@@ -188,4 +188,4 @@ returns-clause-stamped g c kept may start begins =
     let old = g.D.Disk.moments c.args.disk in
     let new = g.D.Disk.moments c.in-Err.unbegun.disk in
     subst (λ (told : List (List Entry)). IsStampedThroughout g.D.Disk.keeps size start (joined told) old new)
-    (sym (c.from_vec.ensures ∙ c.new.ensures.items)) (none_stamped g.D.Disk.keeps size start old new (c.in-Err.ensures.err_moments may.is_visible may.proper start begins))
+    (sym (c.from_vec.ensures ∙ c.new-in-Err.ensures.items)) (none_stamped g.D.Disk.keeps size start old new (c.in-Err.ensures.err_moments may.is_visible may.proper start begins))
