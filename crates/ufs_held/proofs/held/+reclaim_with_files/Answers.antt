@@ -47,11 +47,16 @@ reclaim_with_files-made-requires g t c κs within =
     let joined_is = c.join.ensures ∙ ap (both_of v) (c.split-lent.ensures.given ∙ ap (λ (m : ℕ). given_of (File m) own) c.file-number.ensures) in (
       search rules,
       (
-        within,
+        within.0,
         (
-          subst (λ (j : View). AreApartFrom j rest) (sym joined_is) (apart_then own v x held first rest is apart),
-          λ w too. c.requires.lent w (subst (λ (cs : List FileCell). HasThemToo cs v w) (sym cases.0) (them_too own v x held first rest is apart w (subst (λ (j : View). HasThemToo rest j w) joined_is too))),
-          ap (λ (q : View). q.store) joined_is ∙ joined_store own v x held first rest is apart ∙ c.requires.away,
+          within.1,
+          (
+            subst (λ (j : View). AreApartFrom j rest) (sym joined_is) (apart_then own v x held first rest is apart),
+            (
+              λ w too. c.requires.lent w (subst (λ (cs : List FileCell). HasThemToo cs v w) (sym cases.0) (them_too own v x held first rest is apart w (subst (λ (j : View). HasThemToo rest j w) joined_is too))),
+              ap (λ (q : View). q.store) joined_is ∙ joined_store own v x held first rest is apart ∙ c.requires.away,
+            ),
+          ),
         ),
       ),
     )
