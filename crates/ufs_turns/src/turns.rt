@@ -171,9 +171,9 @@ pub trait Turns<N: Naming> {
         ensures stopped { TellsWhere (tells self.new) result }
         ensures refused { IfErr result (λ fault. is_no_space fault ≡ false) };
 
-    /// Makes a checkpoint by a hand with the names and each live file, where nothing of the names is left to commit and each file keeps the
-    /// blocks that it has on the disk: what directories and removed files dropped is unassigned behind it. Where it fails all stays, and the
-    /// hand was told the fault, or that the store has stopped.
+    /// Makes a checkpoint by a hand with the names and each live file, where nothing of the names and of the files is left to commit: what
+    /// directories and removed files dropped is unassigned behind it. Where it fails all stays, and the hand was told the fault, or that the
+    /// store has stopped.
     fn reclaim(&mut self, hand: &mut Hand<N>, dropped: &mut Pool) -> Result<(), StoreFault>
         requires lent { (names : NamesCell) × LendsAll names hand.old × (names.dropped ≡ dropped.old) }
         requires away { hand.old.store ≡ [] }
