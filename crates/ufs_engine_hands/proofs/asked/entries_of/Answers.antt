@@ -1,4 +1,4 @@
-use Rattle.std.proofs.Common.{◌++◌, ◌∷◌, List, length, ap, sym, ◌∙◌, arith}
+use Rattle.std.proofs.Common.{◌++◌, List, length, ap, sym, ◌∙◌, arith}
 use Rattle.std.proofs.lemmas.List.{append-nil}
 use Rattle.ufs_caller.specs.Callers.{entries_in}
 use Rattle.ufs_caller.specs.declared.told.Told.{Told}
