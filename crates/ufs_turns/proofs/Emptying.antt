@@ -5,7 +5,7 @@ use Rattle.ufs_bitmap.specs.Space.{Space}
 use Rattle.ufs_disk.specs.Disk.{IsWhole}
 use Rattle.ufs_disk.specs.Moments.{LeavesOnly, Moments}
 use Rattle.ufs_ledger.specs.Ledger.{Ledger}
-use Rattle.ufs_hand_laws.specs.Parts.{Cells, Stretch}
+use Rattle.ufs_hand_laws.specs.Parts.{Cells}
 use Rattle.ufs_store.specs.Ledgers.{HasLedger, IsLeftByAny, beginning_next}
 use Rattle.ufs_store.specs.Refusals.{stop_after}
 use Rattle.ufs_store.specs.State.{StoreState, geometry_of_store}

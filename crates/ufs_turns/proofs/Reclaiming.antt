@@ -16,7 +16,6 @@ use Rattle.ufs_hand_laws.specs.Owned.{Has, each}
 use Rattle.ufs_hand_laws.specs.Parts.{Cells, Stretch}
 use Rattle.ufs_store.specs.Blocks.{AreApart, AreInside}
 use Rattle.ufs_store.specs.Ledgers.{HasLedger, IsLeftByAny, beginning_next, checkpointed}
-use Rattle.ufs_store.specs.Numbers.{HasRaised}
 use Rattle.ufs_store.specs.Refusals.{stop_after}
 use Rattle.ufs_store.specs.State.{StoreState, geometry_of_store}
 use Rattle.ufs_names_commit.specs.Laws.{KeepsItsBlocks}
