@@ -148,9 +148,14 @@ module _ (visible : Bool) where
 
   -- before the rest was done
   pub pool_then : (had mid has : Option View) (s m t : StockState) → m ≡ record s { pool = m.pool } → is_some mid ≡ is_some had → Rests had mid None → IsTidied 0 visible mid has m t → IsTidied 0 visible had has s t
-  pool_then had mid has s m t rest telling rests tidied =
-      let d = subst (λ (x : StockState). IsTidied 0 visible mid has x t) rest tidied in
-      record {
+  pool_then had mid has s m t rest telling rests tidied = go (subst (λ (x : StockState). IsTidied 0 visible mid has x t) rest tidied)
+    where
+      by : (most : ℕ) → ((t.home ≡ s.home) × (most ≤ 0)) ⊎ ((a : AreTidiedFiles visible (record s { pool = m.pool }) t) × (most ≤ 0 + 2 + length a.olds)) → ((t.home ≡ s.home) × (most ≤ 0)) ⊎ ((a : AreTidiedFiles visible s t) × (most ≤ 0 + 2 + length a.olds))
+      by most (inl x) = inl x
+      by most (inr x) = (let a = x.0 in inr (record { olds = a.olds; nows = a.nows; lent = a.lent; here = a.here; all = a.all; done = a.done; synced = a.synced; numbers = a.numbers; home = a.home }, x.1))
+
+      go : IsTidied 0 visible mid has (record s { pool = m.pool }) t → IsTidied 0 visible had has s t
+      go d = record {
         names = d.names;
         most = d.most;
         files = by d.most d.files;
@@ -159,25 +164,11 @@ module _ (visible : Bool) where
         stop = stops_twice had mid has d.fault telling rests.0 d.stop;
         ran = runs_twice had mid has d.fault 0 0 d.most d.most telling rests.1 d.ran;
       }
-    where
-      by : (most : ℕ) → ((t.home ≡ s.home) × (most ≤ 0)) ⊎ ((a : AreTidiedFiles visible (record s { pool = m.pool }) t) × (most ≤ 0 + 2 + length a.olds)) → ((t.home ≡ s.home) × (most ≤ 0)) ⊎ ((a : AreTidiedFiles visible s t) × (most ≤ 0 + 2 + length a.olds))
-      by most (inl x) = inl x
-      by most (inr x) = (let a = x.0 in inr (record { olds = a.olds; nows = a.nows; lent = a.lent; here = a.here; all = a.all; done = a.done; synced = a.synced; numbers = a.numbers; home = a.home }, x.1))
 
   -- the names were committed before the rest was done, or needn't be
   pub names_then : (had mid has : Option View) (s m t : StockState) → m ≡ record s { names = m.names } → (m.names ≡ s.names) ⊎ AreCommitted visible s.names m.names → is_some mid ≡ is_some had → StopsByFault had mid None → Runs had mid None 1 1 → IsTidied 0 visible mid has m t
       → IsTidied 1 visible had has s t
-  names_then had mid has s m t rest done telling stop ran tidied =
-      let d = subst (λ (x : StockState). IsTidied 0 visible mid has x t) rest tidied in
-      record {
-        names = tidied_behind visible s.names m.names t.names done d.names;
-        most = 1 + d.most;
-        files = by d.most d.files;
-        telling = d.telling ∙ telling;
-        fault = d.fault;
-        stop = stops_twice had mid has d.fault telling stop d.stop;
-        ran = runs_twice had mid has d.fault 1 1 d.most d.most telling ran d.ran;
-      }
+  names_then had mid has s m t rest done telling stop ran tidied = go (subst (λ (x : StockState). IsTidied 0 visible mid has x t) rest tidied)
     where
       same : (m.names ≡ s.names) ⊎ AreCommitted visible s.names m.names → AreSameLive s.names m.names
       same (inl e) = same_names s.names m.names e
@@ -190,6 +181,17 @@ module _ (visible : Bool) where
           let l = x.1 in
           inr
           (record { olds = a.olds; nows = a.nows; lent = a.lent; here = a.here; all = live_still s.names.value m.names.value a.olds (same done) a.all; done = a.done; synced = a.synced; numbers = a.numbers; home = a.home }, omega (arith, l))
+
+      go : IsTidied 0 visible mid has (record s { names = m.names }) t → IsTidied 1 visible had has s t
+      go d = record {
+        names = tidied_behind visible s.names m.names t.names done d.names;
+        most = 1 + d.most;
+        files = by d.most d.files;
+        telling = d.telling ∙ telling;
+        fault = d.fault;
+        stop = stops_twice had mid has d.fault telling stop d.stop;
+        ran = runs_twice had mid has d.fault 1 1 d.most d.most telling ran d.ran;
+      }
 
   -- their commit failed
   pub names_failed : (had has : Option View) (s t : StockState) (fault : Option ℕ) → t ≡ s → is_some has ≡ is_some had → StopsByFault had has fault → Runs had has fault 1 1 → IsTidied 1 visible had has s t

@@ -51,6 +51,12 @@ pub invariant_of-self : goal.invariant_of-self
 invariant_of-self g c =
     let h = c.self.invariant in
     let f = c.self.inside in
+    record { formed = h.formed; its = h.its; numbers = h.numbers; hand = h.hand; few = h.few; here = subst (λ (n : NamesCell). AreHere n f.home) (sym c.is_crowded.ensures.same) h.here }
+
+pub invariant_of-self-2 : goal.invariant_of-self-2
+invariant_of-self-2 g c =
+    let h = c.self.invariant in
+    let f = c.self.inside in
     record {
       formed = h.formed;
       its = h.its;
