@@ -1,8 +1,7 @@
 -- The names' cell goes to the hand that comes for a checkpoint, with the files' own, and back.
-use Rattle.std.proofs.Common.{◌≡◌, ℕ, ◌+◌, ◌≤◌, ◌++◌, eqb, List, [], ◌∷◌, Some, inl, inr, sym, refl, ap, ◌∙◌, subst}
-use Rattle.std.specs.Prelude.{IsSome, OnErr, OnOk, Result, Ok, Err}
+use Rattle.std.proofs.Common.{◌≡◌, ℕ, ◌+◌, ◌≤◌, ◌++◌, eqb, List, [], ◌∷◌, inl, inr, sym, refl, ap, ◌∙◌, subst}
+use Rattle.std.specs.Prelude.{OnErr, OnOk, Result, Ok, Err}
 use Rattle.std.proofs.lemmas.List.{append-nil}
-use Rattle.std.specs.FinMap as fin
 use Rattle.ufs_bitmap.specs.Blocks.{BlockSet}
 use Rattle.ufs_hand_laws.specs.Owned.{Has, count}
 use Rattle.ufs_held.specs.Together.{AreApartFrom, HasThemToo, under_numbers}

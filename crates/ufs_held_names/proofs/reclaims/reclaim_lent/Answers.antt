@@ -1,9 +1,9 @@
-use Rattle.std.proofs.Common.{◌≡◌, ◌++◌, [], ◌∷◌, ℕ, List, ap, sym, subst, ◌∙◌}
+use Rattle.std.proofs.Common.{◌≡◌, ◌++◌, [], ℕ, List, ap, sym, subst, ◌∙◌}
 use Rattle.std.proofs.lemmas.List.{append-nil}
 use Rattle.std.specs.FinSet as set
 use Rattle.ufs_bitmap.specs.Blocks.{BlockSet}
 use Rattle.ufs_held.specs.Together.{AreApartFrom}
-use Rattle.ufs_joint.specs.Cells.{NamesCell, View, both_of, given_of, kept_of}
+use Rattle.ufs_joint.specs.Cells.{NamesCell, View, both_of, kept_of}
 use Rattle.ufs_model.specs.declared.data.PartName.TheVariants.{Names}
 use Rattle.ufs_store.specs.Refusals.{fault_in}
 use Rattle.ufs_turns.specs.Lent.{AreTold, IsBare, IsBeside}
