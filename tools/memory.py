@@ -46,6 +46,7 @@ MAY = {
     "ufs_names/src/noting.rt": {".take_notes": 1},
     "ufs_server/src/room.rt": {".take_notes": 1},
     "ufs_server/src/syncing.rt": {".take_notes": 1},
+    "ufs_noted/src/room.rt": {".take_notes": 1},
     "ufs_turns/src/commits.rt": {".take_notes": 1},
     # what a disk has that doesn't give back what it was given, and what no caller asks for
     "ufs_brink/src/closing.rt": {"Lack::Unsound": 1},

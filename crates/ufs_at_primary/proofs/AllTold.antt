@@ -53,7 +53,7 @@ kept_number : (was now : FileCell) → IsFileKept was now → now.value.file.fil
 kept_number was now (inl is) = ap (λ (c : FileCell). c.value.file.file) is
 kept_number was now (inr is) = ap (λ (c : FileCell). c.value.file.file) is
 
-synced_numbers : (visible : Bool) (olds nows : List FileCell) (k : ℕ) → AreSynced visible olds nows k → numbers_in nows ≡ numbers_in olds
+pub synced_numbers : (visible : Bool) (olds nows : List FileCell) (k : ℕ) → AreSynced visible olds nows k → numbers_in nows ≡ numbers_in olds
 synced_numbers visible [] [] k is = refl
 synced_numbers visible [] (now ∷ nows) k is = absurd is
 synced_numbers visible (was ∷ olds) [] k is = absurd is

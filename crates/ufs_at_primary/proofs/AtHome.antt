@@ -1,5 +1,5 @@
 -- Each live file that the table has at the primary is here, still.
-use Rattle.std.proofs.Common.{◌≡◌, ◌≢◌, ℕ, zero, suc, ◌⊎◌, inl, inr, Bool, true, false, cond, List, [], ◌∷◌, Option, Some, None, is_some, Result, Ok, Err, OnOk, OnErr, refl, ap, sym, ◌∙◌, subst}
+use Rattle.std.proofs.Common.{◌≡◌, ◌≢◌, ◌≤◌, ◌+◌, ℕ, zero, suc, ◌⊎◌, inl, inr, Bool, true, false, cond, List, [], ◌∷◌, Option, Some, None, is_some, length, Result, Ok, Err, OnOk, OnErr, refl, ap, sym, ◌∙◌, subst}
 use Rattle.std.specs.Prelude.{IfOk, IfSome, IsSome}
 use Rattle.std.specs.Cmp.{nat_cmp_total}
 use Rattle.std.specs.FinMap as fin
@@ -9,6 +9,7 @@ use Rattle.ufs_held.specs.Asking.{IsSyncReply}
 use Rattle.ufs_held_names.specs.Asked.{number_of}
 use Rattle.ufs_held_names.specs.Come.{IsNewborn, IsStillThere}
 use Rattle.ufs_held_names.specs.HeldNames.{AreCommitted}
+use Rattle.ufs_held_names.specs.Reclaims.{IsReclaimed}
 use Rattle.ufs_held_names.specs.SyncAll.{StopsShort, AtNames, AtFile}
 use Rattle.ufs_home.specs.Home.{HomeState, called_by, called_back, called_for, come_home, come_on, sent}
 use Rattle.ufs_home.specs.Lending.{put_all}
@@ -29,6 +30,7 @@ use Rattle.ufs_model.specs.declared.data.Reply.{Reply}
 use Rattle.ufs_model.specs.declared.data.Reply.TheVariants as reply
 use Rattle.ufs_msg.specs.Answers.{Told}
 use Rattle.ufs_msg.specs.Requests.{Asked}
+use Rattle.ufs_msg.specs.declared.answer.Answer.{Answer}
 use Rattle.ufs_names.specs.NamesPart.{Holdings}
 use Rattle.ufs_owner.proofs.OwnerFacts.{has_owner, other_stays, waiting_keeps_owner}
 use Rattle.ufs_owner.specs.Owners.{Files, arrived, is_going, owner_at, recalled, standing_at, with_owner, with_waiting}
@@ -42,12 +44,11 @@ use Rattle.ufs_at_primary.specs.Here.{IsDoneHere}
 use Rattle.ufs_at_primary.specs.Named.{IsDoneByNames}
 use Rattle.ufs_at_primary.specs.Noted.{unwaited, waited_for}
 use Rattle.ufs_at_primary.specs.Orders.{IsFileOrdered, IsNoFile, IsObeyed, IsReadied}
+use Rattle.ufs_at_primary.specs.Room.{AreTidied, AreTidiedFiles, IsTidied}
 use Rattle.ufs_at_primary.specs.Stock.{AreHere, StockState}
-use Rattle.ufs_at_primary.specs.Served.{All, ByNames, IsServed, IsTried, Lacked, OnFile, OnNone, back_in, emptied, lent_with, made_in, places_then}
+use Rattle.ufs_at_primary.specs.Served.{All, ByNames, IsAnsweredHere, IsServed, Lacked, OnFile, OnNone, back_in, emptied, lent_with, made_in, places_then}
 use Rattle.ufs_at_primary.specs.declared.ordered.Ordered.{Ordered}
 use Rattle.ufs_at_primary.specs.declared.ordered.Ordered.TheVariants as ordered
-use Rattle.ufs_at_primary.specs.declared.tried.Tried.{Tried}
-use Rattle.ufs_at_primary.specs.declared.tried.Tried.TheVariants as tried
 
 -- ---- owners
 
@@ -162,16 +163,16 @@ here_came names h g c (Err e) came same here = subst (AreHere names) (sym same) 
 
 -- ---- as requests are served
 
-abbrev AreSameLive : NamesCell → NamesCell → Type 0
+abbrev pub AreSameLive : NamesCell → NamesCell → Type 0
 AreSameLive old new = new.value.held ≡ old.value.held
 
-here_names : (h : HomeState) (old new : NamesCell) → AreSameLive old new → AreHere old h → AreHere new h
+pub here_names : (h : HomeState) (old new : NamesCell) → AreSameLive old new → AreHere old h → AreHere new h
 here_names h old new same here f live at = here f (subst (λ (m : Holdings). IsSome (fin.get m f)) same live) at
 
-same_names : (old new : NamesCell) → new ≡ old → AreSameLive old new
+pub same_names : (old new : NamesCell) → new ≡ old → AreSameLive old new
 same_names old new is = ap (λ (c : NamesCell). c.value.held) is
 
-committed_live : (visible : Bool) (old new : NamesCell) → AreCommitted visible old new → AreSameLive old new
+pub committed_live : (visible : Bool) (old new : NamesCell) → AreCommitted visible old new → AreSameLive old new
 committed_live visible old new k = ap (λ (c : NamesCell). c.value.held) k.is
 
 -- what is so of a `sync` that is done, and of one that is excused
@@ -347,10 +348,42 @@ module _ (visible : Bool) (before after : Option View) (s t : StockState) (here 
       (subst (λ (p : Places). IsSome (file_here p f)) (sym x.here.back) (here_names s.home s.names t.names same here f live at)))
   here_served ask told (Lacked x) = here_of s t x.rest here
 
-  pub here_tried : {N : Type 0} (r : Asked) (x : Tried N) → IsTried visible before after s t r x → AreHere t.names t.home
-  here_tried r (tried.Answered a) is = here_served r.ask is.0 is.2
-  here_tried r (tried.Redirected a file) is = here_of s t is.1 here
-  here_tried r (tried.Away q file) is = here_of s t is.2 here
+  pub here_answered : {N : Type 0} (r : Asked) (a : Answer N) → IsAnsweredHere visible before after s t r a → AreHere t.names t.home
+  here_answered r a is = here_served r.ask is.0 is.2
+
+-- ---- as room is made
+
+pub tidied_live : (visible : Bool) (old new : NamesCell) → AreTidied visible old new → AreSameLive old new
+tidied_live visible old new t = back t.back ∙ committed t.committed
+  where
+    back : (new ≡ t.between) ⊎ IsReclaimed t.between new → new.value.held ≡ t.between.value.held
+    back (inl e) = ap (λ (c : NamesCell). c.value.held) e
+    back (inr e) = ap (λ (c : NamesCell). c.value.held) e
+
+    committed : (t.between ≡ old) ⊎ AreCommitted visible old t.between → t.between.value.held ≡ old.value.held
+    committed (inl e) = ap (λ (c : NamesCell). c.value.held) e
+    committed (inr e) = committed_live visible old t.between e
+
+module _ (base : ℕ) (visible : Bool) (before after : Option View) (s t : StockState) (is : IsTidied base visible before after s t) where
+  -- a file that was here is here
+  pub still_tidied : (f : ℕ) → IsSome (file_here s.home.places f) → IsSome (file_here t.home.places f)
+  still_tidied f here = by is.files
+    where
+      by : ((t.home ≡ s.home) × (is.most ≤ base)) ⊎ ((a : AreTidiedFiles visible s t) × (is.most ≤ base + 2 + length a.olds)) → IsSome (file_here t.home.places f)
+      by (inl x) = subst (λ (h : HomeState). IsSome (file_here h.places f)) (sym x.0) here
+      by (inr x) =
+          let a = x.0 in
+          subst (λ (h : HomeState). IsSome (file_here h.places f)) (sym a.home) (alike_put f a.olds a.nows a.lent a.lent a.numbers (λ at. at) (subst (λ (p : Places). IsSome (file_here p f)) (sym a.here.back) here))
+
+  pub owners_tidied : t.home.owners ≡ s.home.owners
+  owners_tidied = by is.files
+    where
+      by : ((t.home ≡ s.home) × (is.most ≤ base)) ⊎ ((a : AreTidiedFiles visible s t) × (is.most ≤ base + 2 + length a.olds)) → t.home.owners ≡ s.home.owners
+      by (inl x) = ap (λ (h : HomeState). h.owners) x.0
+      by (inr x) = (let a = x.0 in ap (λ (h : HomeState). h.owners) a.home)
+
+  pub here_tidied : AreHere s.names s.home → AreHere t.names t.home
+  here_tidied here f live at = still_tidied f (here_names s.home s.names t.names (tidied_live visible s.names t.names is.names) here f live (sym (ap (λ (o : Files). owner_at o f) owners_tidied) ∙ at))
 
 -- ---- an order
 

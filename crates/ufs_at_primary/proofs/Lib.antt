@@ -4,7 +4,8 @@ mod DirsTold
 mod AllTold
 mod SyncedHere
 mod Beside
-mod AtHome
+pub mod AtHome
+pub mod Rooms
 mod Trials
 mod Outcomes
 mod Births

@@ -5,9 +5,6 @@ use Rattle.std.specs.FinMap as fin
 use Rattle.std.specs.FinSet as set
 use Rattle.ufs_bitmap.specs.Blocks.{BlockSet}
 use Rattle.ufs_file.specs.Hand.{IsEntryOf}
-use Rattle.ufs_client.specs.Played.{tells_fault}
-use Rattle.ufs_held.specs.Stopping.{fault_by}
-use Rattle.ufs_held.proofs.Stopping.{no_fault}
 use Rattle.ufs_held_names.specs.Asked.{IsNamedApart}
 use Rattle.ufs_held_names.specs.Asking.{AsksNames, IsAnsweredNames}
 use Rattle.ufs_held_names.proofs.Untold.{named_none}
@@ -35,14 +32,6 @@ use Rattle.ufs_hand_laws.specs.Parts.{ClientPart}
 use Rattle.ufs_turns.specs.Lent.{AreTold}
 use Rattle.ufs_at_primary.specs.Named.{server_told}
 use Rattle.ufs_serving.specs.Pools.{IsWithin}
-
--- ---- faults
-
-not_both : true ≡ false → ⊥
-not_both e = cc
-
-pub untold_by : (r : Reply) → tells_fault r ≡ false → fault_by r ≡ None
-untold_by r calm = no_fault r (λ n is. not_both (sym (ap tells_fault is) ∙ calm))
 
 -- ---- blocks
 

@@ -22,9 +22,9 @@ use Rattle.ufs_msg.specs.There.{IsByHint, is_by_hint}
 use Rattle.ufs_msg.specs.declared.answer.Answer.TheVariants as says
 use Rattle.ufs_hand_laws.specs.Parts.{ClientPart}
 use Rattle.ufs_at_primary.specs.All.{numbers_in}
-use Rattle.ufs_at_primary.specs.Kinds.{IsByNames, IsOnFile}
+use Rattle.ufs_at_primary.specs.Kinds.{IsOnFile}
 use Rattle.ufs_at_primary.specs.Stock.{AreHere, StockState}
-use Rattle.ufs_at_primary.specs.Served.{IsAway, IsOut, IsServed, IsStill, IsTried, IsTriedSince, emptied, lent_with, made_in}
+use Rattle.ufs_at_primary.specs.Served.{IsOut, IsStill, IsTriedSince, emptied, lent_with, made_in}
 use Rattle.ufs_at_primary.specs.declared.tried.Tried.{Tried}
 use Rattle.ufs_at_primary.specs.declared.tried.Tried.TheVariants as tried
 use Rattle.ufs_at_primary.proofs.AllTold.{same_counts}
@@ -41,24 +41,6 @@ some_is (Some x) is = (x, refl)
 
 pub same_still : (r : Asked) → IsStill r r
 same_still r = record { ask = refl; leases_back = refl; hand = λ self has. has }
-
-away_as : (s : StockState) (one other : Ask) (file : ℕ) → other ≡ one → IsAway s other file → IsAway s one file
-away_as s one other file is away = subst (λ (a : Ask). IsAway s a file) is away
-
-still_on : (r q x : Asked) → IsStill r q → IsStill q x → IsStill r x
-still_on r q x one other = record {
-  ask = other.ask ∙ one.ask;
-  leases_back = other.leases_back ∙ one.leases_back;
-  hand = λ self has. subst (λ (c : ℕ). HasClientAlone c self x.hand) (ap (λ (a : Ask). a.client) one.ask) (other.hand self (subst (λ (c : ℕ). HasClientAlone c self q.hand) (sym (ap (λ (a : Ask). a.client) one.ask)) (one.hand self has)));
-}
-
--- one of the names, that the names have seen
-pub tried_as : {N : Type 0} (visible : Bool) (before after : Option View) (s t : StockState) (r q : Asked) (x : Tried N) → IsStill r q → IsByNames r.ask → IsTried visible before after s t q x → IsTried visible before after s t r x
-tried_as visible before after s t r q (tried.Answered a) still kind is = (is.0, is.1, subst (λ (k : Ask). IsServed visible before after s t k is.0) still.ask is.2)
-tried_as visible before after s t r q (tried.Redirected a file) still kind is =
-    let on = subst (λ (k : Ask). IsOnFile k file) still.ask (let sent = is.0 in sent.kind) in
-    absurd (let both = sym (kind.kind on.kind) ∙ on.of in cc)
-tried_as visible before after s t r q (tried.Away y file) still kind is = (still_on r q y still is.0, away_as s r.ask q.ask file still.ask is.1, is.2, is.3)
 
 -- the file isn't here, though it is live: so it is out
 pub is_out : (s : StockState) (file : ℕ) → AreHere s.names s.home → IsSome (fin.get s.names.value.held file) → file_here s.home.places file ≡ None → IsOut s file

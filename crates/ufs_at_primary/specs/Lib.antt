@@ -8,3 +8,4 @@ pub mod Stock
 pub mod Served
 pub mod Orders
 pub mod Noted
+pub mod Room

@@ -3,6 +3,7 @@ use Rattle.std.specs.Prelude.{ℕ, ◌+◌, ◌≡◌, ◌≤◌, ◌⊎◌, IfS
 use Rattle.std.specs.FinMap as fin
 use Rattle.std.specs.FinSet as set
 use Rattle.ufs_bitmap.specs.Blocks.{BlockSet}
+use Rattle.ufs_client.specs.Played.{tells_fault}
 use Rattle.ufs_file.specs.Hand.{IsEntryOf}
 use Rattle.ufs_model.specs.Asks.{fd_told, file_in}
 use Rattle.ufs_model.specs.History.{is_excused}
@@ -44,6 +45,8 @@ pub record IsDoneByNames (before after : Option View) (old new : NamesCell) (tou
   pub conserved : AreTold before after (λ had has. set.union had pool ≡ set.union (set.union has behind) (set.difference found left))
   pub telling : is_some after ≡ is_some before
   pub halts : RestsByReply before after e.reply
+  -- its answer tells no fault of the device, and no stop
+  pub calm : tells_fault e.reply ≡ false
   pub names : is_excused e.reply ≡ false → new ≡ names_then (noted_in new) e.ticket old
   pub file : is_excused e.reply ≡ false → IfSome still (IsStillThere e.ticket touched)
   pub made : IfSome young (IsNewborn old.value.next e.ticket)

@@ -17,6 +17,7 @@ use Rattle.ufs_msg.specs.declared.answer.Answer.{Answer}
 use Rattle.ufs_msg.specs.declared.answer.Answer.TheVariants as says
 use Rattle.ufs_owner.specs.Owners.{owner_at}
 use Rattle.ufs_owner.specs.declared.owner.Owner.TheVariants as owner
+use Rattle.ufs_crash_laws.specs.Changes.{asks_commit}
 use Rattle.ufs_hand_laws.specs.Parts.{ClientPart}
 use Rattle.ufs_at_primary.specs.All.{IsAllSynced}
 use Rattle.ufs_at_primary.specs.Dirs.{IsDirServed}
@@ -24,6 +25,7 @@ use Rattle.ufs_at_primary.specs.Excused.{IsExcusedHere}
 use Rattle.ufs_at_primary.specs.Here.{IsServedHere}
 use Rattle.ufs_at_primary.specs.Kinds.{IsByNames, IsOnFile, IsOnNone}
 use Rattle.ufs_at_primary.specs.Named.{IsNamesServed}
+use Rattle.ufs_at_primary.specs.Room.{IsRoomMade}
 use Rattle.ufs_at_primary.specs.Stock.{StockState}
 use Rattle.ufs_at_primary.specs.declared.tried.Tried.{Tried}
 use Rattle.ufs_at_primary.specs.declared.tried.Tried.TheVariants as tried
@@ -125,6 +127,14 @@ pub data IsServed (visible : Bool) (before after : Option View) (s t : StockStat
   All : IsAllHere visible before after s t ask told → IsServed visible before after s t ask told
   Lacked : IsLackedHere visible before after s t ask told → IsServed visible before after s t ask told
 
+-- Room was made for it before, and then it was served. One that asks for a commit needs none.
+pub record IsServedInRoom (visible : Bool) (before after : Option View) (s t : StockState) (ask : Ask) (told : Told) : Type 0 where
+  pub between : StockState
+  pub then : Option View
+  pub room : IsRoomMade visible before then s between
+  pub spared : asks_commit ask.op ≡ true → (between ≡ s) × (then ≡ before)
+  pub served : IsServed visible then after between t ask told
+
 -- ---- or it isn't
 
 -- The request is the same, with the right of its client.
@@ -143,9 +153,13 @@ module _ {N : Type 0} where
     pub has : owner_at s.home.owners file ≡ owner.Worker worker
     pub answer : a ≡ says.Redirect (record { request = r; to = actor.Worker worker })
 
+  -- It is served with what is here, or excused.
+  abbrev pub IsAnsweredHere : (visible : Bool) (before after : Option View) → StockState → StockState → Asked → Answer N → Type 0
+  IsAnsweredHere visible before after s t r a = (told : Told) × (a ≡ says.Served told) × IsServed visible before after s t r.ask told
+
   -- It is served, or excused for want of memory; or all is as it was, and it is sent on, or is to wait.
   abbrev pub IsTried : (visible : Bool) (before after : Option View) → StockState → StockState → Asked → Tried N → Type 0
-  IsTried visible before after s t r (tried.Answered a) = (told : Told) × (a ≡ says.Served told) × IsServed visible before after s t r.ask told
+  IsTried visible before after s t r (tried.Answered a) = (told : Told) × (a ≡ says.Served told) × IsServedInRoom visible before after s t r.ask told
   IsTried visible before after s t r (tried.Redirected a file) = IsSentOn s r a file × (t ≡ s) × (after ≡ before)
   IsTried visible before after s t r (tried.Away q file) = IsStill r q × IsAway s r.ask file × (t ≡ s) × (after ≡ before)
 

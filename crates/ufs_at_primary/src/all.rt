@@ -1,5 +1,5 @@
 // A `sync`.
-ghost use Rattle.std.specs.Prelude.{◌≡◌, ◌<◌, ◌^◌};
+ghost use Rattle.std.specs.Prelude.{◌≡◌, ◌<◌, ◌^◌, is_some};
 ghost use Rattle.ufs_baton.specs.Baton.{IsToldSince};
 ghost use Rattle.ufs_bitmap.specs.Blocks.{BlockSet};
 ghost use Rattle.ufs_joint.specs.FirstHand.{HasPoolAlone, pool_of};
@@ -41,6 +41,7 @@ pub fn serve_sync_all<N: Naming, T: Turns<N>>(
     ensures pool { (pool : BlockSet) → HasPoolAlone (pool_of 0) pool right.old → HasPoolAlone (pool_of 0) pool right.new }
     ensures served { (told : Told) × (result ≡ answer.Served told) × IsAllSynced N.start.is_visible (T.tells door.old) (T.tells door.new) names.old names.new files.old files.new request.ask told }
     ensures drawn { IsToldSince request.hand.seen result }
+    ensures telling { is_some (T.tells door.new) ≡ is_some (T.tells door.old) }
 {
     let (client, ask, _leases_back) = request.into_parts();
     let guest = lend_pool(table, right, client);

@@ -1,5 +1,5 @@
 // An `fsync` of a directory.
-ghost use Rattle.std.specs.Prelude.{ℕ, ◌≡◌, ◌<◌, ◌≤◌, IsSome, None};
+ghost use Rattle.std.specs.Prelude.{ℕ, ◌≡◌, ◌<◌, ◌≤◌, IsSome, None, is_some};
 ghost use Rattle.ufs_baton.specs.Baton.{IsToldSince};
 ghost use Rattle.ufs_bitmap.specs.Blocks.{BlockSet};
 ghost use Rattle.ufs_file.specs.Hand.{IsEntryOf};
@@ -35,6 +35,7 @@ fn sync_dir<N: Naming, T: Turns<N>>(
     ensures done { IsDirDone N.start.is_visible (T.tells door.old) (T.tells door.new) names.old names.new result.entry.reply ask.desc }
     ensures later { guest.seen ≤ result.entry.ticket }
     ensures seen { result.entry.ticket < result.guest.seen }
+    ensures telling { is_some (T.tells door.new) ≡ is_some (T.tells door.old) }
 {
     match ask.desc {
         None => refuse_unopened(table, ask, guest, Actor::Primary),
@@ -57,6 +58,7 @@ pub fn serve_dir<N: Naming, T: Turns<N>>(
     ensures pool { (pool : BlockSet) → HasPoolAlone (pool_of 0) pool right.old → HasPoolAlone (pool_of 0) pool right.new }
     ensures served { (told : Told) × (result ≡ answer.Served told) × IsDirServed N.start.is_visible (T.tells door.old) (T.tells door.new) names.old names.new request.ask told }
     ensures drawn { IsToldSince request.hand.seen result }
+    ensures telling { is_some (T.tells door.new) ≡ is_some (T.tells door.old) }
 {
     let (client, ask, _leases_back) = request.into_parts();
     let desc = ask.desc;

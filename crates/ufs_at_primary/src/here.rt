@@ -1,5 +1,5 @@
 // A request on a file that is at the primary.
-ghost use Rattle.std.specs.Prelude.{ℕ, ◌≡◌, ◌≢◌, ◌<◌, ◌≤◌, ◌^◌, IsSome, true};
+ghost use Rattle.std.specs.Prelude.{ℕ, ◌≡◌, ◌≢◌, ◌<◌, ◌≤◌, ◌^◌, IsSome, true, is_some};
 ghost use Rattle.std.specs.FinSet as set;
 ghost use Rattle.ufs_baton.specs.Baton.{IsToldSince};
 ghost use Rattle.ufs_file.specs.Hand.{IsEntryOf, IsOf};
@@ -56,6 +56,7 @@ fn sync_here<N: Naming, T: Turns<N>>(
     ensures done { IsSyncedHere N.start.is_visible (T.tells door.old) (T.tells door.new) names.old names.new held result.0 pool.now pool.now ask result.1.entry result.1.desc }
     ensures later { client.seen ≤ result.1.entry.ticket }
     ensures seen { result.1.entry.ticket < result.1.guest.seen }
+    ensures telling { is_some (T.tells door.new) ≡ is_some (T.tells door.old) }
 {
     // For the prover alone.
     let _ = pool;
@@ -100,6 +101,7 @@ fn serve_asked<N: Naming, T: Turns<N>>(
     ensures number { result.0.value.file.file ≡ held.value.file.file }
     ensures later { client.seen ≤ result.1.entry.ticket }
     ensures seen { result.1.entry.ticket < result.1.guest.seen }
+    ensures telling { is_some (T.tells door.new) ≡ is_some (T.tells door.old) }
 {
     let number = pool_number(0);
     if let Op::Fsync { .. } = &ask.op {
@@ -134,6 +136,7 @@ pub fn serve_here<N: Naming, T: Turns<N>>(
     ensures few { set.len pool.new ≤ most_at_rest }
     ensures served { (told : Told) × (result.1 ≡ answer.Served told) × IsServedHere N.start.is_visible (T.tells door.old) (T.tells door.new) names.old names.new held result.0 pool.old pool.new request.ask told }
     ensures drawn { IsToldSince request.hand.seen result.1 }
+    ensures telling { is_some (T.tells door.new) ≡ is_some (T.tells door.old) }
 {
     let (mut client, ask, _leases_back) = request.into_parts();
     know_on_file(table, &mut client, &ask);

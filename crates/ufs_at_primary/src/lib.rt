@@ -11,6 +11,7 @@ mod named;
 mod naming;
 mod ordered;
 mod ordering;
+mod room;
 mod stock;
 mod touching;
 mod tried;

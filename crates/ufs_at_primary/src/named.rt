@@ -1,5 +1,5 @@
 // What the primary answers a request of the names.
-ghost use Rattle.std.specs.Prelude.{◌≡◌, ◌<◌, ◌≤◌, ◌^◌, IfSome, false};
+ghost use Rattle.std.specs.Prelude.{◌≡◌, ◌<◌, ◌≤◌, ◌^◌, IfSome, false, is_some};
 ghost use Rattle.std.specs.FinSet as set;
 ghost use Rattle.ufs_baton.specs.Baton.{IsToldSince};
 ghost use Rattle.ufs_joint.specs.FirstHand.{HasPoolAlone, pool_of};
@@ -82,6 +82,7 @@ pub fn serve_named<N: Naming, T: Turns<N>>(
     ensures few { set.len pool.new ≤ most_at_rest }
     ensures served { (told : Told) × (result.answer ≡ answer.Served told) × IsNamesServed (T.tells door.old) (T.tells door.new) home.now.owners names.old names.new file result.file result.made pool.old pool.new request.ask told }
     ensures drawn { IsToldSince request.hand.seen result.answer }
+    ensures telling { is_some (T.tells door.new) ≡ is_some (T.tells door.old) }
 {
     let (client, ask, _leases_back) = request.into_parts();
     let before = ask.desc;

@@ -1,5 +1,5 @@
 // A request of the names, with the one file that it touches.
-ghost use Rattle.std.specs.Prelude.{◌≡◌, ◌<◌, ◌≤◌, ◌^◌};
+ghost use Rattle.std.specs.Prelude.{◌≡◌, ◌<◌, ◌≤◌, ◌^◌, is_some};
 ghost use Rattle.std.specs.FinSet as set;
 ghost use Rattle.ufs_file.specs.Hand.{IsEntryOf};
 ghost use Rattle.ufs_joint.specs.FirstHand.{HasPoolAlone};
@@ -22,7 +22,7 @@ use ufs_serving::{fill, lend_pool, rest, take_pool};
 use ufs_turns::Turns;
 
 // How many blocks a new name wants, at most.
-const FOR_A_NAME: u32 = 1;
+pub(crate) const FOR_A_NAME: u32 = 1;
 
 /// Serves it with the primary's pool, which has this number and gets the block that a new name may want. The client's hand comes back
 /// alone.
@@ -52,6 +52,7 @@ pub(crate) fn serve_names<N: Naming, T: Turns<N>>(
     ensures done { IsDoneByNames (T.tells door.old) (T.tells door.new) names.old names.new file result.file result.made pool.old pool.new ask result.entry result.desc }
     ensures later { client.seen ≤ result.entry.ticket }
     ensures seen { result.entry.ticket < result.guest.seen }
+    ensures telling { is_some (T.tells door.new) ≡ is_some (T.tells door.old) }
 {
     fill(right, pool, door, FOR_A_NAME);
     let guest = lend_pool(table, right, client);

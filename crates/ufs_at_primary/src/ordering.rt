@@ -16,7 +16,7 @@ ghost use Rattle.ufs_owner.specs.declared.owner.Owner.TheVariants as owner;
 ghost use Rattle.ufs_at_primary.specs.Orders.{IsFileOrdered, IsReadied, IsUnready, dropped_by, unready_by};
 ghost use Rattle.ufs_at_primary.specs.Stock.{stock_of};
 ghost use Rattle.ufs_store.specs.Refusals.{fault_in, is_no_space};
-ghost use Rattle.ufs_turns.specs.Lent.{AreTold, StopsByFault};
+ghost use Rattle.ufs_turns.specs.Lent.{AreTold, Runs, StopsByFault};
 
 use crate::ordered::Ordered;
 use ufs_base::Lack;
@@ -60,6 +60,7 @@ fn commit_birth<N: Naming, T: Turns<N>>(
     ensures free { AreTold (T.tells door.old) (T.tells door.new) (λ had has. has ≡ had) }
     ensures telling { is_some (T.tells door.new) ≡ is_some (T.tells door.old) }
     ensures halts { StopsByFault (T.tells door.old) (T.tells door.new) (fault_in result) }
+    ensures ran { Runs (T.tells door.old) (T.tells door.new) (fault_in result) 1 1 }
 {
     if names.knows_birth(file) {
         return Ok(());
@@ -88,6 +89,7 @@ fn make_ready<N: Naming, T: Turns<N>>(
     ensures free { AreTold (T.tells door.old) (T.tells door.new) (λ had has. has ≡ had) }
     ensures telling { is_some (T.tells door.new) ≡ is_some (T.tells door.old) }
     ensures halts { StopsByFault (T.tells door.old) (T.tells door.new) (unready_by result) }
+    ensures ran { Runs (T.tells door.old) (T.tells door.new) (unready_by result) 1 1 }
 {
     let mut held = match home.lend(file) {
         Ok(held) => held,
@@ -122,6 +124,7 @@ pub(crate) fn order_file<N: Naming, T: Turns<N>>(
     ensures free { AreTold (T.tells door.old) (T.tells door.new) (λ had has. has ≡ had) }
     ensures telling { is_some (T.tells door.new) ≡ is_some (T.tells door.old) }
     ensures halts { StopsByFault (T.tells door.old) (T.tells door.new) (dropped_by result) }
+    ensures ran { Runs (T.tells door.old) (T.tells door.new) (dropped_by result) 1 1 }
 {
     if !is_to_go(home, file, to) {
         return Ordered::Moved(home.order(file, to));

@@ -56,7 +56,7 @@ impl<N: Naming> Stock<N> {
     ghost use Rattle.ufs_at_primary.specs.Orders.{IsFileOrdered, dropped_by};
     ghost use Rattle.ufs_at_primary.specs.Stock.{AreHere, HasNumbers, stock_of};
     ghost use Rattle.ufs_serving.specs.Pools.{most_at_rest};
-    ghost use Rattle.ufs_turns.specs.Lent.{AreTold, StopsByFault};
+    ghost use Rattle.ufs_turns.specs.Lent.{AreTold, Runs, StopsByFault};
 
     /// What is at the primary, with the hand of its pool's cell. Takes no memory.
     pub fn new(
@@ -175,6 +175,7 @@ impl<N: Naming> Stock<N> {
         ensures free { AreTold (T.tells door.old) (T.tells door.new) (λ had has. has ≡ had) }
         ensures telling { is_some (T.tells door.new) ≡ is_some (T.tells door.old) }
         ensures halts { StopsByFault (T.tells door.old) (T.tells door.new) (dropped_by result) }
+        ensures ran { Runs (T.tells door.old) (T.tells door.new) (dropped_by result) 1 1 }
     {
         order_file(
             table,

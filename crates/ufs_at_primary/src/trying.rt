@@ -1,5 +1,5 @@
 // A request is served, or it is said why not.
-ghost use Rattle.std.specs.Prelude.{ℕ, ◌≡◌, ◌≢◌, ◌<◌, ◌^◌, Bool, IfNone, IfSome, Option, true};
+ghost use Rattle.std.specs.Prelude.{ℕ, ◌≡◌, ◌≢◌, ◌<◌, ◌^◌, Bool, IfNone, IfSome, Option, true, is_some};
 ghost use Rattle.ufs_baton.specs.Baton.{IsToldSince};
 ghost use Rattle.ufs_bitmap.specs.Blocks.{BlockSet};
 ghost use Rattle.ufs_joint.specs.FirstHand.{HasPoolAlone, pool_of};
@@ -15,7 +15,7 @@ ghost use Rattle.ufs_owner.specs.Owners.{owner_at};
 ghost use Rattle.ufs_owner.specs.declared.owner.Owner.TheVariants as owner;
 ghost use Rattle.ufs_at_primary.specs.All.{IsAllSynced};
 ghost use Rattle.ufs_at_primary.specs.Kinds.{IsOnFile};
-ghost use Rattle.ufs_at_primary.specs.Served.{IsTried, IsTriedSince};
+ghost use Rattle.ufs_at_primary.specs.Served.{IsAnsweredHere};
 ghost use Rattle.ufs_at_primary.specs.Stock.{stock_of};
 ghost use Rattle.ufs_hand_laws.specs.Owned.{Has};
 
@@ -36,6 +36,7 @@ use ufs_joint::{Hand, HandTable, Naming};
 use ufs_layout::Geometry;
 use ufs_model::Actor;
 use ufs_msg::{Answer, Redirected, Request};
+use ufs_names::notes_are_beside;
 use ufs_owner::{Owner, no_file_is_out};
 use ufs_turns::Turns;
 
@@ -85,6 +86,7 @@ fn sync_lent<N: Naming, T: Turns<N>>(
     ensures pool { (pool : BlockSet) → HasPoolAlone (pool_of 0) pool right.old → HasPoolAlone (pool_of 0) pool right.new }
     ensures served { (told : Told) × (result ≡ says.Served told) × IsAllSynced N.start.is_visible (T.tells door.old) (T.tells door.new) names.old names.new files.old.items files.new.items request.ask told }
     ensures drawn { IsToldSince request.hand.seen result }
+    ensures telling { is_some (T.tells door.new) ≡ is_some (T.tells door.old) }
 {
     serve_sync_all(
         table,
@@ -104,17 +106,17 @@ fn lacking<N: Naming>(
     right: &mut Hand<N>,
     request: Request<N>,
     memory: Memory,
-) -> Tried<N>
+) -> Answer<N>
     requires pool { (pool : BlockSet) × HasPoolAlone (pool_of 0) pool right.old }
     ensures pool { (pool : BlockSet) → HasPoolAlone (pool_of 0) pool right.old → HasPoolAlone (pool_of 0) pool right.new }
-    ensures tried { (visible : Bool) (tells : Option View) (names : NamesCell) (pool : BlockSet) → IsTried visible tells tells (stock_of names home.now pool) (stock_of names home.now pool) request result }
-    ensures drawn { IsTriedSince request.hand.seen result }
+    ensures answered { (visible : Bool) (tells : Option View) (names : NamesCell) (pool : BlockSet) → IsAnsweredHere visible tells tells (stock_of names home.now pool) (stock_of names home.now pool) request result }
+    ensures drawn { IsToldSince request.hand.seen result }
 {
-    Tried::Answered(excuse(table, home, request, memory, right))
+    excuse(table, home, request, memory, right)
 }
 
 impl<N: Naming> Stock<N> {
-    ghost use Rattle.std.specs.Prelude.{ℕ, ◌≡◌, ◌<◌, ◌^◌, Bool, IfSome, IsSome, None, Option, true};
+    ghost use Rattle.std.specs.Prelude.{ℕ, ◌≡◌, ◌<◌, ◌^◌, Bool, IfSome, IsSome, None, Option, true, is_some};
     ghost use Rattle.std.specs.FinMap as fin;
     ghost use Rattle.ufs_held_names.specs.Asked.{IsNeeded};
     ghost use Rattle.ufs_home.specs.Places.{file_here};
@@ -122,7 +124,8 @@ impl<N: Naming> Stock<N> {
     ghost use Rattle.ufs_model.specs.declared.data.Op.TheVariants as op;
     ghost use Rattle.ufs_msg.specs.There.{is_by_hint};
     ghost use Rattle.ufs_at_primary.specs.Kinds.{IsByNames, IsOnFile};
-    ghost use Rattle.ufs_at_primary.specs.Served.{IsTried, IsTriedSince};
+    ghost use Rattle.ufs_baton.specs.Baton.{IsToldSince};
+    ghost use Rattle.ufs_at_primary.specs.Served.{IsAnsweredHere, IsTried, IsTriedSince};
 
     // A request on a file that isn't here.
     fn send_on(
@@ -146,23 +149,20 @@ impl<N: Naming> Stock<N> {
         Tried::Away { request, file }
     }
 
-    // A request on a file.
-    fn serve_on_file<T: Turns<N>>(
+    // A request on a file that is here.
+    fn serve_at_hand<T: Turns<N>>(
         &mut self,
         table: &HandTable<N>,
         request: Request<N>,
         file: u32,
-        hinted: bool,
         door: &mut T,
-    ) -> Tried<N>
+    ) -> Answer<N>
         requires kind { IsOnFile request.ask file }
-        requires hinted { is_by_hint request.ask.op ≡ hinted }
-        ensures tried { IsTried N.start.is_visible (T.tells door.old) (T.tells door.new) self.old self.new request result }
-        ensures drawn { IsTriedSince request.hand.seen result }
+        requires here { IsSome (file_here self.old.home.places file) }
+        ensures answered { IsAnsweredHere N.start.is_visible (T.tells door.old) (T.tells door.new) self.old self.new request result }
+        ensures drawn { IsToldSince request.hand.seen result }
+        ensures telling { is_some (T.tells door.new) ≡ is_some (T.tells door.old) }
     {
-        if !self.home.has(file) {
-            return self.send_on(table, request, file, hinted);
-        }
         let held = match self.home.lend(file) {
             Ok(held) => held,
             Err(memory) => return lacking(table, &self.home, &mut self.right, request, memory),
@@ -178,7 +178,30 @@ impl<N: Naming> Stock<N> {
             door,
         );
         self.home.put_back(held);
-        Tried::Answered(answer)
+        answer
+    }
+
+    // A request on a file. Where it would lengthen that, and blocks are wanting, what was dropped comes back first.
+    fn serve_on_file<T: Turns<N>>(
+        &mut self,
+        table: &HandTable<N>,
+        request: Request<N>,
+        file: u32,
+        hinted: bool,
+        door: &mut T,
+    ) -> Tried<N>
+        requires kind { IsOnFile request.ask file }
+        requires hinted { is_by_hint request.ask.op ≡ hinted }
+        ensures tried { IsTried N.start.is_visible (T.tells door.old) (T.tells door.new) self.old self.new request result }
+        ensures drawn { IsTriedSince request.hand.seen result }
+        ensures telling { is_some (T.tells door.new) ≡ is_some (T.tells door.old) }
+    {
+        if !self.home.has(file) {
+            return self.send_on(table, request, file, hinted);
+        }
+        let (request, wanted) = self.measure(file, request);
+        self.make_space(table, wanted, door);
+        Tried::Answered(self.serve_at_hand(table, request, file, door))
     }
 
     // A `sync`.
@@ -191,6 +214,7 @@ impl<N: Naming> Stock<N> {
         requires sync { request.ask.op ≡ op.Sync }
         ensures tried { IsTried N.start.is_visible (T.tells door.old) (T.tells door.new) self.old self.new request result }
         ensures drawn { IsTriedSince request.hand.seen result }
+        ensures telling { is_some (T.tells door.new) ≡ is_some (T.tells door.old) }
     {
         no_file_is_out();
         if let Some(file) = self.home.some_out() {
@@ -198,7 +222,15 @@ impl<N: Naming> Stock<N> {
         }
         let mut files = match self.home.lend_all() {
             Ok(files) => files,
-            Err(memory) => return lacking(table, &self.home, &mut self.right, request, memory),
+            Err(memory) => {
+                return Tried::Answered(lacking(
+                    table,
+                    &self.home,
+                    &mut self.right,
+                    request,
+                    memory,
+                ));
+            }
         };
         let answer = sync_lent(
             table,
@@ -220,14 +252,15 @@ impl<N: Naming> Stock<N> {
         request: Request<N>,
         needed: Option<u32>,
         door: &mut T,
-    ) -> Tried<N>
+    ) -> Answer<N>
         requires kind { IsByNames request.ask }
         requires needed { IsNeeded self.old.names.value request.ask needed }
         requires here { IfSome needed (λ file. IsSome (file_here self.old.home.places file)) }
         requires below { (file : ℕ) → IsSome (fin.get self.old.names.value.held file) → file < self.old.names.value.next }
         requires low { self.old.names.value.next < 2 ^ 31 }
-        ensures tried { IsTried N.start.is_visible (T.tells door.old) (T.tells door.new) self.old self.new request result }
-        ensures drawn { IsTriedSince request.hand.seen result }
+        ensures answered { IsAnsweredHere N.start.is_visible (T.tells door.old) (T.tells door.new) self.old self.new request result }
+        ensures drawn { IsToldSince request.hand.seen result }
+        ensures telling { is_some (T.tells door.new) ≡ is_some (T.tells door.old) }
     {
         let lent = lend_touched(
             table,
@@ -252,10 +285,10 @@ impl<N: Naming> Stock<N> {
             door,
         );
         put_after(&mut self.home, needed, file, next, made);
-        Tried::Answered(answer)
+        answer
     }
 
-    // A request of the names.
+    // A request of the names. Room for it is made where the file that it touches is here.
     fn serve_by_names<T: Turns<N>>(
         &mut self,
         table: &HandTable<N>,
@@ -265,17 +298,31 @@ impl<N: Naming> Stock<N> {
         requires kind { IsByNames request.ask }
         ensures tried { IsTried N.start.is_visible (T.tells door.old) (T.tells door.new) self.old self.new request result }
         ensures drawn { IsTriedSince request.hand.seen result }
+        ensures telling { is_some (T.tells door.new) ≡ is_some (T.tells door.old) }
     {
         let request = see_request(table, &mut self.names, &mut self.right, request);
         let (request, needed) = ask_needed(&self.names, request);
         let needed = match needed {
             Ok(needed) => needed,
-            Err(memory) => return lacking(table, &self.home, &mut self.right, request, memory),
+            Err(memory) => {
+                return Tried::Answered(lacking(
+                    table,
+                    &self.home,
+                    &mut self.right,
+                    request,
+                    memory,
+                ));
+            }
         };
         if let Some(file) = missing(&self.home, needed) {
             return Tried::Away { request, file };
         }
-        self.serve_touching(table, request, needed, door)
+        if let Err(memory) = self.make_room(table, door) {
+            return Tried::Answered(self.excuse(table, request, memory));
+        }
+        // For the prover alone: the file that the request touches is the same, whatever is noted.
+        notes_are_beside();
+        Tried::Answered(self.serve_touching(table, request, needed, door))
     }
 
     /// Serves the request with what is here, or excuses it for want of memory. Where it isn't served all is as it was.
@@ -287,6 +334,7 @@ impl<N: Naming> Stock<N> {
     ) -> Tried<N>
         ensures tried { IsTried N.start.is_visible (T.tells door.old) (T.tells door.new) self.old self.new request result }
         ensures drawn { IsTriedSince request.hand.seen result }
+        ensures telling { is_some (T.tells door.new) ≡ is_some (T.tells door.old) }
     {
         let (request, kind) = kind_asked(request);
         match kind {

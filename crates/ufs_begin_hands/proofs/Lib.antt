@@ -3,4 +3,3 @@ mod Readying
 mod Numbering
 mod Domains
 mod Knowing
-mod Explaining

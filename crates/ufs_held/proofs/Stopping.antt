@@ -10,13 +10,14 @@ use Rattle.ufs_model.specs.declared.data.Excuse.TheVariants as excuse
 use Rattle.ufs_model.specs.declared.data.Op.{Op}
 use Rattle.ufs_model.specs.declared.data.Reply.{Reply}
 use Rattle.ufs_model.specs.declared.data.Reply.TheVariants as reply
-use Rattle.ufs_store.specs.Refusals.{stop_after}
+use Rattle.ufs_store.specs.Refusals.{fault_in, stop_after}
 use Rattle.ufs_store.specs.declared.fault.StoreFault.{StoreFault}
 use Rattle.ufs_store.specs.declared.fault.StoreFault.TheVariants as refusal
 use Rattle.ufs_turns.specs.Lent.{Runs, StopsByFault, TellsStop, TellsWhere, stop_in}
 use Rattle.ufs_turns.specs.Told.{fault_told, told_list}
 use Rattle.ufs_turns.proofs.Runs.{runs_still, runs_then, runs_twice}
 use Rattle.ufs_held.specs.Asking.{faults_of}
+use Rattle.ufs_held.proofs.Excusing.{not_done, one_excuse}
 use Rattle.ufs_held.specs.Serving.{Applied, IsServeCause, Unread}
 use Rattle.ufs_held.specs.Stopping.{ExcusesByStop, Rests, RestsByReply, StopsByReply, fault_by}
 
@@ -26,10 +27,30 @@ abbrev err_or : {A : Type 0} → StoreFault → Result A StoreFault → StoreFau
 err_or e (Ok x) = e
 err_or e (Err f) = f
 
--- A turn that passed wasn't one of a store that had stopped.
-pub passed_going : (A : Type 0) (tells : Option View) (q : Result A StoreFault) (x : A) (r : Reply) → q ≡ Ok x → TellsStop tells q → ExcusesByStop tells r
-passed_going A None q x r is halted = tt
-passed_going A (Some v) q x r is halted = λ fault stop. absurd (let clash : Ok x ≡ Err (refusal.Stopped fault) = sym is ∙ halted fault stop in cc)
+after_none : (stop told : Option ℕ) → stop_after (stop_after stop None) told ≡ stop_after stop told
+after_none None told = refl
+after_none (Some n) told = refl
+
+stays : (stop : Option ℕ) → stop ≡ stop_after stop None
+stays None = refl
+stays (Some n) = refl
+
+-- A turn that passed wasn't one of a store that had stopped, and no stop is told where it is acknowledged.
+pub passed_going : (A : Type 0) (tells : Option View) (q : Result A StoreFault) (x : A) (r : Reply) → q ≡ Ok x → TellsStop tells q → r ≡ reply.Done → ExcusesByStop tells r
+passed_going A None q x r is halted done = tt
+passed_going A (Some v) q x r is halted done = record {
+  halted = λ fault stop. absurd (let clash : Ok x ≡ Err (refusal.Stopped fault) = sym is ∙ halted fault stop in cc);
+  only = λ fault said. absurd (not_done r (excuse.Stopped fault) said done);
+}
+
+-- It left the store going, and what is told then is told of before it, too.
+pub passed_then : (A : Type 0) (had mid : Option View) (q : Result A StoreFault) (x : A) (r : Reply) → q ≡ Ok x → TellsStop had q → is_some mid ≡ is_some had → StopsByFault had mid None → ExcusesByStop mid r → ExcusesByStop had r
+passed_then A None mid q x r is halted telling stops then = tt
+passed_then A (Some v) None q x r is halted telling stops then = (let clash : false ≡ true = telling in absurd cc)
+passed_then A (Some v) (Some u) q x r is halted telling stops then = record {
+  halted = λ fault stop. absurd (let clash : Ok x ≡ Err (refusal.Stopped fault) = sym is ∙ halted fault stop in cc);
+  only = λ fault said. stays (stop_in v.store) ∙ sym stops ∙ then.only fault said;
+}
 
 pub passed_so : (A B : Type 0) (tells : Option View) (q : Result A StoreFault) (x : A) (t : Result B StoreFault) → q ≡ Ok x → TellsStop tells q → TellsStop tells t
 passed_so A B None q x t is halted = tt
@@ -45,10 +66,18 @@ pub failed_where : (A B : Type 0) (tells : Option View) (q : Result A StoreFault
 failed_where A B None q e failed where_told = tt
 failed_where A B (Some v) q e failed where_told = λ fault stop. where_told fault (failed ∙ ap (λ (r : Result B StoreFault). Err (err_or e r)) stop)
 
--- One that failed says the stop, and so does what it excuses.
-pub failed_halted : (A : Type 0) (tells : Option View) (q : Result A StoreFault) (e : StoreFault) (x : Excuse) (r : Reply) → q ≡ Err e → TellsStop tells q → ((n : ℕ) → e ≡ refusal.Stopped n → x ≡ excuse.Stopped n) → r ≡ reply.Excused x → ExcusesByStop tells r
-failed_halted A None q e x r failed halted same is = tt
-failed_halted A (Some v) q e x r failed halted same is = λ fault stop. is ∙ ap reply.Excused (same fault (ap (err_or e) (sym failed ∙ halted fault stop)))
+-- One that failed says the stop, and so does what it excuses; and it says none where the store went on.
+pub failed_halted : (A : Type 0) (tells told : Option View) (q : Result A StoreFault) (e : StoreFault) (x : Excuse) (r : Reply) → q ≡ Err e → TellsStop tells q → TellsWhere told q → is_some told ≡ is_some tells → StopsByFault tells told (fault_in q)
+    → ((n : ℕ) → e ≡ refusal.Stopped n → x ≡ excuse.Stopped n) → ((n : ℕ) → x ≡ excuse.Stopped n → e ≡ refusal.Stopped n) → r ≡ reply.Excused x → ExcusesByStop tells r
+failed_halted A None told q e x r failed halted told_where telling stops same back is = tt
+failed_halted A (Some v) None q e x r failed halted told_where telling stops same back is = (let clash : false ≡ true = telling in absurd cc)
+failed_halted A (Some v) (Some w) q e x r failed halted told_where telling stops same back is = record {
+  halted = λ fault stop. is ∙ ap reply.Excused (same fault (ap (err_or e) (sym failed ∙ halted fault stop)));
+  only = λ fault said.
+      let its : q ≡ Err (refusal.Stopped fault) = failed ∙ ap Err (back fault (one_excuse r x (excuse.Stopped fault) is said)) in
+      let left : stop_in w.store ≡ stop_after (stop_in v.store) None = stops ∙ ap (λ (p : Result A StoreFault). stop_after (stop_in v.store) (fault_in p)) its in
+      stays (stop_in v.store) ∙ sym left ∙ told_where fault its;
+}
 
 pub done_stops : (tells told : Option View) (epochs commits : ℕ) (r : Reply) → r ≡ reply.Done → StopsByFault tells told None → Runs tells told None epochs commits → StopsByReply tells told epochs commits r
 done_stops tells told epochs commits r is stops ran = subst (λ (q : Reply). StopsByReply tells told epochs commits q) (sym is) (None, refl, stops, ran)
@@ -113,14 +142,6 @@ unstopped f read pool d request n (Applied why) = (why read.content.bytes (own_b
 unstopped f read pool d request n (Unread allowed lacks kind) = absurd cc
 
 -- ---- two turns, of which the first passed
-
-after_none : (stop told : Option ℕ) → stop_after (stop_after stop None) told ≡ stop_after stop told
-after_none None told = refl
-after_none (Some n) told = refl
-
-stays : (stop : Option ℕ) → stop ≡ stop_after stop None
-stays None = refl
-stays (Some n) = refl
 
 -- nothing is done
 pub stops_still : (o : Option View) → StopsByFault o o None

@@ -11,6 +11,7 @@ use Rattle.ufs_hand_laws.proofs.Keys.{itself}
 use Rattle.ufs_hand_laws.proofs.Owning.{weigh_append}
 use Rattle.ufs_joint.specs.Cells.{FileCell, View, both_of, given_of, kept_of}
 use Rattle.ufs_joint.specs.Draws.{drawn}
+use Rattle.ufs_turns.specs.Lent.{IsBeside}
 use Rattle.ufs_turns.proofs.Hands.{later_left}
 use Rattle.ufs_held.specs.Drawn.{first_fds}
 use Rattle.ufs_held.specs.Held.{IsHeld}
@@ -93,10 +94,10 @@ module _ (own v : View) (x : DurableState) (held : IsHeld x own) (first : FileCe
   joined_pools : joined.pools ≡ v.pools
   joined_pools = ap (λ ps. v.pools ++ ps) (ap (only (is_file (File x.file.file))) held.pools) ∙ append-nil v.pools
 
-  joined_names : joined.names ≡ v.names
+  pub joined_names : joined.names ≡ v.names
   joined_names = ap (λ ps. v.names ++ ps) (only_none own.names) ∙ append-nil v.names
 
-  joined_store : joined.store ≡ v.store
+  pub joined_store : joined.store ≡ v.store
   joined_store = ap (λ ps. v.store ++ ps) (only_none own.store) ∙ append-nil v.store
 
   all_files : joined.files ++ under_numbers rest ≡ v.files ++ under_numbers (first ∷ rest)
@@ -136,11 +137,11 @@ module _ (own v : View) (x : DurableState) (held : IsHeld x own) (first : FileCe
   no_pool : count eqb x.file.file v.pools ≡ 0
   no_pool = let a = its_count in let l = apart x.file.file in omega (arith, a, l)
 
-  -- ---- and gets it back
+  -- ---- and gets it back, where no file of the other hand changed
 
-  module _ (ticket : ℕ) (f : Fresh) (w : View) (drew : HasDrawnStill ticket f joined w) where
+  module _ (w : View) (same_files : w.files ≡ joined.files) (same_pools : w.pools ≡ joined.pools) where
     w_files : w.files ≡ v.files ++ (x.file.file, first) ∷ []
-    w_files = drew.files ∙ joined_files
+    w_files = same_files ∙ joined_files
 
     back_files : (given_of (File x.file.file) w).files ≡ (x.file.file, first) ∷ []
     back_files =
@@ -148,31 +149,46 @@ module _ (own v : View) (x : DurableState) (held : IsHeld x own) (first : FileCe
         ∙ only_append x.file.file v.files ((x.file.file, first) ∷ [])
         ∙ (λ i. only_else x.file.file v.files no_file i ++ cond (itself x.file.file i) ((x.file.file, first) ∷ []) [])
 
-    pub files_back : (both_of (kept_of (File x.file.file) own) (given_of (File x.file.file) w)).files ≡ (x.file.file, first) ∷ []
-    files_back = λ i. own_left own x held i ++ back_files i
+    pub files_home : (both_of (kept_of (File x.file.file) own) (given_of (File x.file.file) w)).files ≡ (x.file.file, first) ∷ []
+    files_home = λ i. own_left own x held i ++ back_files i
 
-    pub held_back : IsHeld x (both_of (kept_of (File x.file.file) own) (given_of (File x.file.file) w))
-    held_back = record {
+    pub held_home : IsHeld x (both_of (kept_of (File x.file.file) own) (given_of (File x.file.file) w))
+    held_home = record {
       cell = first;
       clients = λ i. (without_none own.clients ∙ held.clients) i ++ only_none w.clients i;
       asked = λ i. (without_none own.asked ∙ held.asked) i ++ only_none w.asked i;
-      files = files_back;
-      pools = λ i. ap (without (is_file (File x.file.file))) held.pools i ++ (ap (only (eqb x.file.file)) (drew.pools ∙ joined_pools) ∙ only_else x.file.file v.pools no_pool) i;
+      files = files_home;
+      pools = λ i. ap (without (is_file (File x.file.file))) held.pools i ++ (ap (only (eqb x.file.file)) (same_pools ∙ joined_pools) ∙ only_else x.file.file v.pools no_pool) i;
       names = λ i. (without_none own.names ∙ held.names) i ++ only_none w.names i;
       store = λ i. (without_none own.store ∙ held.store) i ++ only_none w.store i;
       value = ap (λ (c : FileCell). c.value) (sym is) ∙ held.value;
     }
 
+    pub files_left : (kept_of (File x.file.file) w).files ≡ v.files
+    files_left =
+        ap (without (eqb x.file.file)) w_files
+        ∙ without_append x.file.file v.files ((x.file.file, first) ∷ [])
+        ∙ (λ i. without_else x.file.file v.files no_file i ++ cond (itself x.file.file i) [] ((x.file.file, first) ∷ []))
+        ∙ append-nil v.files
+
+    pub pools_left : (kept_of (File x.file.file) w).pools ≡ v.pools
+    pools_left = ap (without (eqb x.file.file)) (same_pools ∙ joined_pools) ∙ without_else x.file.file v.pools no_pool
+
+  -- ---- behind an entry that was drawn
+
+  module _ (ticket : ℕ) (f : Fresh) (w : View) (drew : HasDrawnStill ticket f joined w) where
+    pub files_back : (both_of (kept_of (File x.file.file) own) (given_of (File x.file.file) w)).files ≡ (x.file.file, first) ∷ []
+    files_back = files_home w drew.files drew.pools
+
+    pub held_back : IsHeld x (both_of (kept_of (File x.file.file) own) (given_of (File x.file.file) w))
+    held_back = held_home w drew.files drew.pools
+
     pub drawn_back : HasDrawnStill ticket f v (kept_of (File x.file.file) w)
     drawn_back = record {
       clients = without_none w.clients ∙ drew.clients ∙ ap (λ (cs : List (ℕ × ClientPart)). each (client_after (entry_of ticket f) (first_fds cs)) cs) joined_clients;
       asked = without_none w.asked ∙ drew.asked ∙ joined_asked;
-      files =
-          ap (without (eqb x.file.file)) w_files
-          ∙ without_append x.file.file v.files ((x.file.file, first) ∷ [])
-          ∙ (λ i. without_else x.file.file v.files no_file i ++ cond (itself x.file.file i) [] ((x.file.file, first) ∷ []))
-          ∙ append-nil v.files;
-      pools = ap (without (eqb x.file.file)) (drew.pools ∙ joined_pools) ∙ without_else x.file.file v.pools no_pool;
+      files = files_left w drew.files drew.pools;
+      pools = pools_left w drew.files drew.pools;
       names = without_none w.names ∙ drew.names ∙ joined_names;
       store = without_none w.store ∙ drew.store ∙ joined_store;
       faults = drew.faults ∙ ap (left_faults f.reply) (append-nil v.faults);
@@ -180,3 +196,20 @@ module _ (own v : View) (x : DurableState) (held : IsHeld x own) (first : FileCe
       later = let a = drew.later in let b = later_left v.seen own.seen in omega (arith, a, b);
       seen = drew.seen;
     }
+
+  -- ---- behind a turn of the store
+
+  module _ (w : View) (same_files : w.files ≡ joined.files) (beside : IsBeside joined w) where
+    pub beside_home : IsBeside v (kept_of (File x.file.file) w)
+    beside_home = record {
+      clients = without_none w.clients ∙ beside.clients ∙ joined_clients;
+      asked = without_none w.asked ∙ beside.asked ∙ joined_asked;
+      pools = pools_left w same_files beside.pools;
+      seen = let a = beside.seen in let b = later_left v.seen own.seen in omega (arith, a, b);
+    }
+
+    pub names_left : (kept_of (File x.file.file) w).names ≡ w.names
+    names_left = without_none w.names
+
+    pub store_left : (kept_of (File x.file.file) w).store ≡ w.store
+    store_left = without_none w.store

@@ -7,9 +7,14 @@ use Rattle.ufs_model.specs.declared.data.Reply.TheVariants as reply
 use Rattle.ufs_turns.specs.Lent.{Runs, StopsByFault, stop_in}
 use Rattle.ufs_turns.specs.Told.{fault_told}
 
--- A request that came once the store had stopped is excused by just that stop, where the store's cell is told.
+-- The answer excuses by a stop where the store had stopped before, by just that one, and else by none.
+pub record TellsItsStop (stop : Option ℕ) (r : Reply) : Type 0 where
+  pub halted : (fault : ℕ) → stop ≡ Some fault → r ≡ reply.Excused (excuse.Stopped fault)
+  pub only : (fault : ℕ) → r ≡ reply.Excused (excuse.Stopped fault) → stop ≡ Some fault
+
+-- So a request is answered, where the store's cell is told.
 abbrev pub ExcusesByStop : Option View → Reply → Type 0
-ExcusesByStop (Some v) r = (fault : ℕ) → stop_in v.store ≡ Some fault → r ≡ reply.Excused (excuse.Stopped fault)
+ExcusesByStop (Some v) r = TellsItsStop (stop_in v.store) r
 ExcusesByStop None r = Unit {0}
 
 -- the fault of the device that an answer tells

@@ -1,4 +1,5 @@
 // A file, what is known of its commits, and the right to its cell.
+ghost use Rattle.ufs_turns.specs.AllLent.{LendsAll, without_dropped};
 ghost use Rattle.std.specs.Prelude.{ℕ, List, ◌≡◌, ◌≢◌, ◌≤◌, ◌∷◌, ◌++◌, ◌||◌, suc, [], true, false, Err, None, Some, IfErr, IsSome, OnErr, OnOk, is_some, length};
 ghost use Rattle.std.specs.FinMap as fin;
 ghost use Rattle.std.specs.FinSet as set;
@@ -24,7 +25,7 @@ ghost use Rattle.ufs_joint.specs.Rule.{MayDrawAny};
 ghost use Rattle.ufs_joint.specs.Servers.{IsServer};
 ghost use Rattle.ufs_store.specs.Refusals.{fault_in, is_no_space};
 ghost use Rattle.ufs_store.specs.declared.fault.StoreFault.TheVariants as refusal;
-ghost use Rattle.ufs_turns.specs.Lent.{AreTold, Runs, StopsByFault, TellsStop, TellsWhere};
+ghost use Rattle.ufs_turns.specs.Lent.{AreTold, Runs, StopsByFault, TellsStop, TellsWhere, IsBeside};
 ghost use Rattle.ufs_turns.specs.Told.{fault_told, told_list};
 ghost use Rattle.ufs_held.specs.Asking.{Asks, IsAnswered, IsGuest, IsSyncReply};
 ghost use Rattle.ufs_held.specs.Births.{HasStill};
@@ -377,4 +378,50 @@ pub fn draw_with_files<N: Naming>(
     let lent = hand.split(table, PartName::File(number));
     right.join(table, lent);
     ticket
+}
+
+/// Makes a checkpoint by a hand with the names, to which each of these files lends its right: what the names dropped is unassigned behind
+/// it. The files are as they were.
+pub fn reclaim_with_files<N: Naming, T: Turns<N>>(
+    table: &HandTable<N>,
+    files: &mut [HeldFile<N>],
+    hand: &mut Hand<N>,
+    dropped: &mut Pool,
+    door: &mut T,
+) -> Result<(), StoreFault>
+    requires apart { AreApartFrom hand.old files.old }
+    requires lent { (v : View) → HasThemToo files.old hand.old v → (names : NamesCell) × LendsAll names v × (names.dropped ≡ dropped.old) }
+    requires away { hand.old.store ≡ [] }
+    ensures files { files.new ≡ files.old }
+    ensures ok { OnOk result ((names : NamesCell) → hand.old.names ≡ (tt, names) ∷ [] → hand.new.names ≡ (tt, without_dropped names) ∷ []) }
+    ensures err { OnErr result (hand.new.names ≡ hand.old.names) }
+    ensures own { hand.new.files ≡ hand.old.files }
+    ensures away { hand.new.store ≡ [] }
+    ensures beside { IsBeside hand.old hand.new }
+    ensures back { OnOk result ((dropped.new ≡ set.empty) × AreTold (T.tells door.old) (T.tells door.new) (λ had has. has ≡ set.union had dropped.old)) }
+    ensures kept { OnErr result ((dropped.new ≡ dropped.old) × AreTold (T.tells door.old) (T.tells door.new) (λ had has. has ≡ had)) }
+    ensures ran { Runs (T.tells door.old) (T.tells door.new) (fault_in result) 1 0 }
+    ensures telling { is_some (T.tells door.new) ≡ is_some (T.tells door.old) }
+    ensures faults { hand.new.faults ≡ told_list (fault_told (fault_in result)) ++ hand.old.faults }
+    ensures stop { (fault : ℕ) → result ≡ Err (refusal.Stopped fault) → hand.new.stop ≡ Some fault }
+    ensures halts { StopsByFault (T.tells door.old) (T.tells door.new) (fault_in result) }
+    ensures halted { TellsStop (T.tells door.old) result }
+    ensures stopped { TellsWhere (T.tells door.new) result }
+    ensures refused { IfErr result (λ fault. is_no_space fault ≡ false) }
+{
+    let Some((file, rest)) = files.split_first_mut() else {
+        return door.reclaim(hand, dropped);
+    };
+    let HeldFile {
+        hand: own,
+        commits: _,
+        right,
+    } = file;
+    let number = own.file();
+    let lent = right.split(table, PartName::File(number));
+    hand.join(table, lent);
+    let made = reclaim_with_files(table, rest, hand, dropped, door);
+    let lent = hand.split(table, PartName::File(number));
+    right.join(table, lent);
+    made
 }

@@ -4,12 +4,13 @@ mod After
 mod Alone
 mod With
 mod Committed
+mod Reclaimed
 mod Lending
 mod Tried
 mod Lives
 mod Answering
-mod Faultless
-mod SyncedAll
+pub mod Faultless
+pub mod SyncedAll
 mod AnsweringAll
 mod Looking
 mod Births

@@ -7,3 +7,4 @@ pub mod Synced
 pub mod Dirs
 pub mod SyncAll
 pub mod Births
+pub mod Reclaims

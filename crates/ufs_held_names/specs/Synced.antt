@@ -53,6 +53,7 @@ pub record HasTried (visible : Bool) (ask : Ask) (by : Actor) (tells told : Opti
   pub unfreed : is_excused e.reply ≡ true → AreTold tells told (λ had has. has ≡ had)
   pub telling : is_some told ≡ is_some tells
   pub halts : StopsByReply tells told 1 1 e.reply
+  pub halted : ExcusesByStop tells e.reply
   pub later : before.seen ≤ e.ticket
   pub seen : back.seen ≡ suc e.ticket
 

@@ -1,5 +1,7 @@
 // The names, what was noted of them, and the right to their cell.
-ghost use Rattle.std.specs.Prelude.{ℕ, ◌≡◌, ◌≢◌, ◌<◌, ◌≤◌, ◌+◌, ◌*◌, ◌^◌, ◌++◌, ◌||◌, ◌⊎◌, cond, suc, [], true, false, Err, Some, None, IfErr, IfOk, IfSome, OnErr, OnOk, IsSome, eqb, is_some, length};
+ghost use Rattle.ufs_held_names.specs.Reclaims.{IsReclaimed, MayReclaim};
+ghost use Rattle.ufs_ilog.specs.Notes.{sectors_noted};
+ghost use Rattle.std.specs.Prelude.{ℕ, ◌≡◌, ◌≢◌, ◌<◌, ◌≤◌, ◌+◌, ◌*◌, ◌^◌, ◌++◌, ◌||◌, ◌⊎◌, cond, suc, [], true, false, Err, Some, None, IfErr, IfOk, IfSome, OnErr, OnOk, IsSome, eqb, is_some, length, ◌/◌, ◌↔◌, IsTrue};
 ghost use Rattle.std.specs.FinMap as fin;
 ghost use Rattle.std.specs.FinSet as set;
 ghost use Rattle.ufs_bitmap.specs.Blocks.{BlockSet};
@@ -28,7 +30,7 @@ ghost use Rattle.ufs_noted.specs.Noted.{HasServedWith, MayLack};
 ghost use Rattle.ufs_held.specs.Asking.{Asks, IsAnswered, IsGuest, IsSyncReply};
 ghost use Rattle.ufs_held.specs.Births.{HasStill};
 ghost use Rattle.ufs_held.specs.Stopping.{ExcusesByStop, StopsByReply};
-ghost use Rattle.ufs_held.specs.Together.{under_numbers};
+ghost use Rattle.ufs_held.specs.Together.{under_numbers, AreApartFrom};
 ghost use Rattle.ufs_held_names.specs.Asked.{IsNamedApart, IsNeeded, number_of};
 ghost use Rattle.ufs_held_names.specs.Asking.{AsksNames, IsAnsweredNames, IsToldBy};
 ghost use Rattle.ufs_held_names.specs.Come.{IsNewborn, IsStillThere, commits_of, files_of, files_then};
@@ -40,6 +42,7 @@ ghost use Rattle.ufs_held_names.specs.SyncAll.{AreAllLive, AreSynced, AsksSync, 
 use crate::commits::{commit_lent, tell_lent};
 use crate::dirs::fsync_dir_lent;
 use crate::newborn::Newborn;
+use crate::reclaims::reclaim_lent;
 use crate::seeing::{see_asked, see_numbers};
 use crate::serving::serve_any;
 use crate::sync_all::{commit_all, sync_lent};
@@ -392,6 +395,57 @@ impl<N: Naming> HeldNames<N> {
             reached,
         } = self;
         commit_all(table, right, noted, reached, files, guest, door, geometry)
+    }
+
+    /// Whether the notes of the names take half of so many sectors or more.
+    pub fn is_crowded(&mut self, journal: u32) -> bool
+        ensures crowded { IsTrue result ↔ (journal / 2 ≤ sectors_noted self.old.value.tree.noted) }
+        ensures same { self.new ≡ self.old }
+    {
+        self.noted.is_crowded(journal)
+    }
+
+    /// Whether directories or removed files dropped blocks that haven't come back.
+    pub fn has_dropped(&self) -> bool
+        ensures { IsTrue result ↔ (self.now.dropped ≢ set.empty) }
+    {
+        self.noted.has_dropped()
+    }
+
+    /// Makes a checkpoint in a turn of the store, with every live file, behind which what directories and removed files dropped is
+    /// unassigned. Where it fails all is as it was, and the guest was told the fault, or that the store has stopped.
+    pub fn reclaim<T: Turns<N>>(
+        &mut self,
+        table: &HandTable<N>,
+        files: &mut [HeldFile<N>],
+        guest: &mut Hand<N>,
+        door: &mut T,
+    ) -> Result<(), StoreFault>
+        requires bare { IsBare guest.old }
+        requires apart { AreApartFrom guest.old files.old }
+        requires may { MayReclaim self.old files.old }
+        ensures bare { IsBare guest.new }
+        ensures beside { IsBeside guest.old guest.new }
+        ensures files { files.new ≡ files.old }
+        ensures ok { OnOk result (IsReclaimed self.old self.new) }
+        ensures err { OnErr result (self.new ≡ self.old) }
+        ensures back { OnOk result (AreTold (T.tells door.old) (T.tells door.new) (λ had has. has ≡ set.union had self.old.dropped)) }
+        ensures kept { OnErr result (AreTold (T.tells door.old) (T.tells door.new) (λ had has. has ≡ had)) }
+        ensures ran { Runs (T.tells door.old) (T.tells door.new) (fault_in result) 1 0 }
+        ensures telling { is_some (T.tells door.new) ≡ is_some (T.tells door.old) }
+        ensures faults { guest.new.faults ≡ told_list (fault_told (fault_in result)) ++ guest.old.faults }
+        ensures stop { (fault : ℕ) → result ≡ Err (refusal.Stopped fault) → guest.new.stop ≡ Some fault }
+        ensures halts { StopsByFault (T.tells door.old) (T.tells door.new) (fault_in result) }
+        ensures halted { TellsStop (T.tells door.old) result }
+        ensures stopped { TellsWhere (T.tells door.new) result }
+        ensures refused { IfErr result (λ fault. is_no_space fault ≡ false) }
+    {
+        let HeldNames {
+            noted,
+            right,
+            reached: _,
+        } = self;
+        reclaim_lent(table, right, noted, files, guest, door)
     }
 
     /// Serves a `sync`, with every live file: commits the names, and then each file in the order of the list, each in a turn of the

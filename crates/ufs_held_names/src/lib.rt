@@ -7,6 +7,7 @@ mod dirs;
 mod draws;
 mod held_names;
 mod newborn;
+mod reclaims;
 mod seeing;
 mod serving;
 mod sync_all;

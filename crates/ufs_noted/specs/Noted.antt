@@ -38,6 +38,10 @@ noted_code = code_by _ (coded× part_code (coded× (coded_list coded_ℕ) (set.c
 abbrev pub committed_noted : Noted → Noted
 committed_noted n = record { names = with_notes (Some []) n.names; fresh = []; dropped = n.dropped }
 
+-- the same once what was dropped came back
+abbrev pub reclaimed_noted : Noted → Noted
+reclaimed_noted n = record n { dropped = set.empty }
+
 -- a server that has these files alone, with what is known of their commits, and this pool
 abbrev pub parts_with : Noted → Files → Commits → BlockSet → Parts
 parts_with n files commits pool = record { names = n.names; files = files; commits = commits; pool = pool; fresh = n.fresh; dropped = n.dropped }

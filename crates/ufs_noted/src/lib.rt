@@ -6,6 +6,7 @@ mod applying;
 mod committing;
 mod known;
 mod noted;
+mod room;
 
 pub use known::{KnownFile, Made, With};
 pub use noted::NotedNames;

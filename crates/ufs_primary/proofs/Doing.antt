@@ -12,7 +12,7 @@ use Rattle.ufs_at_primary.specs.Excused.{IsExcusedHere}
 use Rattle.ufs_at_primary.specs.Kinds.{IsOnFile}
 use Rattle.ufs_at_primary.specs.Stock.{StockState}
 use Rattle.ufs_primary.specs.Primary.{PrimaryState, primary_of}
-use Rattle.ufs_at_primary.specs.Served.{IsAway, IsSentOn, IsServed, IsStill}
+use Rattle.ufs_at_primary.specs.Served.{IsAway, IsSentOn, IsServedInRoom, IsStill}
 use Rattle.ufs_at_primary.specs.Noted.{IsUnnoted}
 use Rattle.ufs_primary.specs.Turns.{IsFront, IsFull, IsIdle, IsOldest, IsRequestDone, IsTakenUp, IsUnnotedHere}
 use Rattle.ufs_primary.specs.Waiting.{AllWait, IsPutOff, Waits}
@@ -20,7 +20,7 @@ use Rattle.ufs_primary.specs.declared.turn.PrimaryTurn.{PrimaryTurn}
 use Rattle.ufs_primary.specs.declared.turn.PrimaryTurn.TheVariants as turn
 
 module _ {N Q : Type 0} (answers : Q → ℕ → Answer N → Q → Type 0) (same : Q → Q → Type 0) (full : Q → ℕ → Type 0) (visible : Bool) (before after : Option View) (since upto : ℕ) where
-  pub is_served : (h t : StockState) (coming : Option FileCell) (old new : List Said) (waiting now : List Waits) (r : Asked) (a : Said) (p q : Q) (told : Told) → a ≡ inl told → IsServed visible before after h t r.ask told ⊎ IsUnnotedHere before after h t r told → IsDrawnWith since upto told.entry → now ≡ waiting
+  pub is_served : (h t : StockState) (coming : Option FileCell) (old new : List Said) (waiting now : List Waits) (r : Asked) (a : Said) (p q : Q) (told : Told) → a ≡ inl told → IsServedInRoom visible before after h t r.ask told ⊎ IsUnnotedHere before after h t r told → IsDrawnWith since upto told.entry → now ≡ waiting
       → AnswersGo answers same full (old ++ a ∷ []) new p q
       → IsRequestDone answers same full visible before after since upto (primary_of h coming old waiting) (primary_of t coming new now) r p q turn.Served
   is_served h t coming old new waiting now r a p q told is served drawn wait goes = record {
@@ -82,8 +82,8 @@ module _ {N Q : Type 0} (answers : Q → ℕ → Answer N → Q → Type 0) (sam
     store = u.store;
   }
 
-  as_served : (s t : StockState) (r q : Asked) (told : Told) → IsStill r q → IsServed visible before after s t q.ask told ⊎ IsUnnotedHere before after s t q told → IsServed visible before after s t r.ask told ⊎ IsUnnotedHere before after s t r told
-  as_served s t r q told still (inl served) = inl (subst (λ (a : Ask). IsServed visible before after s t a told) still.ask served)
+  as_served : (s t : StockState) (r q : Asked) (told : Told) → IsStill r q → IsServedInRoom visible before after s t q.ask told ⊎ IsUnnotedHere before after s t q told → IsServedInRoom visible before after s t r.ask told ⊎ IsUnnotedHere before after s t r told
+  as_served s t r q told still (inl served) = inl (subst (λ (a : Ask). IsServedInRoom visible before after s t a told) still.ask served)
   as_served s t r q told still (inr unnoted) = inr (as_unnoted s t r q told still unnoted)
 
   still_on : (r q x : Asked) → IsStill r q → IsStill q x → IsStill r x

@@ -17,7 +17,7 @@ use Rattle.ufs_serving.specs.Posts.{AnswersGo}
 use Rattle.ufs_at_primary.specs.Excused.{IsExcusedHere}
 use Rattle.ufs_at_primary.specs.Kinds.{IsOnFile}
 use Rattle.ufs_at_primary.specs.Noted.{IsUnnoted, unwaited}
-use Rattle.ufs_at_primary.specs.Served.{IsAway, IsServed, IsStill}
+use Rattle.ufs_at_primary.specs.Served.{IsAway, IsServedInRoom, IsStill}
 use Rattle.ufs_at_primary.specs.Stock.{StockState}
 use Rattle.ufs_primary.specs.Letters.{IsFrontDone}
 use Rattle.ufs_primary.specs.Primary.{PrimaryState}
@@ -66,7 +66,7 @@ module _ {N Q : Type 0} (answers : Q → ℕ → Answer N → Q → Type 0) (sam
   -- It is served or excused, its entry drawn with the baton, and its answer goes behind those that are kept.
   pub record IsServedNow (s t : PrimaryState) (r : Asked) (p q : Q) : Type 0 where
     pub told : Told
-    pub served : IsServed visible before after s.stock t.stock r.ask told ⊎ IsUnnotedHere before after s.stock t.stock r told
+    pub served : IsServedInRoom visible before after s.stock t.stock r.ask told ⊎ IsUnnotedHere before after s.stock t.stock r told
     pub drawn : IsDrawnWith since upto told.entry
     pub answer : AnswersGo answers same full (s.answers ++ inl told ∷ []) t.answers p q
     pub rest : t ≡ record s { stock = t.stock; answers = t.answers }

@@ -1,5 +1,5 @@
 // A request is done, and what is told of it is sent or kept.
-ghost use Rattle.std.specs.Prelude.{◌≡◌, ◌≢◌, ◌<◌, ◌≤◌, ◌++◌, [], ◌∷◌, Option};
+ghost use Rattle.std.specs.Prelude.{◌≡◌, ◌≢◌, ◌<◌, ◌≤◌, ◌++◌, [], ◌∷◌, Option, is_some};
 ghost use Rattle.std.specs.VecDeque.{deque_capacity, deque_len};
 ghost use Rattle.ufs_joint.specs.Cells.{FileCell};
 ghost use Rattle.ufs_msg.specs.There.{client_count};
@@ -57,6 +57,7 @@ fn do_request<N: Naming, Q: ServerPost<N, Letter<Parcel<N>>>, T: Turns<N>>(
     ensures waiting { deque_len waiting.new ≤ deque_capacity waiting.new }
     ensures places { deque_capacity waiting.new ≡ deque_capacity waiting.old }
     ensures me { Q.me post.new ≡ Q.me post.old }
+    ensures telling { is_some (T.tells door.new) ≡ is_some (T.tells door.old) }
 {
     let request = baton.lend(table, request);
     match stock.serve(table, request, door) {
@@ -101,6 +102,7 @@ pub(crate) fn serve_next<N: Naming, Q: ServerPost<N, Letter<Parcel<N>>>, T: Turn
     ensures answers { HasRoom (client_count N.start) (deque_len answers.new) (deque_capacity answers.new) }
     ensures waiting { HasRoom (client_count N.start) (deque_len waiting.new) (deque_capacity waiting.new) }
     ensures me { Q.me post.new ≡ Q.me post.old }
+    ensures telling { is_some (T.tells door.new) ≡ is_some (T.tells door.old) }
 {
     if answers.len() >= answers.capacity() {
         return PrimaryTurn::Idle;

@@ -59,7 +59,7 @@ impl<N: Naming> Primary<N> {
     ghost use Rattle.ufs_primary.specs.Turns.{IsTurn};
     ghost use Rattle.ufs_primary.specs.declared.turn.PrimaryTurn.TheVariants as turn;
     ghost use Rattle.ufs_serving.specs.Pools.{most_at_rest};
-    ghost use Rattle.ufs_turns.specs.Lent.{AreTold, StopsByFault};
+    ghost use Rattle.ufs_turns.specs.Lent.{AreTold, Runs, StopsByFault};
 
     /// A primary that keeps nothing, with the hand of its pool's cell. So few files were made before the session that each one made in it
     /// has a number.
@@ -123,6 +123,7 @@ impl<N: Naming> Primary<N> {
         ensures store { result ≢ turn.Served → T.tells door.new ≡ T.tells door.old }
         // no other turn draws an entry
         ensures seen { result ≢ turn.Served → baton.new ≡ baton.old }
+        ensures telling { is_some (T.tells door.new) ≡ is_some (T.tells door.old) }
     {
         self.stock.send_letters(post);
         send_answers(&mut self.answers, post);
@@ -155,6 +156,7 @@ impl<N: Naming> Primary<N> {
         ensures free { AreTold (T.tells door.old) (T.tells door.new) (λ had has. has ≡ had) }
         ensures telling { is_some (T.tells door.new) ≡ is_some (T.tells door.old) }
         ensures halts { StopsByFault (T.tells door.old) (T.tells door.new) (dropped_by result) }
+        ensures ran { Runs (T.tells door.old) (T.tells door.new) (dropped_by result) 1 1 }
     {
         self.stock.order(table, door, file, to)
     }

@@ -7,7 +7,8 @@ use Rattle.std.specs.Ordering.{nat_cmp}
 use Rattle.std.specs.Prelude.{unwrap_or}
 use Rattle.circular_buffer.specs.Buffer.{Buffer}
 use Rattle.ufs_at_primary.specs.Named.{server_at, server_told}
-use Rattle.ufs_at_primary.specs.Served.{All, ByNames, IsServed, Lacked, OnFile, OnNone}
+use Rattle.ufs_at_primary.specs.Room.{AreTidiedFiles, IsRoomMade}
+use Rattle.ufs_at_primary.specs.Served.{All, ByNames, IsServed, IsServedInRoom, Lacked, OnFile, OnNone}
 use Rattle.ufs_at_primary.specs.Stock.{StockState}
 use Rattle.ufs_baton.specs.Baton.{IsDrawnWith}
 use Rattle.ufs_caller.specs.Callers.{Caller, Errand}
@@ -138,6 +139,27 @@ told_so k visible before after s t ask told none (All x) = (ap (λ (z : StockSta
 told_so k visible before after s t ask told none (Lacked x) =
     (ap (λ (z : StockState). z.home.owners) x.rest, x.excused.of_ask.client, λ who e. told_there k s.home.owners (file_in ask.desc) None none who (sym x.excused.owner ∙ e))
 
+asked_so : (visible : Bool) (before after : Option View) (s t : StockState) (ask : Ask) (told : Told) → IsServed visible before after s t ask told → told.entry.op ≡ ask.op
+asked_so visible before after s t ask told (OnFile x) = x.served.of_ask.asked
+asked_so visible before after s t ask told (ByNames x) = x.served.of_ask.asked
+asked_so visible before after s t ask told (OnNone x) = x.served.of_ask.asked
+asked_so visible before after s t ask told (All x) = x.served.of_ask.asked
+asked_so visible before after s t ask told (Lacked x) = x.excused.of_ask.asked
+
+-- Where room was made for it before, that left the table as it was, too.
+room_owners : (visible : Bool) (before then : Option View) (s t : StockState) → IsRoomMade visible before then s t → t.home.owners ≡ s.home.owners
+room_owners visible before then s t room = by room.files
+  where
+    by : ((t.home ≡ s.home) × (room.most ≤ 1)) ⊎ ((a : AreTidiedFiles visible s t) × (room.most ≤ 1 + 2 + length a.olds)) → t.home.owners ≡ s.home.owners
+    by (inl x) = ap (λ (h : HomeState). h.owners) x.0
+    by (inr x) = ap (λ (h : HomeState). h.owners) x.0.home
+
+told_in_room : (k : Start) (visible : Bool) (before after : Option View) (s t : StockState) (ask : Ask) (told : Told) → s.home.owners ≡ fin.empty → IsServedInRoom visible before after s t ask told → IsToldSo k s t ask told
+told_in_room k visible before after s t ask told none x =
+    let same = room_owners visible before x.then s x.between x.room in
+    let so = told_so k visible x.then after x.between t ask told (same ∙ none) x.served in
+    (so.0 ∙ same, so.1, so.2)
+
 -- ---- what the primary did
 
 -- whose request comes out of a ring
@@ -185,8 +207,11 @@ module _ {N : Type 0} (k : Start) (s t : GlobalState N) (w : ServesAlone k s) wh
     pub told : Told
     pub tells : answer ≡ answer'.Served told
     pub mine : told.entry.client ≡ request.ask.client
+    pub asked : told.entry.op ≡ request.ask.op
     pub drawn : IsDrawnWith s.seen t.seen told.entry
     pub gained : HappensAt HasGained s.rings.answers request.ask.client answer t.rings.answers
+    pub stock : StockState
+    pub served : IsServedInRoom k.is_visible s.store t.store stock t.primary.stock request.ask told
 
   -- the client whose request came has room for its answer
   room_for : (r : Asked) (p q : Rings N) → AreNear s.rings p → HasLost p.requests.primary r q.requests.primary → q.answers ≡ p.answers → IsAnswerFull q r.ask.client → ⊥
@@ -272,9 +297,12 @@ module _ {N : Type 0} (k : Start) (s t : GlobalState N) (w : ServesAlone k s) wh
         told = f.done.told
 
         -- its answer goes
-        served : IsToldSo k h.goes.lettered.stock t.primary.stock f.request.ask told → HasServed did.Served
-        served so = answered (one_goes (IsSaid Answers IsQuiet IsAnswerFull) IsQuiet (IsFullFor Answers IsQuiet IsAnswerFull) (inl told) (h.goes.lettered.answers ++ inl told ∷ []) t.primary.answers f.mid t.rings (λ i. out_lettered.answers i ++ inl told ∷ []) f.done.answer)
+        served : IsServedInRoom k.is_visible s.store t.store h.goes.lettered.stock t.primary.stock f.request.ask told → HasServed did.Served
+        served in_room = answered (one_goes (IsSaid Answers IsQuiet IsAnswerFull) IsQuiet (IsFullFor Answers IsQuiet IsAnswerFull) (inl told) (h.goes.lettered.answers ++ inl told ∷ []) t.primary.answers f.mid t.rings (λ i. out_lettered.answers i ++ inl told ∷ []) f.done.answer)
           where
+            so : IsToldSo k h.goes.lettered.stock t.primary.stock f.request.ask told
+            so = told_in_room k k.is_visible s.store t.store h.goes.lettered.stock t.primary.stock f.request.ask told out_lettered.owners in_room
+
             named : (x : Answer N) → said x ≡ inl told → x ≡ answer'.Served told
             named (answer'.Served y) e = ap answer'.Served same
               where
@@ -304,12 +332,15 @@ module _ {N : Type 0} (k : Start) (s t : GlobalState N) (w : ServesAlone k s) wh
               told = told;
               tells = named x.1.0 x.1.1;
               mine = so.1;
+              asked = asked_so k.is_visible in_room.then t.store in_room.between t.primary.stock f.request.ask told in_room.served;
               drawn = f.done.drawn;
               gained = subst (λ (z : List (Buffer (Answer N)) × ℕ). HappensAt HasGained z.0 z.1 x.1.0 t.rings.answers) (λ i. ((f.came.2 ∙ near_lettered.answers) i, so.1 i)) x.1.2.0;
+              stock = h.goes.lettered.stock;
+              served = in_room;
             }
 
-        by : IsServed k.is_visible s.store t.store h.goes.lettered.stock t.primary.stock f.request.ask told ⊎ primary.IsUnnotedHere s.store t.store h.goes.lettered.stock t.primary.stock f.request told → HasServed did.Served
-        by (inl x) = served (told_so k k.is_visible s.store t.store h.goes.lettered.stock t.primary.stock f.request.ask told out_lettered.owners x)
+        by : IsServedInRoom k.is_visible s.store t.store h.goes.lettered.stock t.primary.stock f.request.ask told ⊎ primary.IsUnnotedHere s.store t.store h.goes.lettered.stock t.primary.stock f.request told → HasServed did.Served
+        by (inl x) = served x
         by (inr x) = absurd (x.cause.out (at_primary x.file))
     front_done (did.Redirected file) f = absurd (clash (sym (at_primary file) ∙ f.done.has))
       where

@@ -161,7 +161,7 @@ pub record HasDrawnMore {N : Type 0} (t : GlobalState N) (drawn : List Entry) : 
   pub has : HasDrawn t (drawn ++ more)
 
 module _ {N : Type 0} (k : Start) (s t : GlobalState N) (w : ServesAlone k s) (drawn : List Entry) (d : HasDrawn s drawn) where
-  none_more : HasDrawn t drawn → HasDrawnMore t drawn
+  unfoldable pub none_more : HasDrawn t drawn → HasDrawnMore t drawn
   none_more h = record { more = []; has = subst (HasDrawn t) (sym (append-nil drawn)) h }
 
   -- an entry drawn with the baton stands behind the others
@@ -232,7 +232,7 @@ module _ {N : Type 0} (k : Start) (s t : GlobalState N) (w : ServesAlone k s) (d
                 let old = sym (ap (λ (l : List (Buffer (Answer N))). slice_get l client) x.gained.stands ∙ set_else s.rings.answers x.request.ask.client client x.gained.is not) ∙ there in
                 other_push client drawn x.told.entry (λ is. not (sym is ∙ x.mine)) ∙ d.each client c ring was_at old
 
-  pub primary_more : (o : PrimaryTurn) → HasRested k s t w o ⊎ HasServed k s t w o → (o ≢ did.Served → t.seen ≡ s.seen) → t.clients ≡ s.clients → HasDrawnMore t drawn
+  unfoldable pub primary_more : (o : PrimaryTurn) → HasRested k s t w o ⊎ HasServed k s t w o → (o ≢ did.Served → t.seen ≡ s.seen) → t.clients ≡ s.clients → HasDrawnMore t drawn
   primary_more o (inl r) seen clients = none_more (drawn_still clients r.rings.answers (seen (λ e. idle (sym r.says ∙ e))))
     where
       idle : did.Idle ≡ did.Served → ⊥
@@ -316,17 +316,17 @@ module _ {N : Type 0} (k : Start) (s t : GlobalState N) (w : ServesAlone k s) (d
             let not = different' client e in
             other_push client drawn x.new.entry (λ is. not (sym is ∙ x.mine)) ∙ d.each client c ring (was_there client c not at) there
 
-    pub client_more : HasDrawnMore t drawn
-    client_more = by (client_told k s t w number said h rest)
-      where
-        by : IsToldNothing s.seen t.seen number s.rings t.rings h.goes.was h.goes.is ⊎ (IsToldMore s.seen t.seen number s.rings t.rings h.goes.was h.goes.is ⊎ IsToldByItself s.seen t.seen number s.rings t.rings h.goes.was h.goes.is) → HasDrawnMore t drawn
-        by (inl x) = none_more (nothing_told x)
-        by (inr (inl x)) = none_more (more_told x)
-        by (inr (inr x)) = record { more = x.new.entry ∷ []; has = itself_told x }
+    unfoldable pub client_drawn : IsToldNothing s.seen t.seen number s.rings t.rings h.goes.was h.goes.is ⊎ (IsToldMore s.seen t.seen number s.rings t.rings h.goes.was h.goes.is ⊎ IsToldByItself s.seen t.seen number s.rings t.rings h.goes.was h.goes.is) → HasDrawnMore t drawn
+    client_drawn (inl x) = none_more (nothing_told x)
+    client_drawn (inr (inl x)) = none_more (more_told x)
+    client_drawn (inr (inr x)) = record { more = x.new.entry ∷ []; has = itself_told x }
+
+    unfoldable pub client_more : HasDrawnMore t drawn
+    client_more = client_drawn (client_told k s t w number said h rest)
 
   -- ---- in a step
 
-  pub step_more : (m : Step) → IsStep k m s t → HasDrawnMore t drawn
+  unfoldable pub step_more : (m : Step) → IsStep k m s t → HasDrawnMore t drawn
   step_more (TurnOf (actor.Client number) (turned.Client o)) h = client_more number o h.0 h.1
   step_more (TurnOf (actor.Client number) (turned.Worker o)) h = absurd h
   step_more (TurnOf (actor.Client number) (turned.Primary o)) h = absurd h
@@ -339,7 +339,7 @@ module _ {N : Type 0} (k : Start) (s t : GlobalState N) (w : ServesAlone k s) (d
 -- ---- steps, one after the other
 
 module _ {N : Type 0} (k : Start) where
-  pub steps_more : (may : Step → GlobalState N → Type 0) (ms : List Step) (s t : GlobalState N) → AreStepsWhere k may ms s t → ServesAlone k s → (drawn : List Entry) → HasDrawn s drawn → HasDrawnMore t drawn
+  unfoldable pub steps_more : (may : Step → GlobalState N → Type 0) (ms : List Step) (s t : GlobalState N) → AreStepsWhere k may ms s t → ServesAlone k s → (drawn : List Entry) → HasDrawn s drawn → HasDrawnMore t drawn
   steps_more may [] s t a w drawn d = record { more = []; has = subst (λ (x : GlobalState N × List Entry). HasDrawn x.0 x.1) (λ i. (sym a i, sym (append-nil drawn) i)) d }
   steps_more may (m ∷ ms) s t a w drawn d =
       let one = step_more k s a.0 w drawn d m a.2 in

@@ -20,3 +20,5 @@ pub mod AloneFirst
 pub mod Entries
 pub mod Drawing
 pub mod InTurn
+pub mod Telling
+pub mod Faults

@@ -1,5 +1,6 @@
 -- A session that was played is finished.
-use Rattle.std.proofs.Common.{◌≡◌, ℕ, zero, suc, ◌+◌, Bool, List, [], ◌∷◌, length, map, Option, Result, inl, inr, refl, ap, sym, ◌∙◌, subst, arith}
+use Rattle.std.proofs.Common.{◌≡◌, ℕ, zero, suc, ◌+◌, Bool, List, [], ◌∷◌, length, map, Option, Result, Ok, Err, inl, inr, refl, ap, sym, ◌∙◌, subst, arith}
+use Rattle.std.specs.Prelude.{OnOk}
 use Rattle.ufs_caller.specs.Callers.{Caller, entries_in}
 use Rattle.ufs_caller.specs.declared.told.Told.{Told}
 use Rattle.ufs_client.specs.Played.{IsMerged, transcript}
@@ -41,6 +42,11 @@ made_by : (k : Start) (lists : List (List Told)) (history : List Entry) → IsMe
 made_by k lists history merged made e has =
     let same : 0 + e.client ≡ e.client = omega arith in
     subst (λ (n : ℕ). MayHaveServed k n e.by) same (made_at k 0 e.client lists e made (subst (Has e) (merged.each e.client) (has_mine e history has)))
+
+-- what ended badly didn't end well
+pub not_well : (ended : Result (Unit {0}) CloseFault) (X : Type 0) → OnOk ended ⊥ → OnOk ended X
+not_well (Ok x) X none = absurd none
+not_well (Err fault) X none = tt
 
 -- ---- the whole
 

@@ -13,4 +13,5 @@ pub mod Rounds
 pub mod View
 pub mod Alone
 pub mod Drawn
+pub mod Faults
 pub mod Dealing

@@ -1,12 +1,12 @@
 -- What is known of a session that was played by turns and has ended, by what its clients were given to ask.
-use Rattle.std.specs.Prelude.{ℕ, ◌≡◌, ◌↔◌, Bool, IfSome, List, length, Ok, Err, Option, Result, Some}
+use Rattle.std.specs.Prelude.{ℕ, ◌≡◌, ◌↔◌, Bool, IfSome, List, length, Ok, Err, Option, Result, Some, OnOk, true}
 use Rattle.ufs_client.specs.Played.{IsMerged}
-use Rattle.ufs_disk.specs.Moments.{Moments}
+use Rattle.ufs_disk.specs.Moments.{Moments, reads}
 use Rattle.ufs_brink.specs.Closes.{closing_fault}
 use Rattle.ufs_brink.specs.declared.closing.CloseFault.{CloseFault}
 use Rattle.ufs_brink.specs.declared.closing.CloseFault.TheVariants as cause
 use Rattle.ufs_gathered.specs.Ended.{AnswerAll, AnswerFirst}
-use Rattle.ufs_gathered.specs.Finished.{HasFinished}
+use Rattle.ufs_gathered.specs.Finished.{ClosesBy, HasFinished}
 use Rattle.ufs_hand_laws.specs.Owned.{Has}
 use Rattle.ufs_joint.specs.Cells.{Start, View}
 use Rattle.ufs_model.specs.History.{IsComplete, IsInOrder, joined}
@@ -32,17 +32,19 @@ pub record HasPlayed (k : Start) (origin : Moments) (keeps : Bool) (scripts : Li
   pub complete : IsComplete scripts finished.session.history
 
 -- The store was so before the end, which tells that it has stopped where it had, and else one fault of the device at most: by that alone
--- the count goes on.
-pub record IsEndOf (faults : ℕ) (ended : Result (Unit {0}) CloseFault) (before : View) : Type 0 where
+-- the count goes on. Where it ended well, over a visible disk, the store's epoch and next commit number rose by no more than the commits of
+-- all files and of the names and a recovery raise them.
+pub record IsEndOf (k : Start) (faults : ℕ) (now : Moments) (ended : Result (Unit {0}) CloseFault) (before : View) : Type 0 where
   pub stopped : (fault : ℕ) → (ended ≡ Err (cause.Stopped fault)) ↔ (stop_in before.store ≡ Some fault)
   pub counted : IsTold (tally_in before.store).faults faults (closing_fault ended)
+  pub raised : k.is_visible ≡ true → OnOk ended (ClosesBy (tally_in before.store).epoch (tally_in before.store).number k.geometry.inodes (reads now))
 
 -- It was played to the end from this state on, first by the schedule, and these were the transcripts then. So it ended.
-pub record IsPlayedOut {N : Type 0} (k : Start) (schedule : List Actor) (s : GlobalState N) (lists : List (List Entry)) (faults : ℕ) (ended : Result (Unit {0}) CloseFault) : Type 0 where
+pub record IsPlayedOut {N : Type 0} (k : Start) (schedule : List Actor) (s : GlobalState N) (lists : List (List Entry)) (faults : ℕ) (now : Moments) (ended : Result (Unit {0}) CloseFault) : Type 0 where
   pub last : GlobalState N
   pub played : IsPlayed k schedule s last (Ok tt)
   pub are : lists ≡ lists_of last.clients
-  pub end : IfSome last.store (IsEndOf faults ended)
+  pub end : IfSome last.store (IsEndOf k faults now ended)
 
 -- The history is the transcripts, one behind the other.
 abbrev pub AreInTurn : List (List Entry) → Type 0

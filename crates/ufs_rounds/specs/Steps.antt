@@ -6,7 +6,7 @@ use Rattle.ufs_base.specs.declared.lack.Lack.{Lack}
 use Rattle.ufs_hand_laws.specs.Owned.{Has, one}
 use Rattle.ufs_joint.specs.Cells.{Start}
 use Rattle.ufs_model.specs.declared.data.Actor.{Actor}
-use Rattle.ufs_turns.specs.Lent.{AreTold, StopsByFault}
+use Rattle.ufs_turns.specs.Lent.{AreTold, Runs, StopsByFault}
 use Rattle.ufs_rounds.specs.Moves.{first_lack, is_called, is_move, lack_in, order_lack}
 use Rattle.ufs_rounds.specs.Turns.{GlobalState, IsTurnOf}
 use Rattle.ufs_rounds.specs.declared.turned.Turned.{Turned}
@@ -69,6 +69,7 @@ module _ {N : Type 0} (k : Start) where
     pub free : AreTold s.store t.store (λ had has. has ≡ had)
     pub telling : is_some t.store ≡ is_some s.store
     pub halts : StopsByFault s.store t.store (dropped_by o)
+    pub ran : Runs s.store t.store (dropped_by o) 1 1
     pub rest : t ≡ record s { primary = record s.primary { stock = t.primary.stock }; store = t.store }
 
   abbrev pub IsStep : Step → GlobalState N → GlobalState N → Type 0

@@ -1,5 +1,5 @@
 -- One turn of an actor of a session on one thread.
-use Rattle.std.specs.Prelude.{ℕ, ◌+◌, ◌≡◌, ◌≢◌, Bool, List, Option, Some, slice_get, slice_set}
+use Rattle.std.specs.Prelude.{ℕ, ◌+◌, ◌≡◌, ◌≢◌, Bool, List, Option, Some, is_some, slice_get, slice_set}
 use Rattle.ufs_caller.specs.Callers.{Caller}
 use Rattle.ufs_caller.specs.Turns as caller
 use Rattle.ufs_caller.specs.declared.turn.Turn.{Turn}
@@ -79,6 +79,7 @@ module _ {N : Type 0} where
     pub place : ℕ
     pub behind : number ≡ place + 1
     pub goes : GoesOnAt (IsServerTurn visible before after since upto lent q o) old place new
+    pub telling : is_some after ≡ is_some before
     pub store : o ≢ worker_turn.Served → after ≡ before
     pub seen : o ≢ worker_turn.Served → upto ≡ since
 
@@ -88,6 +89,7 @@ module _ {N : Type 0} where
     pub quiet : IsQuiet p lent
     pub mine : lent.server ≡ actor.Primary
     pub goes : IsFirstTurn k before after since upto lent q o old new
+    pub telling : is_some after ≡ is_some before
     pub store : o ≢ primary_turn.Served → after ≡ before
     pub seen : o ≢ primary_turn.Served → upto ≡ since
 

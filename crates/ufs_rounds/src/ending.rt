@@ -1,11 +1,12 @@
 // A session is played by turns, and ends.
 ghost use Rattle.std.specs.List.{AllByRecursion};
-ghost use Rattle.std.specs.Prelude.{ℕ, ◌≡◌, ◌<◌, ◌↔◌, [], Err, IfErr, IfOk, IsOk, List, OnErr, Some, map};
+ghost use Rattle.std.specs.Prelude.{ℕ, ◌≡◌, ◌<◌, ◌↔◌, [], Err, IfErr, IfOk, IsOk, List, OnErr, Some, map, OnOk, true};
 ghost use Rattle.ufs_caller.specs.Callers.{entries_in};
 ghost use Rattle.ufs_brink.specs.Closes.{closing_fault};
 ghost use Rattle.ufs_brink.specs.declared.closing.CloseFault.TheVariants as cause;
 ghost use Rattle.ufs_gathered.specs.Ended.{AnswerFirst};
-ghost use Rattle.ufs_gathered.specs.Finished.{HasFinished};
+ghost use Rattle.ufs_disk.specs.Moments.{reads};
+ghost use Rattle.ufs_gathered.specs.Finished.{ClosesBy, HasFinished};
 ghost use Rattle.ufs_gathered.specs.Gathered.{AreHome};
 ghost use Rattle.ufs_joint.specs.FirstHand.{Beginning, start_first};
 ghost use Rattle.ufs_layout.specs.Areas.{IsGeometry};
@@ -77,6 +78,7 @@ fn finish_rest<N: Naming, D: Disk, L: Ledger>(
         → HasFinished N.start N.origin D.keeps result.1.tickets lists result.1.bytes (D.size result.1.disk) (D.faults result.1.disk) (D.moments result.1.disk) result.1.ended }
     ensures stopped { (fault : ℕ) → (result.1.ended ≡ Err (cause.Stopped fault)) ↔ (stop_in store.store ≡ Some fault) }
     ensures counted { IsTold (tally_in store.store).faults (D.faults result.1.disk) (closing_fault result.1.ended) }
+    ensures raised { N.start.is_visible ≡ true → OnOk result.1.ended (ClosesBy (tally_in store.store).epoch (tally_in store.store).number N.start.geometry.inodes (reads (D.moments result.1.disk))) }
 {
     let AtRest {
         names,
@@ -119,6 +121,7 @@ impl<N: Naming, D: Disk, L: Ledger> Session<N, D, L> {
         ensures made { AreAllMadeThere N.start (map (λ t. t.items) result.told.items) }
         ensures stopped { (fault : ℕ) → (result.ended ≡ Err (cause.Stopped fault)) ↔ (stop_in self.store.store ≡ Some fault) }
         ensures counted { IsTold (tally_in self.store.store).faults (D.faults result.disk) (closing_fault result.ended) }
+        ensures raised { N.start.is_visible ≡ true → OnOk result.ended (ClosesBy (tally_in self.store.store).epoch (tally_in self.store.store).number N.start.geometry.inodes (reads (D.moments result.disk))) }
     {
         let Session {
             table,
@@ -155,6 +158,7 @@ impl<N: Naming, D: Disk, L: Ledger> Session<N, D, L> {
         ensures made { IfOk result (λ p. AreAllMadeThere N.start (map (λ t. t.items) p.told.items)) }
         ensures stopped { IfOk result (λ p. (fault : ℕ) → (p.ended ≡ Err (cause.Stopped fault)) ↔ (stop_in self.store.store ≡ Some fault)) }
         ensures counted { IfOk result (λ p. IsTold (tally_in self.store.store).faults (D.faults p.disk) (closing_fault p.ended)) }
+        ensures raised { IfOk result (λ p. N.start.is_visible ≡ true → OnOk p.ended (ClosesBy (tally_in self.store.store).epoch (tally_in self.store.store).number N.start.geometry.inodes (reads (D.moments p.disk)))) }
         ensures under_way { OnErr result (IsAtRest self.participants.clients.items self.participants.primary → ⊥) }
         ensures back { IfErr result (λ s. s ≡ self) }
     {
@@ -174,7 +178,7 @@ impl<N: Naming, D: Disk, L: Ledger> Session<N, D, L> {
         requires there { AllByRecursion (IsThere N.start) schedule.now }
         ensures played { IfOk result (λ p. HasPlayed N.start N.origin D.keeps (scripts_of self.participants.clients.items) p.tickets (map (λ t. entries_in t.items) p.told.items) p.bytes (D.size p.disk) (D.faults p.disk) (D.moments p.disk) p.ended) }
         ensures made { IfOk result (λ p. AreAllMadeThere N.start (map (λ t. t.items) p.told.items)) }
-        ensures turns { IfOk result (λ p. IsPlayedOut N.start schedule.now (global_of self.participants (Some self.store)) (map (λ t. entries_in t.items) p.told.items) (D.faults p.disk) p.ended) }
+        ensures turns { IfOk result (λ p. IsPlayedOut N.start schedule.now (global_of self.participants (Some self.store)) (map (λ t. entries_in t.items) p.told.items) (D.faults p.disk) (D.moments p.disk) p.ended) }
         ensures in_turn { ServesAlone N.start (global_of self.participants (Some self.store)) → HaveAskedNothing self.participants.clients.items → schedule.now ≡ [] → IfOk result (λ p. AreInTurn (map (λ t. entries_in t.items) p.told.items)) }
         ensures ended { ServesAlone N.start (global_of self.participants (Some self.store)) → IsOk result }
         ensures under_way { IfErr result (λ u. IsAtRest u.session.participants.clients.items u.session.participants.primary → ⊥) }

@@ -1,5 +1,5 @@
 // An actor of a list is polled, by any post.
-ghost use Rattle.std.specs.Prelude.{◌≡◌, ◌≢◌, ◌+◌, ◌<◌, length};
+ghost use Rattle.std.specs.Prelude.{◌≡◌, ◌≢◌, ◌+◌, ◌<◌, is_some, length};
 ghost use Rattle.ufs_caller.specs.Turns as caller;
 ghost use Rattle.ufs_caller.specs.declared.turn.Turn.TheVariants as client_turn;
 ghost use Rattle.ufs_model.specs.declared.data.Actor.TheVariants as actor;
@@ -55,6 +55,7 @@ pub(crate) fn poll_worker<N: Naming, Q: ServerPost<N, Letter<Parcel<N>>>, T: Tur
         N.start.is_visible (T.tells door.old) (T.tells door.new) baton.old baton.new w v post.old post.new result) workers.old.items place workers.new.items }
     // no other turn comes to the store, or draws an entry
     ensures store { result ≢ worker_turn.Served → T.tells door.new ≡ T.tells door.old }
+    ensures telling { is_some (T.tells door.new) ≡ is_some (T.tells door.old) }
     ensures seen { result ≢ worker_turn.Served → baton.new ≡ baton.old }
     ensures numbers { AreWorkers workers.new.items }
     ensures all { length workers.new.items ≡ length workers.old.items }

@@ -1,5 +1,5 @@
 // A request that commits nothing, on a file that a server has.
-ghost use Rattle.std.specs.Prelude.{◌≡◌, ◌≢◌, ◌<◌, ◌≤◌, IsSome, false};
+ghost use Rattle.std.specs.Prelude.{◌≡◌, ◌≢◌, ◌<◌, ◌≤◌, IsSome, false, is_some};
 ghost use Rattle.std.specs.FinSet as set;
 ghost use Rattle.ufs_file.specs.Hand.{IsEntryOf, IsOf};
 ghost use Rattle.ufs_held.specs.Asking.{Asks, IsAnswered};
@@ -49,6 +49,7 @@ pub fn serve_change<N: Naming, T: Turns<N>>(
     ensures born { result.0.born ≡ held.born }
     ensures later { client.seen ≤ result.1.entry.ticket }
     ensures seen { result.1.entry.ticket < result.1.guest.seen }
+    ensures telling { is_some (T.tells door.new) ≡ is_some (T.tells door.old) }
 {
     let Some(desc) = ask.desc else { unreachable!() };
     let (mut held, wanted) = measured(held, &ask.op, desc);

@@ -1,5 +1,5 @@
 // An `fsync` of a file that a server has.
-ghost use Rattle.std.specs.Prelude.{ℕ, ◌≡◌, ◌≢◌, ◌<◌, ◌≤◌, true};
+ghost use Rattle.std.specs.Prelude.{ℕ, ◌≡◌, ◌≢◌, ◌<◌, ◌≤◌, true, is_some};
 ghost use Rattle.ufs_file.specs.Hand.{IsEntryOf, IsOf};
 ghost use Rattle.ufs_held.specs.Asking.{Asks, IsAnswered};
 ghost use Rattle.ufs_model.specs.declared.data.Op.TheVariants as op;
@@ -43,6 +43,7 @@ pub fn serve_sync<N: Naming, T: Turns<N>>(
     ensures number { result.0.value.file.file ≡ held.value.file.file }
     ensures later { client.seen ≤ result.1.entry.ticket }
     ensures seen { result.1.entry.ticket < result.1.guest.seen }
+    ensures telling { is_some (T.tells door.new) ≡ is_some (T.tells door.old) }
 {
     // For the prover alone.
     let _ = pool;

@@ -5,7 +5,7 @@ use Rattle.ufs_bitmap.specs.Space.{Space}
 use Rattle.ufs_disk.specs.Disk.{IsWhole}
 use Rattle.ufs_disk.specs.Moments.{LeavesOnly, Moments}
 use Rattle.ufs_ledger.specs.Ledger.{Ledger}
-use Rattle.ufs_hand_laws.specs.Parts.{Cells, Stretch}
+use Rattle.ufs_hand_laws.specs.Parts.{Cells}
 use Rattle.ufs_store.specs.Ledgers.{HasLedger, IsLeftByAny, beginning_next}
 use Rattle.ufs_store.specs.Refusals.{stop_after}
 use Rattle.ufs_store.specs.State.{StoreState, geometry_of_store}
@@ -37,8 +37,8 @@ module _ (k : Start) (origin : Moments) (visible keeps : Bool) (n : ℕ) (v w : 
   begun_is : w ≡ u
   begun_is = turning.begun_is k origin visible keeps n v w s t knows home begun
 
-  module _ (files : v.files ≡ []) (names : v.names ≡ []) (whole_before : IsTrue visible → IsWhole s.sectors s.moments.state) (whole_behind : IsTrue visible → IsWhole t.sectors t.moments.state) (told : Option ℕ) (has : HasMade visible keeps s t told) where
-    makes : MakesCheckpoint keeps k.is_visible was left passed (told_list (fault_told told))
+  module _ (whole_before : IsTrue visible → IsWhole s.sectors s.moments.state) (whole_behind : IsTrue visible → IsWhole t.sectors t.moments.state) (told : Option ℕ) (has : HasMade visible keeps s t told) where
+    pub makes : MakesCheckpoint keeps k.is_visible was left passed (told_list (fault_told told))
     makes = record {
       earlier = s.moments.earlier;
       later = t.moments.earlier;
@@ -51,19 +51,35 @@ module _ (k : Start) (origin : Moments) (visible keeps : Bool) (n : ℕ) (v w : 
         both : (seen : k.is_visible ≡ true) → ◌≡◌ {A = StoreState × StoreState} (s, t) (store_since s.moments.earlier was, store_since t.moments.earlier left)
         both seen = λ i. (turning.before_is k origin visible keeps n v w s t knows home begun whole_before whole_behind has.geometry has.sectors seen i, turning.behind_is k origin visible keeps n v w s t knows home begun whole_before whole_behind has.geometry has.sectors seen i)
 
+    -- The disk goes on by it, whatever else the hand has.
+    pub went_on : CheckpointsGoOn k.geometry → k.is_visible ≡ true → IsTrue keeps → WentOn s t
+    unfolding makes
+    went_on law seen kept =
+        let b = turning.as_begun k origin visible keeps n v w s t knows home begun whole_before whole_behind has.geometry has.sectors seen in
+        turning.went k origin visible keeps n v w s t knows home begun whole_before whole_behind has.geometry has.sectors seen
+        (law keeps k.is_visible (record u { files = []; names = [] }) was left passed (told_list (fault_told told)) home.formed (record { files = refl; names = refl; store = refl }) makes seen kept k.tree b.0 b.1 b.2 (record {
+          cells = record { files = λ file c none. absurd none; names = λ u c none. absurd none };
+          knows = record {
+            files = λ file c none. absurd none;
+            born = λ file c none. absurd none;
+            named = λ file u c none. absurd none;
+            names = λ u c none. absurd none;
+            files_told = λ file c none. absurd none;
+            names_told = λ u c none. absurd none;
+          };
+          kept = b.3.kept;
+        }))
+
+  module _ (files : v.files ≡ []) (names : v.names ≡ []) (whole_before : IsTrue visible → IsWhole s.sectors s.moments.state) (whole_behind : IsTrue visible → IsWhole t.sectors t.moments.state) (told : Option ℕ) (has : HasMade visible keeps s t told) where
     hand : IsBareHand u was
     hand = record { files = files; names = names; store = refl }
 
     pub checkpoint_ends : CheckpointsMayEnd k.geometry → MayEndTurn k.geometry k.is_visible w (bare_turn keeps (fault_told told) t w)
     checkpoint_ends law = subst (λ (q : View). MayEndTurn k.geometry k.is_visible q (bare_turn keeps (fault_told told) t q)) (sym begun_is)
-        (law keeps k.is_visible u was left passed (told_list (fault_told told)) home.formed hand makes)
+        (law keeps k.is_visible u was left passed (told_list (fault_told told)) home.formed hand (makes whole_before whole_behind told has))
 
     pub checkpoint_went : CheckpointsGoOn k.geometry → k.is_visible ≡ true → IsTrue keeps → WentOn s t
-    unfolding makes
-    checkpoint_went law seen kept =
-        let b = turning.as_begun k origin visible keeps n v w s t knows home begun whole_before whole_behind has.geometry has.sectors seen in
-        turning.went k origin visible keeps n v w s t knows home begun whole_before whole_behind has.geometry has.sectors seen
-        (law keeps k.is_visible u was left passed (told_list (fault_told told)) home.formed hand makes seen kept k.tree b.0 b.1 b.2 b.3)
+    checkpoint_went = went_on whole_before whole_behind told has
 
   -- ---- what the hand has then
 

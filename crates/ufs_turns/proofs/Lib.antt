@@ -6,4 +6,5 @@ pub mod Emptying
 pub mod Pools
 pub mod Runs
 pub mod Committing
+pub mod Reclaiming
 mod FreeBlocks

@@ -3,3 +3,4 @@ pub mod Lent
 pub mod HeldStore
 pub mod Syncs
 pub mod NamesLent
+pub mod AllLent

@@ -13,11 +13,13 @@ ghost use Rattle.ufs_names.specs.Notes.{with_notes};
 ghost use Rattle.ufs_store.specs.Refusals.{fault_in, is_no_space, is_own, stop_after};
 ghost use Rattle.ufs_store.specs.declared.fault.StoreFault.TheVariants as refusal;
 ghost use Rattle.ufs_turns.specs.HeldStore.{HasNothing, HasStoreAlone, IsHeldStore, IsStoreIn, begun_view, ended_view, sync_turn};
+ghost use Rattle.ufs_turns.specs.AllLent.{LendsAll, without_dropped};
 ghost use Rattle.ufs_turns.specs.Lent.{GainsBlocks, HasCommitted, HasRun, IsBare, IsBeside, IsBesidePools, IsFileIn, LacksBlocks, LendsFile, LendsPool, RunIn, free_in, stop_in, used_in};
 ghost use Rattle.ufs_turns.specs.NamesLent.{HaveCommitted, LendsNames};
 ghost use Rattle.ufs_turns.specs.Told.{fault_told, told_list};
 
 use crate::commits::commit_lent;
+use crate::reclaims::reclaim_lent;
 use crate::space::{checkpoint_lent, give_lent, take_lent};
 use crate::syncs::{sync_store, told_by, told_of};
 use std::marker::{Brand, Model};
@@ -270,6 +272,47 @@ impl<N: Naming, D: Door, L: Ledger> HeldStore<N, D, L> {
         } = self;
         lend(table, own, hand);
         let made = checkpoint_lent(table, hand, store);
+        give_back(table, own, hand);
+        count_made(book, share, &made);
+        made
+    }
+
+    /// Makes a checkpoint behind which what the names dropped is unassigned, as `Turns` says.
+    pub fn reclaim(
+        &mut self,
+        table: &HandTable<N>,
+        hand: &mut Hand<N>,
+        dropped: &mut Pool,
+        share: &mut Share<L>,
+    ) -> Result<(), StoreFault>
+        requires part { 0 < share.old.parts }
+        requires lent { (names : NamesCell) × LendsAll names hand.old × (names.dropped ≡ dropped.old) }
+        requires away { hand.old.store ≡ [] }
+        ensures ok { OnOk result ((names : NamesCell) → hand.old.names ≡ (tt, names) ∷ [] → hand.new.names ≡ (tt, without_dropped names) ∷ []) }
+        ensures err { OnErr result (hand.new.names ≡ hand.old.names) }
+        ensures files { hand.new.files ≡ hand.old.files }
+        ensures away { hand.new.store ≡ [] }
+        ensures beside { IsBeside hand.old hand.new }
+        ensures back { OnOk result ((dropped.new ≡ set.empty) × (free_in self.new.store ≡ set.union (free_in self.old.store) dropped.old)) }
+        ensures kept { OnErr result ((dropped.new ≡ dropped.old) × (free_in self.new.store ≡ free_in self.old.store)) }
+        ensures ran { RunIn (fault_in result) 1 0 self.old.store self.new.store }
+        ensures faults { hand.new.faults ≡ told_list (fault_told (fault_in result)) ++ hand.old.faults }
+        ensures stop { (fault : ℕ) → result ≡ Err (refusal.Stopped fault) → hand.new.stop ≡ Some fault }
+        ensures halts { stop_in self.new.store ≡ stop_after (stop_in self.old.store) (fault_in result) }
+        ensures halted { (fault : ℕ) → stop_in self.old.store ≡ Some fault → result ≡ Err (refusal.Stopped fault) }
+        ensures stopped { (fault : ℕ) → result ≡ Err (refusal.Stopped fault) → stop_in self.new.store ≡ Some fault }
+        ensures refused { IfErr result (λ fault. is_no_space fault ≡ false) }
+        ensures made { OnOk result (share.new.amount ≡ share.old.amount + 1) }
+        ensures unmade { OnErr result (share.new.amount ≡ share.old.amount) }
+        ensures parts { share.new.parts ≡ share.old.parts }
+    {
+        let HeldStore {
+            hand: own,
+            store,
+            book,
+        } = self;
+        lend(table, own, hand);
+        let made = reclaim_lent(table, hand, store, dropped);
         give_back(table, own, hand);
         count_made(book, share, &made);
         made

@@ -3,6 +3,7 @@
 
 mod commits;
 mod held_store;
+mod reclaims;
 mod space;
 mod syncs;
 mod turns;

@@ -1,11 +1,13 @@
 // A file is synced by the store alone.
-ghost use Rattle.std.specs.Prelude.{ℕ, ◌≡◌, ◌<◌, ◌-◌, ◌^◌, ◌⊎◌, true, false, Err, None, Some, IfErr, OnOk};
+ghost use Rattle.std.specs.Prelude.{ℕ, ◌≡◌, ◌<◌, ◌-◌, ◌^◌, ◌⊎◌, true, false, Err, None, Some, IfErr, IsTrue, OnOk};
 ghost use Rattle.std.specs.FinSet as set;
 ghost use Rattle.ufs_extent.specs.Runs.{blocks_of};
 ghost use Rattle.ufs_layout.specs.Areas.{is_inode_number};
 ghost use Rattle.ufs_file_commits.specs.State.{IsNoted, state_of};
 ghost use Rattle.ufs_file_commits.specs.Writes.{AreDataBlocks};
+ghost use Rattle.ufs_ledger.specs.Ledger.{Ledger};
 ghost use Rattle.ufs_store.specs.Blocks.{MayReturn};
+ghost use Rattle.ufs_store.specs.Ledgers.{HasLedger, checkpointed};
 ghost use Rattle.ufs_store.specs.Refusals.{fault_in, fault_of, is_no_space, stop_after};
 ghost use Rattle.ufs_store.specs.State.{geometry_of_store};
 ghost use Rattle.ufs_store.specs.declared.fault.StoreFault.{StoreFault};
@@ -47,6 +49,7 @@ pub(crate) fn sync_store<D: Door>(
 pub(crate) fn checkpoint_store<D: Door>(store: &mut D) -> Result<(), StoreFault>
     requires plain { D.stamps → ⊥ }
     ensures made { HasMade D.visible D.keeps (D.store store.old) (D.store store.new) (fault_in result) }
+    ensures ok { IsTrue D.visible → OnOk result ((l : Ledger) → HasLedger (D.store store.old) l → HasLedger (D.store store.new) (checkpointed (D.store store.old) l)) }
     ensures room { OnOk result ((D.store store.new).journal.used ≡ 0) }
     ensures ran { HasRun (fault_in result) 1 0 (D.store store.old) (D.store store.new) }
     ensures stopped { (fault : ℕ) → result ≡ Err (refusal.Stopped fault) → (D.store store.new).stop ≡ Some fault }

@@ -1,4 +1,4 @@
-ghost use Rattle.std.specs.Prelude.{ℕ, ◌≡◌, ◌+◌, ◌++◌, [], true, false, Ok, Err, None, Option, Some, IfErr, IfSome, IsTrue, OnOk, OnErr, is_some, length};
+ghost use Rattle.std.specs.Prelude.{ℕ, ◌≡◌, ◌+◌, ◌++◌, ◌∷◌, [], true, false, Ok, Err, None, Option, Some, IfErr, IfSome, IsTrue, OnOk, OnErr, is_some, length};
 ghost use Rattle.std.specs.FinSet as set;
 ghost use Rattle.ufs_bitmap.specs.Blocks.{BlockSet};
 ghost use Rattle.ufs_bitmap.specs.Taking.{set_of};
@@ -9,6 +9,7 @@ ghost use Rattle.ufs_names.specs.Notes.{with_notes};
 ghost use Rattle.ufs_joint.specs.Cells.{FileCell, NamesCell, View};
 ghost use Rattle.ufs_store.specs.Refusals.{fault_in, is_no_space, is_own};
 ghost use Rattle.ufs_store.specs.declared.fault.StoreFault.TheVariants as refusal;
+ghost use Rattle.ufs_turns.specs.AllLent.{LendsAll, without_dropped};
 ghost use Rattle.ufs_turns.specs.Lent.{AreTold, GainsBlocks, HasCommitted, IsBare, IsBeside, IsBesidePools, LacksBlocks, LendsFile, LendsPool, Runs, StopsByFault, TellsStop, TellsWhere, used_in};
 ghost use Rattle.ufs_turns.specs.NamesLent.{HaveCommitted, LendsNames};
 ghost use Rattle.ufs_turns.specs.Told.{fault_told, told_list};
@@ -163,6 +164,30 @@ pub trait Turns<N: Naming> {
         ensures unmade { OnErr result (answers self.new ≡ answers self.old) }
         ensures bare { IsBare hand.new }
         ensures beside { IsBeside hand.old hand.new }
+        ensures faults { hand.new.faults ≡ told_list (fault_told (fault_in result)) ++ hand.old.faults }
+        ensures stop { (fault : ℕ) → result ≡ Err (refusal.Stopped fault) → hand.new.stop ≡ Some fault }
+        ensures halts { StopsByFault (tells self.old) (tells self.new) (fault_in result) }
+        ensures halted { TellsStop (tells self.old) result }
+        ensures stopped { TellsWhere (tells self.new) result }
+        ensures refused { IfErr result (λ fault. is_no_space fault ≡ false) };
+
+    /// Makes a checkpoint by a hand with the names and each live file, where nothing of the names and of the files is left to commit: what
+    /// directories and removed files dropped is unassigned behind it. Where it fails all stays, and the hand was told the fault, or that the
+    /// store has stopped.
+    fn reclaim(&mut self, hand: &mut Hand<N>, dropped: &mut Pool) -> Result<(), StoreFault>
+        requires lent { (names : NamesCell) × LendsAll names hand.old × (names.dropped ≡ dropped.old) }
+        requires away { hand.old.store ≡ [] }
+        ensures ok { OnOk result ((names : NamesCell) → hand.old.names ≡ (tt, names) ∷ [] → hand.new.names ≡ (tt, without_dropped names) ∷ []) }
+        ensures err { OnErr result (hand.new.names ≡ hand.old.names) }
+        ensures files { hand.new.files ≡ hand.old.files }
+        ensures away { hand.new.store ≡ [] }
+        ensures beside { IsBeside hand.old hand.new }
+        ensures back { OnOk result ((dropped.new ≡ set.empty) × AreTold (tells self.old) (tells self.new) (λ had has. has ≡ set.union had dropped.old)) }
+        ensures kept { OnErr result ((dropped.new ≡ dropped.old) × AreTold (tells self.old) (tells self.new) (λ had has. has ≡ had)) }
+        ensures ran { Runs (tells self.old) (tells self.new) (fault_in result) 1 0 }
+        ensures telling { is_some (tells self.new) ≡ is_some (tells self.old) }
+        ensures made { OnOk result (answers self.new ≡ answers self.old + 1) }
+        ensures unmade { OnErr result (answers self.new ≡ answers self.old) }
         ensures faults { hand.new.faults ≡ told_list (fault_told (fault_in result)) ++ hand.old.faults }
         ensures stop { (fault : ℕ) → result ≡ Err (refusal.Stopped fault) → hand.new.stop ≡ Some fault }
         ensures halts { StopsByFault (tells self.old) (tells self.new) (fault_in result) }

@@ -74,6 +74,11 @@ impl<'a, N: Naming, D: Door, L: Ledger> Turns<N> for Direct<'a, N, D, L> {
     fn checkpoint(&mut self, hand: &mut Hand<N>) -> Result<(), StoreFault> {
         self.held.checkpoint(self.table, hand, &mut self.share)
     }
+
+    fn reclaim(&mut self, hand: &mut Hand<N>, dropped: &mut Pool) -> Result<(), StoreFault> {
+        self.held
+            .reclaim(self.table, hand, dropped, &mut self.share)
+    }
 }
 
 /// To a store that threads share, for one call each. It may wait.
@@ -147,5 +152,11 @@ impl<'a, N: Naming, D: Door, L: Ledger, R: Wait> Turns<N> for Locked<'a, N, D, L
         self.held
             .lock(self.rt)
             .checkpoint(self.table, hand, &mut self.share)
+    }
+
+    fn reclaim(&mut self, hand: &mut Hand<N>, dropped: &mut Pool) -> Result<(), StoreFault> {
+        self.held
+            .lock(self.rt)
+            .reclaim(self.table, hand, dropped, &mut self.share)
     }
 }

@@ -1,5 +1,5 @@
 // A request that came to a worker which has its file.
-ghost use Rattle.std.specs.Prelude.{◌≡◌, ◌<◌, ◌≤◌, ◌^◌, IfSome, IsSome, Some, true};
+ghost use Rattle.std.specs.Prelude.{◌≡◌, ◌<◌, ◌≤◌, ◌^◌, IfSome, IsSome, Some, true, is_some};
 ghost use Rattle.std.specs.FinSet as set;
 ghost use Rattle.ufs_baton.specs.Baton.{IsToldSince};
 ghost use Rattle.ufs_file.specs.Hand.{IsEntryOf, IsOf};
@@ -54,6 +54,7 @@ fn serve_asked<N: Naming, T: Turns<N>>(
     ensures born { result.0.born ≡ held.born }
     ensures later { client.seen ≤ result.1.entry.ticket }
     ensures seen { result.1.entry.ticket < result.1.guest.seen }
+    ensures telling { is_some (T.tells door.new) ≡ is_some (T.tells door.old) }
 {
     let by = Actor::Worker(me);
     let number = pool_number(me);
@@ -82,6 +83,7 @@ pub(crate) fn serve_request<N: Naming, T: Turns<N>>(
     ensures few { set.len pool.new ≤ most_at_rest }
     ensures served { (told : Told) × (result.1 ≡ answer.Served told) × IsServedBy N.start.is_visible (T.tells door.old) (T.tells door.new) (Worker me) parcel result.0 pool.old pool.new request.ask told }
     ensures drawn { IsToldSince request.hand.seen result.1 }
+    ensures telling { is_some (T.tells door.new) ≡ is_some (T.tells door.old) }
 {
     let (mut client, ask, _leases_back) = request.into_parts();
     know(table, &mut client, &ask);
@@ -114,6 +116,7 @@ pub(crate) fn serve_in<N: Naming, T: Turns<N>>(
     ensures few { set.len pool.new ≤ most_at_rest }
     ensures served { IfSome place.old (λ c. (d : FileCell) × (told : Told) × (result ≡ answer.Served told) × IsServedBy N.start.is_visible (T.tells door.old) (T.tells door.new) (Worker me) c d pool.old pool.new request.ask told × (place.new ≡ Some d)) }
     ensures drawn { IsToldSince request.hand.seen result }
+    ensures telling { is_some (T.tells door.new) ≡ is_some (T.tells door.old) }
 {
     let Some(parcel) = place.take() else {
         unreachable!()

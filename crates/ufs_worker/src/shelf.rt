@@ -129,6 +129,7 @@ impl<N: Naming> Shelf<N> {
         ensures served { (c : FileCell) → fin.get self.old.files file ≡ Some c → (d : FileCell) × (told : Told) × (result ≡ answer.Served told)
             × IsServedBy N.start.is_visible (T.tells door.old) (T.tells door.new) (Worker me) c d pool.old pool.new request.ask told × (self.new ≡ record self.old { files = fin.insert self.old.files file d }) }
         ensures drawn { IsToldSince request.hand.seen result }
+        ensures telling { is_some (T.tells door.new) ≡ is_some (T.tells door.old) }
     {
         match self.places.get_mut(&file) {
             Some(place) => serve_in(table, place, request, me, pool, right, door),

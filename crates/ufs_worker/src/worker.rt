@@ -43,7 +43,7 @@ impl<N: Naming> Model for Worker<N> {
 }
 
 impl<N: Naming> Worker<N> {
-    ghost use Rattle.std.specs.Prelude.{◌≡◌, ◌≢◌, ◌≤◌, [], None};
+    ghost use Rattle.std.specs.Prelude.{◌≡◌, ◌≢◌, ◌≤◌, [], None, is_some};
     ghost use Rattle.std.specs.FinMap as fin;
     ghost use Rattle.std.specs.FinSet as set;
     ghost use Rattle.ufs_model.specs.declared.data.Actor.TheVariants.{Primary, Worker as worker};
@@ -111,6 +111,7 @@ impl<N: Naming> Worker<N> {
         ensures store { result ≢ turn.Served → T.tells door.new ≡ T.tells door.old }
         // no other turn draws an entry
         ensures seen { result ≢ turn.Served → baton.new ≡ baton.old }
+        ensures telling { is_some (T.tells door.new) ≡ is_some (T.tells door.old) }
     {
         self.send_kept(post);
         match self.take_letter(post) {
@@ -224,6 +225,7 @@ impl<N: Naming> Worker<N> {
         ensures done { IsAskDone Q.answers Q.same Q.answers_full Q.gets_ask Q.asks_empty N.start.is_visible (T.tells door.old) (T.tells door.new) baton.old baton.new self.old self.new post.old post.new result }
         ensures store { result ≢ turn.Served → T.tells door.new ≡ T.tells door.old }
         ensures seen { result ≢ turn.Served → baton.new ≡ baton.old }
+        ensures telling { is_some (T.tells door.new) ≡ is_some (T.tells door.old) }
     {
         if let Err(refused) = self.answers.reserve(1) {
             return WorkerTurn::Memory(Memory::from(refused));

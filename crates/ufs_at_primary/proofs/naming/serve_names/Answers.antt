@@ -4,8 +4,9 @@ use Rattle.std.specs.Ordering.{nat_cmp}
 use Rattle.ufs_bitmap.specs.Blocks.{BlockSet}
 use Rattle.ufs_model.specs.History.{is_excused}
 use Rattle.ufs_held.proofs.Stopping.{read_rests, rests_twice}
+use Rattle.ufs_held_names.proofs.Faultless.{untold_by}
 use Rattle.ufs_serving.proofs.Conserving.{none_lost}
-use Rattle.ufs_at_primary.proofs.NamesTold.{free_still, left_of, untold_by}
+use Rattle.ufs_at_primary.proofs.NamesTold.{free_still, left_of}
 use Rattle.ufs_at_primary.proofs.naming.serve_names.Goals as goal
 
 pub fill-requires : goal.fill-requires
@@ -73,6 +74,7 @@ returns-clause-done g c =
       telling = c.rest.ensures.telling ∙ c.fill.ensures.telling;
       halts = read_rests (tells c.args.door.now) (tells c.rest.new.door) c.serve-entry.result.entry.reply (untold_by c.serve-entry.result.entry.reply e.faultless)
           (rests_twice (tells c.args.door.now) (tells c.fill.new.door) (tells c.rest.new.door) None c.fill.ensures.telling c.fill.ensures.still c.rest.ensures.still);
+      calm = e.faultless;
       names = e.names;
       file = e.file;
       made = e.made;
@@ -100,3 +102,6 @@ returns-clause-seen g c =
     let a = c.serve-entry.ensures.seen in
     let b = c.take_pool-guest.ensures.later in
     omega (arith, a, b)
+
+pub returns-clause-telling : goal.returns-clause-telling
+returns-clause-telling g c = c.rest.ensures.telling ∙ c.fill.ensures.telling

@@ -2,6 +2,7 @@ use Rattle.std.proofs.Common.{inl, inr, refl}
 use Rattle.ufs_at_primary.proofs.NamesTold.{free_still}
 use Rattle.ufs_at_primary.proofs.Births.{bare_pool, births_known, pool_beside, when_ok}
 use Rattle.ufs_held.proofs.Stopping.{stops_still}
+use Rattle.ufs_turns.proofs.Runs.{runs_still}
 use Rattle.ufs_at_primary.proofs.ordering.commit_birth.Goals as goal
 
 pub returns-then-knows_birth-clause-known : goal.returns-then-knows_birth-clause-known
@@ -27,3 +28,6 @@ returns-clause-known g c = when_ok c.commit.result (births_known g.N.Naming.star
 
 pub returns-then-knows_birth-clause-halts : goal.returns-then-knows_birth-clause-halts
 returns-then-knows_birth-clause-halts g c = stops_still (g.T.Turns.tells c.args.door.now)
+
+pub returns-then-knows_birth-clause-ran : goal.returns-then-knows_birth-clause-ran
+returns-then-knows_birth-clause-ran g c = runs_still (g.T.Turns.tells c.args.door.now) 1 1

@@ -9,6 +9,7 @@ use Rattle.ufs_at_primary.proofs.NamesTold.{free_still}
 use Rattle.ufs_at_primary.proofs.Births.{kept_home, told_born}
 use Rattle.ufs_at_primary.proofs.Trials.{back_home, lent_place}
 use Rattle.ufs_held.proofs.Stopping.{stops_still}
+use Rattle.ufs_turns.proofs.Runs.{runs_still}
 use Rattle.ufs_at_primary.proofs.ordering.make_ready.Goals as goal
 
 pub returns-in-Err-clause-unready : goal.returns-in-Err-clause-unready
@@ -58,3 +59,12 @@ returns-in-Err-commit_birth-clause-halts g c = c.in-Err-commit_birth.ensures.hal
 
 pub returns-clause-halts : goal.returns-clause-halts
 returns-clause-halts g c = c.in_default.ensures.halts
+
+pub returns-in-Err-clause-ran : goal.returns-in-Err-clause-ran
+returns-in-Err-clause-ran g c = runs_still (g.T.Turns.tells c.args.door.now) 1 1
+
+pub returns-in-Err-commit_birth-clause-ran : goal.returns-in-Err-commit_birth-clause-ran
+returns-in-Err-commit_birth-clause-ran g c = c.in-Err-commit_birth.ensures.ran
+
+pub returns-clause-ran : goal.returns-clause-ran
+returns-clause-ran g c = c.in_default.ensures.ran

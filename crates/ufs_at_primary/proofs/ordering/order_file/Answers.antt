@@ -4,6 +4,7 @@ use Rattle.ufs_at_primary.proofs.Births.{both_kept, obeyed, sendable, unready}
 use Rattle.ufs_at_primary.proofs.NamesTold.{free_still}
 use Rattle.ufs_at_primary.proofs.Trials.{none_is}
 use Rattle.ufs_held.proofs.Stopping.{stops_still}
+use Rattle.ufs_turns.proofs.Runs.{runs_still}
 use Rattle.ufs_at_primary.proofs.ordering.order_file.Goals as goal
 
 pub order-requires-clause-sendable : goal.order-requires-clause-sendable
@@ -57,3 +58,15 @@ returns-in-Err-clause-halts g c = c.in-Err.ensures.halts
 
 pub returns-clause-halts : goal.returns-clause-halts
 returns-clause-halts g c = c.in_default.ensures.halts
+
+pub returns-then-not-is_to_go-clause-ran : goal.returns-then-not-is_to_go-clause-ran
+returns-then-not-is_to_go-clause-ran g c = runs_still (g.T.Turns.tells c.args.door.now) 1 1
+
+pub returns-then-not-has-clause-ran : goal.returns-then-not-has-clause-ran
+returns-then-not-has-clause-ran g c = runs_still (g.T.Turns.tells c.args.door.now) 1 1
+
+pub returns-in-Err-clause-ran : goal.returns-in-Err-clause-ran
+returns-in-Err-clause-ran g c = c.in-Err.ensures.ran
+
+pub returns-clause-ran : goal.returns-clause-ran
+returns-clause-ran g c = c.in_default.ensures.ran

@@ -25,7 +25,9 @@ use Rattle.ufs_joint.specs.Ready.{IsReady}
 use Rattle.ufs_begin_hands.specs.Mounted.{beginning_of}
 use Rattle.ufs_begin_hands.specs.Seen.{sees}
 use Rattle.ufs_begin_hands.proofs.Domains.{live_here}
-use Rattle.ufs_begin_hands.proofs.Explaining.{clean_explained, is_form, refused_leaves}
+use Rattle.ufs_brink.proofs.Read.{clean_explained}
+use Rattle.ufs_brink.proofs.Refused.{refused_leaves}
+use Rattle.ufs_brink.proofs.Starts.{is_form}
 use Rattle.ufs_begin_hands.proofs.Numbering.{next_is}
 use Rattle.ufs_begin_hands.proofs.Readying.{it_sees, ready, sees_it, with_it}
 use Rattle.ufs_begin_hands.proofs.mounting.mount.Goals as goal

@@ -166,7 +166,7 @@ returns-in-Ok-clause-halts g c =
 pub returns-in-Ok-clause-halted : goal.returns-in-Ok-clause-halted
 returns-in-Ok-clause-halted g c =
     let tells = g.T.Turns.tells c.args.door.now in
-    passed_going ℕ tells c.sync_file.result _ c.draw_reply-entry.result.reply c.in-Ok.is c.sync_file.ensures.halted
+    passed_going ℕ tells c.sync_file.result _ c.draw_reply-entry.result.reply c.in-Ok.is c.sync_file.ensures.halted c.draw_reply-entry.ensures.replied
 
 -- ---- where it fails
 
@@ -268,4 +268,7 @@ returns-in-Err-clause-halts g c =
 pub returns-in-Err-clause-halted : goal.returns-in-Err-clause-halted
 returns-in-Err-clause-halted g c =
     let tells = g.T.Turns.tells c.args.door.now in
-    failed_halted ℕ tells c.sync_file.result c.in-Err.fault c.excuse_of-cause.result c.serve_excused.result.entry.reply c.in-Err.is c.sync_file.ensures.halted c.excuse_of-cause.ensures.halted c.serve_excused.ensures.replied
+    let told = g.T.Turns.tells c.sync_file.new.self in
+    let t = c.sync_file.ensures in
+    let x = c.excuse_of-cause.ensures in
+    failed_halted ℕ tells told c.sync_file.result c.in-Err.fault c.excuse_of-cause.result c.serve_excused.result.entry.reply c.in-Err.is t.halted t.stopped t.telling t.halts x.halted x.stopped c.serve_excused.ensures.replied

@@ -52,7 +52,7 @@ returns-in-Ok-clause-synced g c =
       free = m.free;
       telling = m.telling;
       halts = done_stops tells told 1 1 r a.replied (subst (λ (q : Result (Unit {0}) StoreFault). StopsByFault tells told (fault_in q)) c.in-Ok.is m.halts) (subst (λ (q : Result (Unit {0}) StoreFault). Runs tells told (fault_in q) 1 1) c.in-Ok.is m.ran);
-      halted = passed_going (Unit {0}) tells c.commit_lent.result tt r c.in-Ok.is m.halted;
+      halted = passed_going (Unit {0}) tells c.commit_lent.result tt r c.in-Ok.is m.halted a.replied;
       later = let p = m.beside.seen in let q = a.later in omega (arith, p, q);
       seen = a.seen;
     }
@@ -94,7 +94,7 @@ returns-in-Err-clause-synced g c =
       free = m.free;
       telling = m.telling;
       halts = failed_stops tells told 1 1 r cause (fault_of c.in-Err.fault) a.replied e.used (subst (λ (q : Result (Unit {0}) StoreFault). StopsByFault tells told (fault_in q)) c.in-Err.is m.halts) (subst (λ (q : Result (Unit {0}) StoreFault). Runs tells told (fault_in q) 1 1) c.in-Err.is m.ran);
-      halted = failed_halted (Unit {0}) tells c.commit_lent.result c.in-Err.fault cause r c.in-Err.is m.halted e.halted a.replied;
+      halted = failed_halted (Unit {0}) tells told c.commit_lent.result c.in-Err.fault cause r c.in-Err.is m.halted m.stopped m.telling m.halts e.halted e.stopped a.replied;
       later = let p = m.beside.seen in let q = a.later in omega (arith, p, q);
       seen = a.seen;
     }

@@ -73,7 +73,7 @@ returns-in-Ok-clause-synced g c =
       stop = λ fault is. absurd (not_done r (excuse.Stopped fault) is a.replied);
       telling = m.telling;
       halts = done_stops tells told (1 + length c.args.files.now) (1 + length c.args.files.now) r a.replied (subst (λ (q : Result (Unit {0}) StoreFault). StopsByFault tells told (fault_in q)) c.in-Ok.is m.halts) (subst (λ (q : Result (Unit {0}) StoreFault). Runs tells told (fault_in q) (1 + length c.args.files.now) (1 + length c.args.files.now)) c.in-Ok.is m.ran);
-      halted = passed_going (Unit {0}) tells c.commit_all.result tt r c.in-Ok.is m.halted;
+      halted = passed_going (Unit {0}) tells c.commit_all.result tt r c.in-Ok.is m.halted a.replied;
       later = let p = m.beside.seen in let q = a.later in omega (arith, p, q);
       seen = a.seen;
     }
@@ -132,7 +132,7 @@ returns-in-Err-clause-synced g c =
       stop = λ fault is. a.stop fault (m.stop fault (c.in-Err.is ∙ ap Err (e.stopped fault (one_excuse r cause (excuse.Stopped fault) a.replied is))));
       telling = m.telling;
       halts = failed_stops tells told (1 + length c.args.files.now) (1 + length c.args.files.now) r cause (fault_of c.in-Err.fault) a.replied e.used (subst (λ (q : Result (Unit {0}) StoreFault). StopsByFault tells told (fault_in q)) c.in-Err.is m.halts) (subst (λ (q : Result (Unit {0}) StoreFault). Runs tells told (fault_in q) (1 + length c.args.files.now) (1 + length c.args.files.now)) c.in-Err.is m.ran);
-      halted = failed_halted (Unit {0}) tells c.commit_all.result c.in-Err.fault cause r c.in-Err.is m.halted e.halted a.replied;
+      halted = failed_halted (Unit {0}) tells told c.commit_all.result c.in-Err.fault cause r c.in-Err.is m.halted m.stopped m.telling m.halts e.halted e.stopped a.replied;
       later = let p = m.beside.seen in let q = a.later in omega (arith, p, q);
       seen = a.seen;
     }

@@ -16,7 +16,7 @@ use Rattle.ufs_turns.proofs.Runs.{runs_more}
 use Rattle.ufs_turns.specs.Told.{fault_told, told_list}
 use Rattle.ufs_held.specs.Asking.{IsGuest, IsSyncReply}
 use Rattle.ufs_held.proofs.Excusing.{not_done, one_excuse, told_alone}
-use Rattle.ufs_held.proofs.Stopping.{failed_halted, failed_stops, passed_going, reply_twice}
+use Rattle.ufs_held.proofs.Stopping.{failed_halted, failed_stops, passed_then, reply_twice}
 use Rattle.ufs_noted.specs.Noted.{Noted}
 use Rattle.ufs_held_names.specs.HeldNames.{AreCommitted, first_names}
 use Rattle.ufs_held_names.proofs.After.{kept_noted}
@@ -68,7 +68,7 @@ returns-in-Ok-clause-synced g c =
       unfreed = λ is. told_twice (g.T.Turns.tells c.args.door.now) (g.T.Turns.tells c.commit_lent.new.door) (g.T.Turns.tells c.sync_born.new.door) (λ had has. has ≡ had) m.telling m.free (t.unfreed is);
       telling = t.telling ∙ m.telling;
       halts = reply_twice tells mid told 1 1 1 1 c.sync_born.result.entry.reply m.telling (subst (λ (q : Result (Unit {0}) StoreFault). StopsByFault tells mid (fault_in q)) c.in-Ok.is m.halts) (subst (λ (q : Result (Unit {0}) StoreFault). Runs tells mid (fault_in q) 1 1) c.in-Ok.is m.ran) t.halts;
-      halted = passed_going (Unit {0}) tells c.commit_lent.result tt c.sync_born.result.entry.reply c.in-Ok.is m.halted;
+      halted = passed_then (Unit {0}) tells mid c.commit_lent.result tt c.sync_born.result.entry.reply c.in-Ok.is m.halted m.telling (subst (λ (q : Result (Unit {0}) StoreFault). StopsByFault tells mid (fault_in q)) c.in-Ok.is m.halts) t.halted;
       later = let a = m.beside.seen in let b = t.later in omega (arith, a, b);
       seen = t.seen;
     }
@@ -121,7 +121,7 @@ returns-in-Err-clause-synced g c =
       telling = m.telling;
       halts = failed_stops tells told 2 2 r cause (fault_of c.in-Err.fault) e.replied x.used (subst (λ (q : Result (Unit {0}) StoreFault). StopsByFault tells told (fault_in q)) c.in-Err.is m.halts)
           (runs_more tells told (fault_of c.in-Err.fault) 1 1 2 2 (omega arith) (omega arith) (subst (λ (q : Result (Unit {0}) StoreFault). Runs tells told (fault_in q) 1 1) c.in-Err.is m.ran));
-      halted = failed_halted (Unit {0}) tells c.commit_lent.result c.in-Err.fault cause r c.in-Err.is m.halted x.halted e.replied;
+      halted = failed_halted (Unit {0}) tells told c.commit_lent.result c.in-Err.fault cause r c.in-Err.is m.halted m.stopped m.telling m.halts x.halted x.stopped e.replied;
       later = let a = m.beside.seen in let b = e.later in omega (arith, a, b);
       seen = e.seen;
     }

@@ -45,6 +45,7 @@ returns-clause-tried g c =
       unfreed = s.unfreed;
       telling = s.telling;
       halts = s.halts;
+      halted = s.halted;
       later = s.later;
       seen = s.seen;
     }

@@ -4,6 +4,7 @@ use Rattle.ufs_hand_laws.specs.Owned.{count}
 use Rattle.ufs_home.specs.Home.{HomeState}
 use Rattle.ufs_home.specs.Lending.{files_in}
 use Rattle.ufs_home.specs.Places.{file_here}
+use Rattle.ufs_rounds.proofs.Playing.{not_well}
 use Rattle.ufs_rounds.proofs.Together.{counted, files_too}
 use Rattle.ufs_rounds.proofs.ending.finish_rest.Goals as goal
 
@@ -32,3 +33,6 @@ leave-requires-clause-back g c =
         files_back = λ file live. c.join_all.ensures.each file (subst (λ (h : HomeState). IsSome (file_here h.places file)) (sym c.in-Err.ensures.kept) (b.files_here file live));
       },
     )
+
+pub returns-in-Err-clause-raised : goal.returns-in-Err-clause-raised
+returns-in-Err-clause-raised g c visible = not_well c.leave.result.ended _ c.leave.ensures.open

@@ -16,6 +16,7 @@ returns g c =
         quiet = (λ i. (r.1 i).items, same_rings _ _ r.0, same_rings _ _ r.2);
         mine = c.turn_of_server.ensures.turn.0;
         goes = primary_turn rings_in g.N.Naming.start (t.tells c.args.door.now) (t.tells c.poll.new.door) c.args.baton.now c.poll.new.baton c.args.primary.now c.poll.new.self c.turn_of_server.new.self c.poll.new.post c.poll.result c.poll.ensures.turn;
+        telling = c.poll.ensures.telling;
         store = c.poll.ensures.store;
         seen = c.poll.ensures.seen;
       };

@@ -25,6 +25,7 @@ returns-clause-turn g c =
       behind = omega (arith, there, is);
       goes = worker_goes rings_in g.N.Naming.start.is_visible (t.tells c.args.door.now) (t.tells c.poll_worker.new.door) c.args.baton.now c.poll_worker.new.baton c.turn_of_server.new.self c.poll_worker.new.post c.poll_worker.result c.args.workers.now.items c.poll_worker.new.workers.items (c.from.result - 1)
           c.poll_worker.ensures.turn;
+      telling = c.poll_worker.ensures.telling;
       store = c.poll_worker.ensures.store;
       seen = c.poll_worker.ensures.seen;
     }

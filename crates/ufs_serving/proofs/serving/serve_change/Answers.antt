@@ -154,3 +154,6 @@ returns-clause-seen g c =
     let a = c.serve-entry.ensures.seen in
     let b = c.take_pool-guest.ensures.later in
     omega (arith, a, b)
+
+pub returns-clause-telling : goal.returns-clause-telling
+returns-clause-telling g c = c.rest.ensures.telling ∙ c.serve-entry.ensures.telling ∙ c.fill.ensures.telling

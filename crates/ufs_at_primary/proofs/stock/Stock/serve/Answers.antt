@@ -9,7 +9,7 @@ use Rattle.ufs_at_primary.specs.Kinds.{IsByNames, IsKind, IsOnFile, IsOnNone}
 use Rattle.ufs_at_primary.specs.Stock.{StockState, stock_of}
 use Rattle.ufs_at_primary.specs.Served.{IsTried, IsTriedSince, OnNone}
 use Rattle.ufs_at_primary.specs.declared.tried.Tried.TheVariants as tried
-use Rattle.ufs_at_primary.proofs.AtHome.{here_tried}
+use Rattle.ufs_at_primary.proofs.Outcomes.{as_found}
 use Rattle.ufs_at_primary.proofs.stock.Stock.serve.Goals as goal
 
 pub serve_on_file-requires-clause-kind : goal.serve_on_file-requires-clause-kind
@@ -64,8 +64,11 @@ returns-in-OnNone-clause-tried g c =
     let f = c.self.inside in
     let k = subst (IsKind c.args.request.ask) c.in-OnNone.is c.kind_asked-request.ensures.kind in
     let s = subst (λ (q : Asked). (told : Told) × (c.serve_dir.result ≡ answer.Served told) × IsDirServed g.N.Naming.start.is_visible (g.T.Turns.tells c.args.door.now) (g.T.Turns.tells c.serve_dir.new.door) f.names c.serve_dir.new.names q.ask told) c.kind_asked-request.ensures.same c.serve_dir.ensures.served in
-    subst (λ (x : StockState). IsTried g.N.Naming.start.is_visible (g.T.Turns.tells c.args.door.now) (g.T.Turns.tells c.serve_dir.new.door) x (stock_of c.serve_dir.new.names f.home f.pool) c.args.request (tried.Answered c.serve_dir.result)) c.self.view_is
-    (s.0, s.1, OnNone (record { kind = k; served = s.2; rest = refl }))
+    let before = g.T.Turns.tells c.args.door.now in
+    let after = g.T.Turns.tells c.serve_dir.new.door in
+    let t = stock_of c.serve_dir.new.names f.home f.pool in
+    subst (λ (x : StockState). IsTried g.N.Naming.start.is_visible before after x t c.args.request (tried.Answered c.serve_dir.result)) c.self.view_is
+    (as_found g.N.Naming.start.is_visible before after (stock_of f.names f.home f.pool) t c.args.request c.serve_dir.result (s.0, s.1, OnNone (record { kind = k; served = s.2; rest = refl })))
 
 pub returns-in-OnFile-clause-drawn : goal.returns-in-OnFile-clause-drawn
 returns-in-OnFile-clause-drawn g c = subst (λ (q : Asked). IsTriedSince q.hand.seen c.serve_on_file.result) c.kind_asked-request.ensures.same c.serve_on_file.ensures.drawn

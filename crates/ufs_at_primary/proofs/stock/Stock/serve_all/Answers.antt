@@ -3,9 +3,8 @@ use Rattle.ufs_owner.specs.Owners.{owner_at}
 use Rattle.ufs_owner.specs.declared.owner.Owner.TheVariants as owner
 use Rattle.ufs_at_primary.specs.Served.{OfAll}
 use Rattle.ufs_at_primary.specs.Stock.{StockState, stock_of}
-use Rattle.ufs_at_primary.specs.declared.tried.Tried.TheVariants as tried
-use Rattle.ufs_at_primary.proofs.AtHome.{here_tried}
-use Rattle.ufs_at_primary.proofs.Outcomes.{on_all, tried_from}
+use Rattle.ufs_at_primary.proofs.AtHome.{here_answered}
+use Rattle.ufs_at_primary.proofs.Outcomes.{answered_from, as_found, on_all}
 use Rattle.ufs_at_primary.proofs.Trials.{away_still, same_still}
 use Rattle.ufs_at_primary.proofs.stock.Stock.serve_all.Goals as goal
 
@@ -20,7 +19,8 @@ returns-in-Err-clause-tried g c =
     let f = c.self.inside in
     let tells = g.T.Turns.tells c.args.door.now in
     let t = stock_of f.names c.lend_all.new.self f.pool in
-    tried_from g.N.Naming.start.is_visible tells tells t c.args.self.now t c.args.request c.lacking.result ((λ i. stock_of f.names (c.in-Err.ensures.kept i) f.pool) ∙ c.self.view_is) (c.lacking.ensures.tried g.N.Naming.start.is_visible tells f.names f.pool)
+    as_found g.N.Naming.start.is_visible tells tells c.args.self.now t c.args.request c.lacking.result
+    (answered_from g.N.Naming.start.is_visible tells tells t c.args.self.now t c.args.request c.lacking.result ((λ i. stock_of f.names (c.in-Err.ensures.kept i) f.pool) ∙ c.self.view_is) (c.lacking.ensures.answered g.N.Naming.start.is_visible tells f.names f.pool))
 
 pub sync_lent-answer-requires-clause-pool : goal.sync_lent-answer-requires-clause-pool
 sync_lent-answer-requires-clause-pool g c = (c.self.inside.pool, c.self.invariant.hand)
@@ -49,9 +49,10 @@ returns-clause-tried g c =
     let after = g.T.Turns.tells e.new.door in
     let lent = c.in-Ok.ensures.lent in
     let away = lent.away in
-    tried_from g.N.Naming.start.is_visible before after (stock_of f.names f.home f.pool) c.args.self.now (stock_of e.new.names c.put_back_all.new.self f.pool) c.args.request (tried.Answered e.result) c.self.view_is
+    as_found g.N.Naming.start.is_visible before after c.args.self.now (stock_of e.new.names c.put_back_all.new.self f.pool) c.args.request e.result
+    (answered_from g.N.Naming.start.is_visible before after (stock_of f.names f.home f.pool) c.args.self.now (stock_of e.new.names c.put_back_all.new.self f.pool) c.args.request e.result c.self.view_is
     (on_all g.N.Naming.start.is_visible before after f.names e.new.names f.pool f.pool c.args.request e.result f.home c.lend_all.new.self c.put_back_all.new.self c.in-Ok.files.items e.new.files.items c.requires.sync lent
-    (record { live = λ n is. c.in-Ok.ensures.all n (c.self.invariant.here n is (c.no_file_is_out.ensures f.home.owners n c.in_default.ensures)); once = away.once }) c.in-Ok.ensures.rest c.put_back_all.ensures refl e.ensures.served)
+    (record { live = λ n is. c.in-Ok.ensures.all n (c.self.invariant.here n is (c.no_file_is_out.ensures f.home.owners n c.in_default.ensures)); once = away.once }) c.in-Ok.ensures.rest c.put_back_all.ensures refl e.ensures.served))
 
 pub invariant_of-self-2 : goal.invariant_of-self-2
 invariant_of-self-2 g c =
@@ -68,7 +69,7 @@ invariant_of-self-2 g c =
       numbers = h.numbers;
       hand = e.ensures.pool f.pool h.hand;
       few = h.few;
-      here = here_tried g.N.Naming.start.is_visible before after (stock_of f.names f.home f.pool) (stock_of e.new.names c.put_back_all.new.self f.pool) h.here c.args.request (tried.Answered e.result)
+      here = here_answered g.N.Naming.start.is_visible before after (stock_of f.names f.home f.pool) (stock_of e.new.names c.put_back_all.new.self f.pool) h.here c.args.request e.result
           (on_all g.N.Naming.start.is_visible before after f.names e.new.names f.pool f.pool c.args.request e.result f.home c.lend_all.new.self c.put_back_all.new.self c.in-Ok.files.items e.new.files.items c.requires.sync lent
           (record { live = λ n is. c.in-Ok.ensures.all n (h.here n is (c.no_file_is_out.ensures f.home.owners n c.in_default.ensures)); once = away.once }) c.in-Ok.ensures.rest c.put_back_all.ensures refl e.ensures.served);
     }

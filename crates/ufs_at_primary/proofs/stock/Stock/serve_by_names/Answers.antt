@@ -1,4 +1,4 @@
-use Rattle.std.proofs.Common.{◌≡◌, ◌<◌, ◌^◌, ℕ, Some, ap, arith, refl, sym, subst, ◌∙◌, ◌≤◌}
+use Rattle.std.proofs.Common.{◌≡◌, ◌<◌, ◌^◌, ℕ, true, false, Some, ap, arith, refl, sym, subst, ◌∙◌, ◌≤◌}
 use Rattle.std.specs.Prelude.{IfOk, IfSome, IsSome}
 use Rattle.std.specs.FinMap as fin
 use Rattle.ufs_held_names.specs.Asked.{IsNeeded}
@@ -7,12 +7,14 @@ use Rattle.ufs_joint.specs.Cells.{NamesCell}
 use Rattle.ufs_model.specs.declared.data.Ask.{Ask}
 use Rattle.ufs_msg.specs.Requests.{Asked}
 use Rattle.ufs_at_primary.specs.Kinds.{IsByNames}
-use Rattle.ufs_at_primary.specs.Served.{IsAway, IsStill, OfNames}
+use Rattle.ufs_at_primary.specs.Room.{IsRoomMade}
+use Rattle.ufs_at_primary.specs.Served.{IsAway, IsStill, Lacked, OfNames}
 use Rattle.ufs_at_primary.specs.Stock.{AreHere, StockState, stock_of}
 use Rattle.ufs_at_primary.specs.declared.tried.Tried.TheVariants as tried
-use Rattle.ufs_at_primary.proofs.AtHome.{here_tried}
-use Rattle.ufs_at_primary.proofs.Outcomes.{tried_from}
-use Rattle.ufs_at_primary.proofs.Trials.{is_out, since_before, tried_as}
+use Rattle.ufs_at_primary.proofs.AtHome.{still_tidied}
+use Rattle.ufs_at_primary.proofs.Outcomes.{answered_as, answered_from, as_found, in_room}
+use Rattle.ufs_at_primary.proofs.Rooms.{below_still, needed_here, needed_still, next_still}
+use Rattle.ufs_at_primary.proofs.Trials.{is_out, since_before}
 use Rattle.ufs_at_primary.proofs.stock.Stock.serve_by_names.Goals as goal
 
 pub see_request-request-requires : goal.see_request-request-requires
@@ -39,8 +41,9 @@ returns-in-Err-clause-tried g c =
     let visible = g.N.Naming.start.is_visible in
     let tells = g.T.Turns.tells c.args.door.now in
     let t = stock_of e.new.names f.home f.pool in
-    tried_as visible tells tells c.args.self.now t c.args.request q.result.0 c.lacking.result (subst (IsStill c.args.request) (sym q.ensures.same) e.ensures.still) c.requires.kind
-    (tried_from visible tells tells t c.args.self.now t q.result.0 c.lacking.result ((λ i. stock_of (e.ensures.names i) f.home f.pool) ∙ c.self.view_is) (c.lacking.ensures.tried visible tells e.new.names f.pool))
+    as_found visible tells tells c.args.self.now t c.args.request c.lacking.result
+    (answered_as visible tells tells c.args.self.now t c.args.request q.result.0 c.lacking.result (subst (IsStill c.args.request) (sym q.ensures.same) e.ensures.still)
+    (answered_from visible tells tells t c.args.self.now t q.result.0 c.lacking.result ((λ i. stock_of (e.ensures.names i) f.home f.pool) ∙ c.self.view_is) (c.lacking.ensures.answered visible tells e.new.names f.pool)))
 
 pub invariant_of-self-in-Some : goal.invariant_of-self-in-Some
 invariant_of-self-in-Some g c =
@@ -69,8 +72,48 @@ pub serve_touching-requires-clause-needed : goal.serve_touching-requires-clause-
 serve_touching-requires-clause-needed g c =
     let e = c.see_request-request in
     let q = c.ask_needed-request in
+    let room = c.make_room.ensures.made in
     let found = subst (λ x. IfOk x (IsNeeded e.new.names.value e.result.ask)) c.in-Ok.is q.ensures.needed in
-    subst (λ (r : Asked). IsNeeded e.new.names.value r.ask c.in-Ok.needed) (sym q.ensures.same) found
+    subst (λ (r : Asked). IsNeeded c.make_room.new.self.names.value r.ask c.in-Ok.needed) (sym q.ensures.same)
+    (needed_still c.notes_are_beside.ensures g.N.Naming.start.is_visible e.new.names c.make_room.new.self.names e.result.ask c.in-Ok.needed room.names found)
+
+pub serve_touching-requires-clause-here : goal.serve_touching-requires-clause-here
+serve_touching-requires-clause-here g c =
+    let s = stock_of c.see_request-request.new.names c.self.inside.home c.self.inside.pool in
+    needed_here c.in-Ok.needed c.self.inside.home.places c.make_room.new.self.home.places
+    (still_tidied 1 g.N.Naming.start.is_visible (g.T.Turns.tells c.args.door.now) (g.T.Turns.tells c.make_room.new.door) s c.make_room.new.self c.make_room.ensures.made) c.in_default.ensures.here
+
+pub serve_touching-requires-clause-below : goal.serve_touching-requires-clause-below
+serve_touching-requires-clause-below g c =
+    let e = c.see_request-request in
+    let room = c.make_room.ensures.made in
+    let below = subst (λ (n : NamesCell). (file : ℕ) → IsSome (fin.get n.value.held file) → file < n.value.next) (sym e.ensures.names) e.ensures.below in
+    below_still g.N.Naming.start.is_visible e.new.names c.make_room.new.self.names room.names below
+
+pub serve_touching-requires-clause-low : goal.serve_touching-requires-clause-low
+serve_touching-requires-clause-low g c =
+    let e = c.see_request-request in
+    let room = c.make_room.ensures.made in
+    let same = next_still g.N.Naming.start.is_visible e.new.names c.make_room.new.self.names room.names ∙ ap (λ (n : NamesCell). n.value.next) e.ensures.names in
+    let few = e.ensures.few in
+    let numbers = c.self.invariant.numbers in
+    omega (arith, same, few, numbers)
+
+pub returns-in-Err-make_room-clause-tried : goal.returns-in-Err-make_room-clause-tried
+returns-in-Err-make_room-clause-tried g c =
+    let f = c.self.inside in
+    let e = c.see_request-request in
+    let q = c.ask_needed-request in
+    let m = c.make_room.new.self in
+    let t = c.excuse.new.self in
+    let x = c.excuse.ensures.excused in
+    let visible = g.N.Naming.start.is_visible in
+    let before = g.T.Turns.tells c.args.door.now in
+    let after = g.T.Turns.tells c.make_room.new.door in
+    let s = stock_of e.new.names f.home f.pool in
+    let room = subst (λ (y : StockState). IsRoomMade visible before after y m) ((λ i. stock_of (e.ensures.names i) f.home f.pool) ∙ c.self.view_is) c.make_room.ensures.made in
+    in_room visible before after after c.args.self.now m t c.args.request c.excuse.result room (λ commits. absurd (let k = c.requires.kind in let clash : true ≡ false = sym commits ∙ k.no_commit in cc))
+    (answered_as visible after after m t c.args.request q.result.0 c.excuse.result (subst (IsStill c.args.request) (sym q.ensures.same) e.ensures.still) (x.0, x.1, Lacked (record { excused = x.2; rest = c.excuse.ensures.rest; store = refl })))
 
 pub returns-clause-tried : goal.returns-clause-tried
 returns-clause-tried g c =
@@ -78,11 +121,20 @@ returns-clause-tried g c =
     let e = c.see_request-request in
     let q = c.ask_needed-request in
     let x = c.serve_touching in
+    let m = c.make_room.new.self in
     let visible = g.N.Naming.start.is_visible in
     let before = g.T.Turns.tells c.args.door.now in
+    let mid = g.T.Turns.tells c.make_room.new.door in
     let after = g.T.Turns.tells x.new.door in
-    tried_as visible before after c.args.self.now x.new.self c.args.request q.result.0 x.result (subst (IsStill c.args.request) (sym q.ensures.same) e.ensures.still) c.requires.kind
-    (tried_from visible before after (stock_of e.new.names f.home f.pool) c.args.self.now x.new.self q.result.0 x.result ((λ i. stock_of (e.ensures.names i) f.home f.pool) ∙ c.self.view_is) x.ensures.tried)
+    let room = subst (λ (y : StockState). IsRoomMade visible before mid y m) ((λ i. stock_of (e.ensures.names i) f.home f.pool) ∙ c.self.view_is) c.make_room.ensures.made in
+    in_room visible before mid after c.args.self.now m x.new.self c.args.request x.result room (λ commits. absurd (let k = c.requires.kind in let clash : true ≡ false = sym commits ∙ k.no_commit in cc))
+    (answered_as visible mid after m x.new.self c.args.request q.result.0 x.result (subst (IsStill c.args.request) (sym q.ensures.same) e.ensures.still) x.ensures.answered)
+
+pub returns-in-Err-make_room-clause-telling : goal.returns-in-Err-make_room-clause-telling
+returns-in-Err-make_room-clause-telling g c = (let made = c.make_room.ensures.made in made.telling)
+
+pub returns-clause-telling : goal.returns-clause-telling
+returns-clause-telling g c = (let made = c.make_room.ensures.made in c.serve_touching.ensures.telling ∙ made.telling)
 
 -- what the request's hand has seen once it was seen by the names
 seen_then : (s q : Asked) (since : ℕ) → q ≡ s → since ≤ s.hand.seen → since ≤ q.hand.seen
@@ -92,7 +144,7 @@ pub returns-in-Err-clause-drawn : goal.returns-in-Err-clause-drawn
 returns-in-Err-clause-drawn g c =
     let e = c.see_request-request in
     let q = c.ask_needed-request in
-    since_before c.lacking.result c.args.request.hand.seen q.result.0.hand.seen (seen_then e.result q.result.0 c.args.request.hand.seen q.ensures.same e.ensures.later) c.lacking.ensures.drawn
+    since_before (tried.Answered c.lacking.result) c.args.request.hand.seen q.result.0.hand.seen (seen_then e.result q.result.0 c.args.request.hand.seen q.ensures.same e.ensures.later) c.lacking.ensures.drawn
 
 pub returns-in-Some-clause-drawn : goal.returns-in-Some-clause-drawn
 returns-in-Some-clause-drawn g c =
@@ -104,4 +156,10 @@ pub returns-clause-drawn : goal.returns-clause-drawn
 returns-clause-drawn g c =
     let e = c.see_request-request in
     let q = c.ask_needed-request in
-    since_before c.serve_touching.result c.args.request.hand.seen q.result.0.hand.seen (seen_then e.result q.result.0 c.args.request.hand.seen q.ensures.same e.ensures.later) c.serve_touching.ensures.drawn
+    since_before (tried.Answered c.serve_touching.result) c.args.request.hand.seen q.result.0.hand.seen (seen_then e.result q.result.0 c.args.request.hand.seen q.ensures.same e.ensures.later) c.serve_touching.ensures.drawn
+
+pub returns-in-Err-make_room-clause-drawn : goal.returns-in-Err-make_room-clause-drawn
+returns-in-Err-make_room-clause-drawn g c =
+    let e = c.see_request-request in
+    let q = c.ask_needed-request in
+    since_before (tried.Answered c.excuse.result) c.args.request.hand.seen q.result.0.hand.seen (seen_then e.result q.result.0 c.args.request.hand.seen q.ensures.same e.ensures.later) c.excuse.ensures.drawn

@@ -1,16 +1,15 @@
-use Rattle.std.proofs.Common.{◌≡◌, ◌<◌, ◌^◌, ℕ, None, ap, refl, sym, subst, ◌∙◌}
-use Rattle.std.specs.FinMap as fin
-use Rattle.ufs_file.specs.Hand.{IsOf}
-use Rattle.ufs_home.specs.Home.{HomeState}
+use Rattle.std.proofs.Common.{◌≡◌, None, sym, subst, ◌∙◌}
+use Rattle.std.specs.Prelude.{IsSome}
+use Rattle.ufs_baton.specs.Baton.{IsToldSince}
 use Rattle.ufs_home.specs.Places.{file_here}
-use Rattle.ufs_msg.specs.Answers.{Told}
-use Rattle.ufs_msg.specs.declared.answer.Answer.TheVariants as says
-use Rattle.ufs_at_primary.specs.Served.{IsServed, IsTried, OnFile}
-use Rattle.ufs_at_primary.specs.Stock.{AreHere, StockState, stock_of}
-use Rattle.ufs_at_primary.specs.declared.tried.Tried.TheVariants as tried
-use Rattle.ufs_at_primary.proofs.AtHome.{here_tried}
-use Rattle.ufs_at_primary.proofs.Outcomes.{on_file, tried_from}
-use Rattle.ufs_at_primary.proofs.Trials.{lent_place, none_is, of_file}
+use Rattle.ufs_msg.specs.Requests.{Asked}
+use Rattle.ufs_at_primary.specs.Kinds.{IsOnFile}
+use Rattle.ufs_at_primary.specs.Served.{IsAnsweredHere}
+use Rattle.ufs_at_primary.specs.Stock.{StockState}
+use Rattle.ufs_at_primary.proofs.AtHome.{still_tidied}
+use Rattle.ufs_at_primary.proofs.Outcomes.{in_room}
+use Rattle.ufs_at_primary.proofs.Rooms.{tidied_more}
+use Rattle.ufs_at_primary.proofs.Trials.{none_is}
 use Rattle.ufs_at_primary.proofs.stock.Stock.serve_on_file.Goals as goal
 
 pub send_on-requires-clause-away : goal.send_on-requires-clause-away
@@ -19,67 +18,34 @@ send_on-requires-clause-away g c = subst (λ (s : StockState). file_here s.home.
 pub returns-then-not-has-clause-tried : goal.returns-then-not-has-clause-tried
 returns-then-not-has-clause-tried g c = c.send_on.ensures.tried g.N.Naming.start.is_visible (g.T.Turns.tells c.args.door.now)
 
-pub lend-requires : goal.lend-requires
-lend-requires g c = sym c.has.ensures ∙ c.if-not-has.false
+pub measure-request-requires : goal.measure-request-requires
+measure-request-requires g c = record { here = subst (λ (s : StockState). IsSome (file_here s.home.places c.args.file)) c.self.view_is (sym c.has.ensures ∙ c.if-not-has.false) }
 
-pub lacking-requires : goal.lacking-requires
-lacking-requires g c = record { pool = (c.self.inside.pool, c.self.invariant.hand) }
+pub serve_at_hand-requires-clause-kind : goal.serve_at_hand-requires-clause-kind
+serve_at_hand-requires-clause-kind g c = subst (λ (q : Asked). IsOnFile q.ask c.args.file) (sym c.measure-request.ensures.request) c.requires.kind
 
-pub serve_here-held-requires-clause-on_file : goal.serve_here-held-requires-clause-on_file
-serve_here-held-requires-clause-on_file g c = let k = c.requires.kind in k.kind
-
-pub serve_here-held-requires-clause-named : goal.serve_here-held-requires-clause-named
-serve_here-held-requires-clause-named g c =
-    let k = c.requires.kind in
-    subst (IsOf c.args.request.ask.desc) (sym c.in-Ok.ensures.number) (of_file c.args.request.ask.desc c.args.file k.of)
-
-pub put_back-requires-clause-empty : goal.put_back-requires-clause-empty
-put_back-requires-clause-empty g c =
-    let s = c.serve_here-held.ensures.served in
-    let here = s.2 in
-    ap (fin.get c.lend.new.self.places) (here.number ∙ c.in-Ok.ensures.number) ∙ lent_place c.self.inside.home c.lend.new.self c.args.file c.in-Ok.ensures.lent
-
-pub put_back-requires-clause-low : goal.put_back-requires-clause-low
-put_back-requires-clause-low g c =
-    let s = c.serve_here-held.ensures.served in
-    let here = s.2 in
-    subst (λ (n : ℕ). n < 2 ^ 31) (sym here.number) c.in-Ok.ensures.low
-
-pub returns-in-Err-clause-tried : goal.returns-in-Err-clause-tried
-returns-in-Err-clause-tried g c =
-    let f = c.self.inside in
-    let tells = g.T.Turns.tells c.args.door.now in
-    let t = stock_of f.names c.lend.new.self f.pool in
-    tried_from g.N.Naming.start.is_visible tells tells t c.args.self.now t c.args.request c.lacking.result ((λ i. stock_of f.names (c.in-Err.ensures.kept i) f.pool) ∙ c.self.view_is) (c.lacking.ensures.tried g.N.Naming.start.is_visible tells f.names f.pool)
+pub serve_at_hand-requires-clause-here : goal.serve_at_hand-requires-clause-here
+serve_at_hand-requires-clause-here g c =
+    let here = subst (λ (s : StockState). IsSome (file_here s.home.places c.args.file)) (c.self.view_is ∙ sym c.measure-request.ensures.same) (sym c.has.ensures ∙ c.if-not-has.false) in
+    still_tidied 0 g.N.Naming.start.is_visible (g.T.Turns.tells c.args.door.now) (g.T.Turns.tells c.make_space.new.door) c.measure-request.new.self c.make_space.new.self c.make_space.ensures.made c.args.file here
 
 pub returns-clause-tried : goal.returns-clause-tried
 returns-clause-tried g c =
-    let f = c.self.inside in
-    let e = c.serve_here-held in
+    let visible = g.N.Naming.start.is_visible in
     let before = g.T.Turns.tells c.args.door.now in
-    let after = g.T.Turns.tells e.new.door in
-    tried_from g.N.Naming.start.is_visible before after (stock_of f.names f.home f.pool) c.args.self.now (stock_of e.new.names c.put_back.new.self e.new.pool) c.args.request (tried.Answered e.result.1) c.self.view_is
-    (on_file g.N.Naming.start.is_visible before after f.names e.new.names f.pool e.new.pool c.args.request e.result.1 f.home c.lend.new.self c.put_back.new.self c.args.file c.in-Ok.held e.result.0 c.requires.kind c.in-Ok.ensures.file c.in-Ok.ensures.number c.in-Ok.ensures.lent c.put_back.ensures e.ensures.served)
+    let mid = g.T.Turns.tells c.make_space.new.door in
+    let after = g.T.Turns.tells c.serve_at_hand.new.door in
+    let m = c.make_space.new.self in
+    let t = c.serve_at_hand.new.self in
+    let a = c.serve_at_hand.result in
+    in_room visible before mid after c.args.self.now m t c.args.request a (tidied_more visible before mid c.measure-request.new.self c.args.self.now m c.measure-request.ensures.same c.make_space.ensures.made)
+    (λ commits.
+    let none = c.make_space.ensures.spared (c.measure-request.ensures.none commits) in
+    (none.0 ∙ c.measure-request.ensures.same, none.1))
+    (subst (λ (q : Asked). IsAnsweredHere visible mid after m t q a) c.measure-request.ensures.request c.serve_at_hand.ensures.answered)
 
-pub invariant_of-self : goal.invariant_of-self
-invariant_of-self g c =
-    let h = c.self.invariant in
-    let f = c.self.inside in
-    record { formed = h.formed; its = h.its; numbers = h.numbers; hand = c.lacking.ensures.pool f.pool h.hand; few = h.few; here = subst (AreHere f.names) (sym c.in-Err.ensures.kept) h.here }
+pub returns-clause-drawn : goal.returns-clause-drawn
+returns-clause-drawn g c = subst (λ (q : Asked). IsToldSince q.hand.seen c.serve_at_hand.result) c.measure-request.ensures.request c.serve_at_hand.ensures.drawn
 
-pub invariant_of-self-2 : goal.invariant_of-self-2
-invariant_of-self-2 g c =
-    let h = c.self.invariant in
-    let f = c.self.inside in
-    let e = c.serve_here-held in
-    let before = g.T.Turns.tells c.args.door.now in
-    let after = g.T.Turns.tells e.new.door in
-    record {
-      formed = h.formed;
-      its = h.its;
-      numbers = h.numbers;
-      hand = e.ensures.pool;
-      few = e.ensures.few;
-      here = here_tried g.N.Naming.start.is_visible before after (stock_of f.names f.home f.pool) (stock_of e.new.names c.put_back.new.self e.new.pool) h.here c.args.request (tried.Answered e.result.1)
-          (on_file g.N.Naming.start.is_visible before after f.names e.new.names f.pool e.new.pool c.args.request e.result.1 f.home c.lend.new.self c.put_back.new.self c.args.file c.in-Ok.held e.result.0 c.requires.kind c.in-Ok.ensures.file c.in-Ok.ensures.number c.in-Ok.ensures.lent c.put_back.ensures e.ensures.served);
-    }
+pub returns-clause-telling : goal.returns-clause-telling
+returns-clause-telling g c = (let made = c.make_space.ensures.made in c.serve_at_hand.ensures.telling ∙ made.telling)

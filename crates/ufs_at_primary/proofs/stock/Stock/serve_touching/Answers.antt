@@ -7,9 +7,8 @@ use Rattle.ufs_home.specs.Places.{file_here}
 use Rattle.ufs_joint.specs.Cells.{NamesCell}
 use Rattle.ufs_model.specs.History.{is_excused}
 use Rattle.ufs_at_primary.specs.Stock.{AreHere, StockState, stock_of}
-use Rattle.ufs_at_primary.specs.declared.tried.Tried.TheVariants as tried
-use Rattle.ufs_at_primary.proofs.AtHome.{here_tried}
-use Rattle.ufs_at_primary.proofs.Outcomes.{by_names, tried_from}
+use Rattle.ufs_at_primary.proofs.AtHome.{here_answered}
+use Rattle.ufs_at_primary.proofs.Outcomes.{answered_from, by_names}
 use Rattle.ufs_at_primary.proofs.Trials.{made_number, next_free, still_same, touched_lent}
 use Rattle.ufs_at_primary.proofs.stock.Stock.serve_touching.Goals as goal
 
@@ -22,13 +21,13 @@ lend_touched-lent-requires-clause-here g c = subst (λ (s : StockState). IfSome 
 pub lacking-requires : goal.lacking-requires
 lacking-requires g c = record { pool = (c.self.inside.pool, c.self.invariant.hand) }
 
-pub returns-in-Err-clause-tried : goal.returns-in-Err-clause-tried
-returns-in-Err-clause-tried g c =
+pub returns-in-Err-clause-answered : goal.returns-in-Err-clause-answered
+returns-in-Err-clause-answered g c =
     let f = c.self.inside in
     let e = c.lend_touched-lent in
     let tells = g.T.Turns.tells c.args.door.now in
     let t = stock_of e.new.names e.new.home f.pool in
-    tried_from g.N.Naming.start.is_visible tells tells t c.args.self.now t c.args.request c.lacking.result ((λ i. stock_of (e.ensures.names i) (c.in-Err.ensures.kept i) f.pool) ∙ c.self.view_is) (c.lacking.ensures.tried g.N.Naming.start.is_visible tells e.new.names f.pool)
+    answered_from g.N.Naming.start.is_visible tells tells t c.args.self.now t c.args.request c.lacking.result ((λ i. stock_of (e.ensures.names i) (c.in-Err.ensures.kept i) f.pool) ∙ c.self.view_is) (c.lacking.ensures.answered g.N.Naming.start.is_visible tells e.new.names f.pool)
 
 pub serve_named-answer-requires-clause-kind : goal.serve_named-answer-requires-clause-kind
 serve_named-answer-requires-clause-kind g c = let k = c.requires.kind in k.kind
@@ -73,8 +72,8 @@ put_after-requires-clause-same g c =
     let done = named.done in
     still_same c.serve_named-answer.result.file c.in-Ok.lent.1 c.args.needed s.0.entry.ticket (is_excused s.0.entry.reply) c.in-Ok.ensures.number c.in-Ok.ensures.low done.kept_file done.file
 
-pub returns-clause-tried : goal.returns-clause-tried
-returns-clause-tried g c =
+pub returns-clause-answered : goal.returns-clause-answered
+returns-clause-answered g c =
     let f = c.self.inside in
     let l = c.lend_touched-lent in
     let n = l.new.names in
@@ -82,7 +81,7 @@ returns-clause-tried g c =
     let before = g.T.Turns.tells c.args.door.now in
     let after = g.T.Turns.tells e.new.door in
     let its = subst (λ (s : StockState). IsNeeded s.names.value c.args.request.ask c.args.needed) (sym c.self.view_is) c.requires.needed in
-    tried_from g.N.Naming.start.is_visible before after (stock_of n f.home f.pool) c.args.self.now (stock_of e.new.names c.put_after.new.home e.new.pool) c.args.request (tried.Answered e.result.answer) ((λ i. stock_of (l.ensures.names i) f.home f.pool) ∙ c.self.view_is)
+    answered_from g.N.Naming.start.is_visible before after (stock_of n f.home f.pool) c.args.self.now (stock_of e.new.names c.put_after.new.home e.new.pool) c.args.request e.result.answer ((λ i. stock_of (l.ensures.names i) f.home f.pool) ∙ c.self.view_is)
     (by_names g.N.Naming.start.is_visible before after n e.new.names f.pool e.new.pool c.args.request e.result.answer f.home l.new.home c.put_after.new.home c.args.needed c.in-Ok.lent.1 e.result.file e.result.made c.in-Ok.lent.0
     c.requires.kind (subst (λ (x : NamesCell). IsNeeded x.value c.args.request.ask c.args.needed) (sym l.ensures.names) its) c.in-Ok.ensures.number c.in-Ok.ensures.here (c.in-Ok.ensures.next ∙ ap (λ (x : NamesCell). x.value.next) (sym l.ensures.names)) c.in-Ok.ensures.lent c.put_after.ensures e.ensures.served)
 
@@ -102,7 +101,7 @@ invariant_of-self-2 g c =
       numbers = h.numbers;
       hand = e.ensures.pool;
       few = e.ensures.few;
-      here = here_tried g.N.Naming.start.is_visible before after (stock_of n f.home f.pool) (stock_of e.new.names c.put_after.new.home e.new.pool) (subst (λ (x : NamesCell). AreHere x f.home) (sym l.ensures.names) h.here) c.args.request (tried.Answered e.result.answer)
+      here = here_answered g.N.Naming.start.is_visible before after (stock_of n f.home f.pool) (stock_of e.new.names c.put_after.new.home e.new.pool) (subst (λ (x : NamesCell). AreHere x f.home) (sym l.ensures.names) h.here) c.args.request e.result.answer
           (by_names g.N.Naming.start.is_visible before after n e.new.names f.pool e.new.pool c.args.request e.result.answer f.home l.new.home c.put_after.new.home c.args.needed c.in-Ok.lent.1 e.result.file e.result.made c.in-Ok.lent.0
           c.requires.kind (subst (λ (x : NamesCell). IsNeeded x.value c.args.request.ask c.args.needed) (sym l.ensures.names) its) c.in-Ok.ensures.number c.in-Ok.ensures.here (c.in-Ok.ensures.next ∙ ap (λ (x : NamesCell). x.value.next) (sym l.ensures.names)) c.in-Ok.ensures.lent c.put_after.ensures e.ensures.served);
     }

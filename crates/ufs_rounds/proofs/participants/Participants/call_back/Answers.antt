@@ -19,6 +19,7 @@ loop-file-preserved g c =
             free = c.order-ordered.ensures.free;
             telling = c.order-ordered.ensures.telling;
             halts = c.order-ordered.ensures.halts;
+            ran = c.order-ordered.ensures.ran;
             rest = λ i. state_of l.self.clients.items l.self.workers.items (c.order-ordered.ensures.rest i) (rings_in l.self.post) l.self.baton (t.tells c.order-ordered.new.door);
           }) c.count_called-called.ensures (c.first_of-lack.ensures ∙ ap (first_lack l.lack) c.order_lack.ensures);
       clients = l.invariant.clients;

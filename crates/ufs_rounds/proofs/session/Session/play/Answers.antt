@@ -25,7 +25,7 @@ returns-in-Ok-clause-turns g c =
       last = last;
       played = subst (IsPlayed g.N.Naming.start c.args.schedule.now (global_of c.args.self.participants (Some c.args.self.store)) last) c.in-Ok.is c.play-played.ensures.played;
       are = c.end.ensures.told;
-      end = record { stopped = c.end.ensures.stopped; counted = c.end.ensures.counted };
+      end = record { stopped = c.end.ensures.stopped; counted = c.end.ensures.counted; raised = c.end.ensures.raised };
     }
 
 pub returns-in-Err-clause-ended : goal.returns-in-Err-clause-ended
