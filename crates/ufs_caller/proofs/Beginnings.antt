@@ -8,10 +8,12 @@ use Rattle.std.specs.Ordering.{nat_cmp}
 use Rattle.ufs_baton.specs.Baton.{IsDrawnWith}
 use Rattle.std.proofs.lemmas.List.{length-append}
 use Rattle.ufs_client.specs.Own.{IsOwnAnswer, is_own}
+use Rattle.ufs_crash_laws.specs.Changes.{asks_commit}
 use Rattle.ufs_fds.specs.Descriptors.{AreInRange, AreOf, Descs}
 use Rattle.ufs_hints.specs.Hints.{Pairs}
 use Rattle.ufs_model.specs.Asks.{IsAsk, desc_of_fd, fd_asked, fd_named, file_in, is_last}
 use Rattle.ufs_model.specs.Bounds.{IsBounded}
+use Rattle.ufs_model.specs.History.{is_excused}
 use Rattle.ufs_model.specs.Posix.{posix}
 use Rattle.ufs_model.specs.PosixTree.{Fds, PosixTree, desc_at}
 use Rattle.ufs_model.specs.declared.data.Actor.{Actor}
@@ -19,8 +21,10 @@ use Rattle.ufs_model.specs.declared.data.Actor.TheVariants as actor
 use Rattle.ufs_model.specs.declared.data.Ask.{Ask}
 use Rattle.ufs_model.specs.declared.data.Desc.{Desc}
 use Rattle.ufs_model.specs.declared.data.Entry.{Entry}
+use Rattle.ufs_model.specs.declared.data.Errno.{Errno}
 use Rattle.ufs_model.specs.declared.data.Op.{Op}
 use Rattle.ufs_model.specs.declared.data.Reply.{Reply}
+use Rattle.ufs_model.specs.declared.data.Reply.TheVariants.{Refused}
 use Rattle.ufs_joint.specs.Cells.{Start, View}
 use Rattle.ufs_joint.specs.FileHands.{own_desc}
 use Rattle.ufs_msg.specs.Requests.{Asked}
@@ -36,6 +40,7 @@ use Rattle.ufs_caller.specs.declared.told.Told.{Told}
 use Rattle.ufs_caller.specs.declared.trip.Trip.{Trip}
 use Rattle.ufs_caller.proofs.Homes.{ask_for, entries_many, own_same}
 use Rattle.ufs_caller.proofs.Made.{none_listed}
+use Rattle.ufs_caller.proofs.OwnRefusals.{own_refused}
 use Rattle.ufs_caller.proofs.Places.{no_trip, request_is, some_same}
 use Rattle.ufs_caller.proofs.Servers.{server_there, used_there}
 use Rattle.ufs_caller.proofs.Tries.{seen}
@@ -126,7 +131,7 @@ module _ (k : Start) (number : ℕ) (told : List Told) (table : Descs) (left lef
         room_is = let m = many in let w = one_is in let n = next_many in let f = tied.room_is in omega (arith, m, w, n, f, same_room);
       }
 
-    module _ (reply : Reply) (desc : Option Desc) (own : (t : PosixTree) → IsAsk t ask → is_own t ask.client ask.op ≡ true) (is : (t : PosixTree) → IsAsk t ask → IsOwnAnswer t ask.client ask.op reply desc)
+    module _ (reply : Reply) (desc : Option Desc) (own : (t : PosixTree) → IsAsk t ask → is_own t ask.client ask.op ≡ true) (is : (t : PosixTree) → IsAsk t ask → IsOwnAnswer t ask.client ask.op reply desc) (plain : is_excused reply ≡ false)
         (since upto : ℕ) (told' : List Told) (table' : Descs) (hand' : View) (entry : Entry) (told_is : told' ≡ told ++ record { entry = entry; via = [] } ∷ []) (made : IsMadeBy ask reply entry) (late : hand.seen ≤ entry.ticket) (within : entry.ticket < hand'.seen) (drawn : IsDrawnWith since upto entry)
         (after : (t : PosixTree) → AreOf t.fds ask.client table → AreOf (posix t ask.client ask.op).0.fds ask.client table') where
       abbrev new : Caller
@@ -150,6 +155,8 @@ module _ (k : Start) (number : ℕ) (told : List Told) (table : Descs) (left lef
         drawn = drawn;
         reply = subst (λ (c : Caller). (t : PosixTree) → AreOf t.fds c.number c.fds → entry.reply ≡ (posix t c.number request).1) view
             (λ t are. made.reply' ∙ (is t (tells t (here t are))).replied ∙ (λ i. (posix t (client i) (asked i)).1));
+        plain = ap is_excused made.reply' ∙ plain;
+        refused = refused;
         fds = subst (λ (c : Caller). (t : PosixTree) → AreOf t.fds c.number c.fds → AreOf (posix t c.number request).0.fds c.number table') view
             (λ t are. subst (λ (x : ℕ × Op). AreOf (posix t x.0 x.1).0.fds x.0 table') (λ i. (client i, asked i)) (after t (here t are)));
         hints = ap (λ (c : Caller). c.hints) view;
@@ -157,6 +164,14 @@ module _ (k : Start) (number : ℕ) (told : List Told) (table : Descs) (left lef
         where
           here : (t : PosixTree) → AreOf t.fds number table → AreOf t.fds ask.client table
           here t are = subst (λ (n : ℕ). AreOf t.fds n table) (sym client) are
+
+          -- on the tree that has its descriptors
+          refused : asks_commit request ≡ true → (errno : Errno) × (entry.reply ≡ Refused errno)
+          refused asks =
+              let t = home.tree in
+              let there = tells t (λ fd. sym (home.of fd) ∙ home.same fd) in
+              let no = own_refused t ask.client ask.op (own t there) (ap asks_commit asked ∙ asks) in
+              (no.0, made.reply' ∙ (is t there).replied ∙ no.1)
 
     -- ---- it is readied
 

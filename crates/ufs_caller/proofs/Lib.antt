@@ -3,6 +3,7 @@ pub mod Asking
 pub mod Ranges
 pub mod Back
 pub mod OwnParts
+pub mod OwnRefusals
 pub mod OwnDraw
 pub mod Homes
 pub mod Made

@@ -3,16 +3,20 @@ use Rattle.std.specs.Prelude.{ℕ, ◌≤◌, ◌<◌, ◌≡◌, ◌≢◌, ◌
 use Rattle.std.specs.FinMap as fin
 use Rattle.ufs_baton.specs.Baton.{IsDrawnWith}
 use Rattle.ufs_client.specs.Own.{is_own}
+use Rattle.ufs_crash_laws.specs.Changes.{asks_commit}
 use Rattle.ufs_fds.specs.Descriptors.{AreOf}
 use Rattle.ufs_hints.specs.Hints.{Pairs, hint_of, renewed}
 use Rattle.ufs_joint.specs.FileHands.{own_desc}
 use Rattle.ufs_model.specs.Asks.{fd_told}
+use Rattle.ufs_model.specs.History.{is_excused}
 use Rattle.ufs_model.specs.Posix.{posix}
 use Rattle.ufs_model.specs.PosixTree.{PosixTree}
 use Rattle.ufs_model.specs.declared.data.Actor.{Actor}
 use Rattle.ufs_model.specs.declared.data.Actor.TheVariants.{Client, Worker}
 use Rattle.ufs_model.specs.declared.data.Entry.{Entry}
+use Rattle.ufs_model.specs.declared.data.Errno.{Errno}
 use Rattle.ufs_model.specs.declared.data.Op.{Op}
+use Rattle.ufs_model.specs.declared.data.Reply.TheVariants.{Refused}
 use Rattle.ufs_msg.specs.Answers.{Sent, Told}
 use Rattle.ufs_msg.specs.Requests.{Asked}
 use Rattle.ufs_msg.specs.There.{MayServe, is_by_hint}
@@ -60,6 +64,9 @@ pub record AnswersItself (since upto : ℕ) (a b : Caller) : Type 0 where
   pub drawn : IsDrawnWith since upto entry
   pub asked : entry.op ≡ request
   pub reply : (t : PosixTree) → AreOf t.fds a.number a.fds → entry.reply ≡ (posix t a.number request).1
+  pub plain : is_excused entry.reply ≡ false
+  -- one that asks for a commit is refused
+  pub refused : asks_commit request ≡ true → (errno : Errno) × (entry.reply ≡ Refused errno)
   pub fds : (t : PosixTree) → AreOf t.fds a.number a.fds → AreOf (posix t a.number request).0.fds a.number b.fds
   pub hints : b.hints ≡ a.hints
 

@@ -68,7 +68,7 @@ returns-in-Some-answer_own-clause-turn g c =
     let tells = tells_of ask c.in-Some.op s.fds e.asked e.desc e.fd e.last in
     let told = c.answer_itself.ensures.told in (
       answers k s.number s.told.items s.fds s.left.items left s.hand s.kept s.trip s.hints room tied c.args.self.now c.self.view_is c.requires.idle ask c.in-Some.op e.client seq e.asked next tells
-          c.in-Some-answer_own.answer.reply c.in-Some-answer_own.answer.desc (λ t is. sym (c.answer_own.ensures.own t is) ∙ ap (is_some {T = OwnAnswer}) c.in-Some-answer_own.is) c.in-Some-answer_own.ensures.posix
+          c.in-Some-answer_own.answer.reply c.in-Some-answer_own.answer.desc (λ t is. sym (c.answer_own.ensures.own t is) ∙ ap (is_some {T = OwnAnswer}) c.in-Some-answer_own.is) c.in-Some-answer_own.ensures.posix c.in-Some-answer_own.ensures.plain
           c.args.baton.now c.answer_itself.new.baton c.answer_itself.new.told.items c.answer_itself.new.fds c.answer_itself.new.hand told.0 told.1 told.2 told.3 told.4 told.5 c.answer_itself.ensures.fds,
       refl,
     )
