@@ -39,7 +39,7 @@ fn an_image_is_clean_once_its_session_is_finished(rt: HostRuntime) -> Result<(),
     let mut finished = deal_and_finish(&rt, two_files(rt.alloc())?, false);
     assert!(rt; finished.ended == Ok(()));
     assert!(rt; finished.tickets == 0);
-    assert!(rt; finished.bytes == Some(5005));
+    assert!(rt; finished.bytes == Ok(5005));
     assert!(rt; is_clean(rt.alloc(), &mut finished.disk)?);
     assert!(rt; has_both(rt.alloc(), finished.disk)?);
     Ok(())

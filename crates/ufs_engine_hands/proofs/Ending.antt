@@ -1,7 +1,8 @@
 -- A session that was played and has ended, as `play` tells it.
-use Rattle.std.proofs.Common.{◌≡◌, ◌∙◌, ◌-◌, ℕ, suc, Bool, true, false, List, [], ◌∷◌, length, Option, Some, None, Result, Ok, Err, IsOk, refl, sym, ap, subst}
-use Rattle.std.specs.Prelude.{IsTrue, OnOk, ◌↔◌}
+use Rattle.std.proofs.Common.{◌≡◌, ◌∙◌, ◌-◌, ℕ, suc, Bool, true, false, List, [], ◌∷◌, length, Some, Result, Ok, Err, IsOk, refl, sym, ap, subst}
+use Rattle.std.specs.Prelude.{IfOk, IsTrue, OnOk, ◌↔◌}
 use Rattle.std.specs.FinMap as map
+use Rattle.ufs_base.specs.declared.memory.Memory.{Memory}
 use Rattle.ufs_brink.specs.Begins.{HasNothingOpen}
 use Rattle.ufs_brink.specs.Closes.{closing_fault}
 use Rattle.ufs_brink.specs.Numbers.{ClosesFrom, RaisesNumbers}
@@ -40,10 +41,10 @@ use Rattle.ufs_engine_hands.specs.Served.{IsPlayedFrom}
 use Rattle.ufs_engine_hands.specs.declared.playing.PlayFault.{PlayFault}
 use Rattle.ufs_engine_hands.specs.declared.playing.PlayFault.TheVariants as ending
 use Rattle.ufs_engine_hands.proofs.Along.{kept_stamped, kept_throughout, unkept_throughout}
-use Rattle.ufs_engine_hands.proofs.EndLemmas.{both_ok, end_fault, faults_of}
+use Rattle.ufs_engine_hands.proofs.EndLemmas.{both_ok, bytes_told, end_fault, faults_of}
 
 -- What is known of a session that was played without a schedule, and has ended: by the store as it began, and the store before the end.
-pub record HasRun (k : Start) (keeps : Bool) (scripts : List (List Op)) (opened : StoreState) (tickets : ℕ) (lists : List (List Entry)) (bytes : Option ℕ) (sectors faults : ℕ) (now : Moments) (closed : Result (Unit {0}) CloseFault) : Type 0 where
+pub record HasRun (k : Start) (keeps : Bool) (scripts : List (List Op)) (opened : StoreState) (tickets : ℕ) (lists : List (List Entry)) (bytes : Result ℕ Memory) (sectors faults : ℕ) (now : Moments) (closed : Result (Unit {0}) CloseFault) : Type 0 where
   pub finished : HasFinished k opened.moments keeps tickets lists bytes sectors faults now closed
   pub each : length lists ≡ length scripts
   pub answered : AnswerAll scripts lists
@@ -58,17 +59,18 @@ pub record HasRun (k : Start) (keeps : Bool) (scripts : List (List Op)) (opened 
   pub raised : k.is_visible ≡ true → OnOk closed (ClosesFrom before (reads now))
 
 -- How it ended as a whole: by how it was closed, where its files were counted.
-pub record IsWholeEnd (closed : Result (Unit {0}) CloseFault) (bytes : Option ℕ) (ended : Result (Unit {0}) PlayFault) (total : ℕ) : Type 0 where
+pub record IsWholeEnd (closed : Result (Unit {0}) CloseFault) (bytes : Result ℕ Memory) (ended : Result (Unit {0}) PlayFault) (total : ℕ) : Type 0 where
   pub closed_well : OnOk ended (IsOk closed)
   pub device : (fault : ℕ) → ended ≡ Err (ending.Device fault) → closed ≡ Err (cause.Device fault)
   pub stopped : (fault : ℕ) → ended ≡ Err (ending.Stopped fault) → closed ≡ Err (cause.Stopped fault)
-  pub measured : served_end ended ≡ Ok tt → bytes ≡ Some total
+  pub measured : OnOk (served_end ended) (IsOk bytes)
+  pub counts : IfOk bytes (λ n. total ≡ n)
 
 -- no server but the primary
 pub no_worker : (k : Start) (b : Beginning) (s : StoreState) → k ≡ start_first b s → b.workers ≡ 0 → worker_count k ≡ 0
 no_worker k b s from none = ap worker_count from ∙ ap (λ (n : ℕ). length (each_of pool_of no_blocks (suc n)) - 1) none
 
-module _ (k : Start) (keeps : Bool) (scripts : List (List Op)) (opened : StoreState) (tickets : ℕ) (lists : List (List Entry)) (bytes : Option ℕ) (sectors faults : ℕ) (now : Moments) (closed : Result (Unit {0}) CloseFault)
+module _ (k : Start) (keeps : Bool) (scripts : List (List Op)) (opened : StoreState) (tickets : ℕ) (lists : List (List Entry)) (bytes : Result ℕ Memory) (sectors faults : ℕ) (now : Moments) (closed : Result (Unit {0}) CloseFault)
     (r : HasRun k keeps scripts opened tickets lists bytes sectors faults now closed) (b : Beginning) (from : k ≡ start_first b opened) (ready : IsReady b opened)
     (begins : k.is_visible ≡ true → Leaves (IsExplainedImage opened.sectors k.tree []) opened.moments.state) where
   abbrev start : PosixTree
@@ -143,7 +145,7 @@ module _ (k : Start) (keeps : Bool) (scripts : List (List Op)) (opened : StoreSt
       closed = nothing_open;
       seen = r.finished.session.begun.seen;
       played = subst (IsPlayedFrom start scripts lists (served_end ended)) r.one_by_one played_so;
-      sized = λ ok. r.finished.measured total (whole.measured ok) ∙ ap (λ (h : List Entry). total_size (tree_after start h)) r.one_by_one;
+      sized = λ ok. bytes_told (served_end ended) bytes (tree_after start history) whole.measured r.finished.measured total whole.counts ok ∙ ap (λ (h : List Entry). total_size (tree_after start h)) r.one_by_one;
       tells = subst (λ (h : List Entry). AreFaultsOf opened.faults faults h) r.one_by_one (faults_of opened r.before ready.going history r.told faults closed r.counted r.stopped);
       closing = subst (λ (h : List Entry). IsEndFault opened.faults faults h ended) r.one_by_one
           (end_fault opened r.before ready.going history r.told faults closed r.counted r.stopped ended whole.closed_well whole.device whole.stopped);

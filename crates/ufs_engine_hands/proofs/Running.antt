@@ -1,14 +1,17 @@
 -- What turns without a schedule and a worker come to.
-use Rattle.std.proofs.Common.{◌≡◌, ◌∙◌, ◌+◌, ◌<◌, ◌≤◌, ℕ, Bool, true, List, [], ◌∷◌, length, Option, None, Some, Result, Ok, Err, ap, sym, subst, true≢false, arith}
-use Rattle.std.specs.Prelude.{IfSome, IsSome, OnOk}
+use Rattle.std.proofs.Common.{◌≡◌, ◌∙◌, ◌+◌, ◌<◌, ◌≤◌, ℕ, Bool, true, List, [], ◌∷◌, length, Result, Ok, Err, ap, sym, subst, arith}
+use Rattle.std.specs.Prelude.{OnOk}
 use Rattle.ufs_base.specs.Images.{Image}
+use Rattle.ufs_base.specs.declared.memory.Memory.{Memory}
 use Rattle.ufs_brink.specs.Numbers.{ClosesFrom}
 use Rattle.ufs_brink.specs.declared.closing.CloseFault.{CloseFault}
 use Rattle.ufs_caller.proofs.Made.{by_the_primary}
+use Rattle.ufs_client.specs.Played.{IsMerged}
 use Rattle.ufs_disk.specs.Moments.{Moments, reads}
 use Rattle.ufs_gathered.specs.Finished.{ClosesBy}
 use Rattle.ufs_image.specs.Volume.{superblock_of}
 use Rattle.ufs_joint.specs.Cells.{Start, StoreCell, View}
+use Rattle.ufs_joint.specs.Disks.{cell_of}
 use Rattle.ufs_joint.specs.FirstHand.{Beginning, start_first}
 use Rattle.ufs_joint.specs.Ready.{IsReady}
 use Rattle.ufs_layout.specs.declared.geometry.Geometry.{Geometry}
@@ -16,74 +19,65 @@ use Rattle.ufs_model.specs.History.{joined}
 use Rattle.ufs_model.specs.declared.data.Entry.{Entry}
 use Rattle.ufs_model.specs.declared.data.Op.{Op}
 use Rattle.ufs_msg.specs.There.{worker_count}
-use Rattle.ufs_rounds.specs.Played.{AreInTurn, HasPlayed, IsEndOf}
+use Rattle.ufs_rounds.specs.Faults.{counts_in}
+use Rattle.ufs_rounds.specs.Played.{AreInTurn, HasPlayed, TellsToEnd}
 use Rattle.ufs_rounds.proofs.Entries.{one_history}
 use Rattle.ufs_store.specs.State.{StoreState, geometry_of_store}
 use Rattle.ufs_told.specs.Told.{AreFaultsTold}
-use Rattle.ufs_turns.specs.Lent.{stop_in, tally_in}
+use Rattle.ufs_turns.specs.Lent.{tally_in}
 use Rattle.ufs_engine_hands.specs.Asked.{given}
 use Rattle.ufs_engine_hands.proofs.Ending.{HasRun}
 
--- the store as it was, with what is counted in these cells, and where it has stopped there
-abbrev pub store_by : StoreState → List (Unit {0} × StoreCell) → StoreState
-store_by s cells = record s {
-  faults = (tally_in cells).faults;
-  stop = stop_in cells;
-  superblock = record s.superblock { epoch = (tally_in cells).epoch };
-  journal = record s.journal { number = (tally_in cells).number };
-}
+-- The session's store is as it was mounted.
+pub counts_first : (s : StoreState) (first : View) → first.store ≡ (tt, cell_of 0 [] s) ∷ [] → counts_in s first.store ≡ s
+counts_first s first has = ap (counts_in s) has
 
--- What the entries tell of the store, and so does the end, by its cell before that.
-pub record TellsStore (k : Start) (opened : StoreState) (entries : List Entry) (faults : ℕ) (now : Moments) (closed : Result (Unit {0}) CloseFault) : Type 0 where
-  pub before : View
-  pub ends : IsEndOf k faults now closed before
-  pub told : AreFaultsTold opened (store_by opened before.store) entries
+-- It has the geometry of the start.
+pub formed_so : (k : Start) (b : Beginning) (s : StoreState) → k ≡ start_first b s → IsReady b s → geometry_of_store s ≡ k.geometry
+formed_so k b s from ready = ready.formed ∙ sym (ap (λ (x : Start). x.geometry) from)
 
 -- Its numbers are raised from that cell's.
-closes_from : (k : Start) (b : Beginning) (s : StoreState) → k ≡ start_first b s → IsReady b s → (cells : List (Unit {0} × StoreCell)) (now : Image) → ClosesBy (tally_in cells).epoch (tally_in cells).number k.geometry.inodes now → ClosesFrom (store_by s cells) now
-closes_from k b s from ready cells now is =
-    let same : k.geometry.inodes ≡ (geometry_of_store s).inodes = ap (λ (x : Start). x.geometry.inodes) from ∙ sym (ap (λ (g : Geometry). g.inodes) ready.formed) in
+closes_from : (k : Start) (s : StoreState) → geometry_of_store s ≡ k.geometry → (cells : List (Unit {0} × StoreCell)) (now : Image) → ClosesBy (tally_in cells).epoch (tally_in cells).number k.geometry.inodes now → ClosesFrom (counts_in s cells) now
+closes_from k s formed cells now is =
+    let same : k.geometry.inodes ≡ (geometry_of_store s).inodes = sym (ap (λ (g : Geometry). g.inodes) formed) in
     record {
       epoch = is.epoch;
       epoch_most = subst (λ (n : ℕ). (superblock_of now).epoch ≤ (tally_in cells).epoch + (n + 3)) same is.epoch_most;
       number_most = subst (λ (n : ℕ). (superblock_of now).next ≤ (tally_in cells).number + (n + 2)) same is.number_most;
     }
 
-closes_so : (k : Start) (b : Beginning) (s : StoreState) → k ≡ start_first b s → IsReady b s → (cells : List (Unit {0} × StoreCell)) (now : Image) (closed : Result (Unit {0}) CloseFault)
-    → OnOk closed (ClosesBy (tally_in cells).epoch (tally_in cells).number k.geometry.inodes now) → OnOk closed (ClosesFrom (store_by s cells) now)
-closes_so k b s from ready cells now (Ok x) is = closes_from k b s from ready cells now is
-closes_so k b s from ready cells now (Err fault) is = tt
-
--- where the files were counted
-pub some_of : (bytes : Option ℕ) (total : ℕ) → IsSome bytes → IfSome bytes (λ n. total ≡ n) → bytes ≡ Some total
-some_of None total is same = absurd (true≢false (sym is))
-some_of (Some n) total is same = λ i. Some (sym same i)
+closes_so : (k : Start) (s : StoreState) → geometry_of_store s ≡ k.geometry → (cells : List (Unit {0} × StoreCell)) (now : Image) (closed : Result (Unit {0}) CloseFault)
+    → OnOk closed (ClosesBy (tally_in cells).epoch (tally_in cells).number k.geometry.inodes now) → OnOk closed (ClosesFrom (counts_in s cells) now)
+closes_so k s formed cells now (Ok x) is = closes_from k s formed cells now is
+closes_so k s formed cells now (Err fault) is = tt
 
 -- a session has a client
 pub some_given : (scripts : List (List Op)) → 0 < length (given scripts)
 some_given [] = omega arith
 some_given (script ∷ scripts) = omega arith
 
-pub has_run : (k : Start) (origin : Moments) (keeps : Bool) (asked scripts : List (List Op)) (opened : StoreState) (tickets : ℕ) (lists : List (List Entry)) (bytes : Option ℕ) (sectors faults : ℕ) (now : Moments) (closed : Result (Unit {0}) CloseFault) (b : Beginning)
-    → k ≡ start_first b opened → IsReady b opened → origin ≡ opened.moments → asked ≡ scripts → HasPlayed k origin keeps asked tickets lists bytes sectors faults now closed → worker_count k ≡ 0 → AreInTurn lists → TellsStore k opened (joined lists) faults now closed
-    → HasRun k keeps scripts opened tickets lists bytes sectors faults now closed
-has_run k origin keeps asked scripts opened tickets lists bytes sectors faults now closed b first ready from same played alone merged tells =
+-- What the entries tell of the store, and so does the end, is told from the store as it was mounted.
+pub has_run : (k : Start) (origin : Moments) (keeps : Bool) (asked scripts : List (List Op)) (opened : StoreState) (first : View) (tickets : ℕ) (lists : List (List Entry)) (bytes : Result ℕ Memory) (sectors faults : ℕ) (now : Moments) (closed : Result (Unit {0}) CloseFault)
+    → geometry_of_store opened ≡ k.geometry → counts_in opened first.store ≡ opened → origin ≡ opened.moments → asked ≡ scripts → HasPlayed k origin keeps asked tickets lists bytes sectors faults now closed → worker_count k ≡ 0 → AreInTurn lists
+    → ((history : List Entry) → IsMerged lists history → TellsToEnd k opened first history faults now closed) → HasRun k keeps scripts opened tickets lists bytes sectors faults now closed
+has_run k origin keeps asked scripts opened first tickets lists bytes sectors faults now closed formed mounted from same played alone merged tells =
     of (subst (λ (x : Moments × List (List Op)). HasPlayed k x.0 keeps x.1 tickets lists bytes sectors faults now closed) (λ i. (from i, same i)) played)
   where
     of : HasPlayed k opened.moments keeps scripts tickets lists bytes sectors faults now closed → HasRun k keeps scripts opened tickets lists bytes sectors faults now closed
     of p =
-        let one = one_history lists p.finished.session.history (joined lists) p.finished.session.merged merged in
+        let session = p.finished.session in
+        let so = tells session.history session.merged in
         record {
           finished = p.finished;
           each = p.each;
           answered = p.all;
-          served = by_the_primary k alone p.finished.session.start p.finished.session.history p.finished.session.served p.made;
+          served = by_the_primary k alone session.start session.history session.served p.made;
           ordered = p.ordered;
           complete = p.complete;
-          one_by_one = one;
-          before = store_by opened tells.before.store;
-          told = subst (AreFaultsTold opened (store_by opened tells.before.store)) (sym one) tells.told;
-          counted = tells.ends.counted;
-          stopped = tells.ends.stopped;
-          raised = λ sees. closes_so k b opened first ready tells.before.store (reads now) closed (tells.ends.raised sees);
+          one_by_one = one_history lists session.history (joined lists) session.merged merged;
+          before = counts_in opened so.before.store;
+          told = subst (λ (s : StoreState). AreFaultsTold s (counts_in opened so.before.store) session.history) mounted so.told;
+          counted = so.ends.counted;
+          stopped = so.ends.stopped;
+          raised = λ sees. closes_so k opened formed so.before.store (reads now) closed (so.ends.raised sees);
         }

@@ -1,5 +1,5 @@
 // A session on hands over a mounted image, from its beginning to its end.
-ghost use Rattle.std.specs.Prelude.{ℕ, ◌≡◌, ◌≢◌, [], Err, IfSome, IsOk, IsSome, IsTrue, List, Ok, OnOk, length, map, true};
+ghost use Rattle.std.specs.Prelude.{ℕ, ◌≡◌, ◌≢◌, [], Err, IfOk, IsOk, IsTrue, List, OnOk, length, map, true};
 ghost use Rattle.ufs_base.specs.declared.lack.Lack.TheVariants as lack;
 ghost use Rattle.ufs_begin_hands.specs.Values.{value_of};
 ghost use Rattle.ufs_brink.specs.declared.closing.CloseFault.TheVariants as cause;
@@ -110,29 +110,31 @@ fn unplayed<N: Naming, D: Disk>(ready: Ready<D>) -> D
 }
 
 // How large the files are, where they were counted.
-fn bytes_of(bytes: Option<u128>) -> u128
-    ensures { IfSome bytes (λ n. result ≡ n) }
+fn bytes_of(bytes: Result<u128, Memory>) -> u128
+    ensures { IfOk bytes (λ n. result ≡ n) }
 {
     match bytes {
-        Some(bytes) => bytes,
-        None => 0,
+        Ok(bytes) => bytes,
+        Err(_) => 0,
     }
 }
 
 // How a session ends that was closed so. Each request was answered. Where there was no memory to commit and to count its files it lacks
 // that, also where its store had stopped.
-fn whole_end(closed: Result<(), CloseFault>, bytes: Option<u128>) -> Result<(), PlayFault>
+fn whole_end(closed: Result<(), CloseFault>, bytes: Result<u128, Memory>) -> Result<(), PlayFault>
     ensures closed { OnOk result (IsOk closed) }
     ensures device { (fault : ℕ) → result ≡ Err (ending.Device fault) → closed ≡ Err (cause.Device fault) }
     ensures stopped { (fault : ℕ) → result ≡ Err (ending.Stopped fault) → closed ≡ Err (cause.Stopped fault) }
     ensures begun { (fault : StartFault) → result ≢ Err (ending.Image fault) }
-    ensures measured { served_end result ≡ Ok tt → IsSome bytes }
+    ensures measured { OnOk (served_end result) (IsOk bytes) }
 {
+    if let Err(memory) = bytes {
+        return Err(PlayFault::Lack(Lack::Memory(memory)));
+    }
     match closed {
-        Err(CloseFault::Lack(lack)) => Err(PlayFault::Lack(lack)),
-        _ if bytes.is_none() => Err(PlayFault::Lack(Lack::Told)),
         Ok(()) => Ok(()),
         Err(CloseFault::Device { fault }) => Err(PlayFault::Device { fault }),
         Err(CloseFault::Stopped { fault }) => Err(PlayFault::Stopped { fault }),
+        Err(CloseFault::Lack(lack)) => Err(PlayFault::Lack(lack)),
     }
 }

@@ -8,7 +8,6 @@ use Rattle.ufs_disk.proofs.Runs.{started}
 use Rattle.ufs_brink.specs.Closes.{closing_fault}
 use Rattle.ufs_brink.specs.declared.closing.CloseFault.{CloseFault}
 use Rattle.ufs_brink.specs.declared.closing.CloseFault.TheVariants as cause
-use Rattle.ufs_hand_laws.proofs.Owning.{none_some}
 use Rattle.ufs_joint.specs.Cells.{FileCell, NamesCell, Start}
 use Rattle.ufs_model.specs.declared.data.Entry.{Entry}
 use Rattle.ufs_promise_laws.specs.OnDisk.{IsExplainedImage}
@@ -39,13 +38,13 @@ module _ (k : Start) (origin : Moments) (keeps : Bool) (tickets : ℕ) (lists : 
   uncommitted : {P : Type 0} → false ≡ true → P
   uncommitted all = absurd cc
 
-  pub left_open : HasFinished k origin keeps tickets lists None s.sectors s.faults s.moments (Err (left_by s.stop memory))
+  pub left_open : HasFinished k origin keeps tickets lists (Err memory) s.sectors s.faults s.moments (Err (left_by s.stop memory))
   left_open = record {
     names = names;
     files = files;
     store = s;
     session = session;
-    measured = λ n is. absurd (none_some n is);
+    measured = tt;
     all = false;
     ends = ends_left s.stop s.faults memory;
     size = refl;

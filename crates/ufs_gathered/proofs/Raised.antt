@@ -4,6 +4,7 @@ use Rattle.std.specs.Prelude.{OnOk}
 use Rattle.ufs_brink.specs.declared.closing.CloseFault.{CloseFault}
 use Rattle.ufs_brink.proofs.ClosedNumbers.{has_superblock, is_used, next_here}
 use Rattle.ufs_base.specs.Images.{Image}
+use Rattle.ufs_base.specs.declared.memory.Memory.{Memory}
 use Rattle.ufs_disk.specs.Moments.{Moments, reads}
 use Rattle.ufs_image.specs.Volume.{superblock_of}
 use Rattle.ufs_joint.specs.Cells.{Start}
@@ -30,7 +31,7 @@ module _ (s : StoreState) (l : Ledger) (has : HasLedger s l) (behind : Image) (i
       let next = next_here s l has in
       is.least s.journal.number next.some next.known (λ k ranged. let kept = is.numbers k ranged in let less = next.inodes k ranged in omega (arith, kept, less)) next.logged
 
-module _ (k : Start) (origin : Moments) (keeps : Bool) (tickets : ℕ) (lists : List (List Entry)) (bytes : Option ℕ) (sectors faults : ℕ) (now : Moments) (ended : Result (Unit {0}) CloseFault)
+module _ (k : Start) (origin : Moments) (keeps : Bool) (tickets : ℕ) (lists : List (List Entry)) (bytes : Result ℕ Memory) (sectors faults : ℕ) (now : Moments) (ended : Result (Unit {0}) CloseFault)
     (fin : HasFinished k origin keeps tickets lists bytes sectors faults now ended) (t : Tally) (told : Option ℕ) (n : ℕ) where
   -- by the commits of so many files and of the names, and by a recovery
   pub raised_by : HasGoneBy told (1 + n) (1 + n) t (tally_of fin.store) → length fin.files ≡ n → k.is_visible ≡ true → OnOk ended (ClosesBy t.epoch t.number k.geometry.inodes (reads now))

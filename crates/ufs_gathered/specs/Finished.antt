@@ -1,6 +1,6 @@
 -- What is known of a session on hands that has ended, and of the disk on which it ran, once everything was committed and its image was
 -- made clean, or once that failed.
-use Rattle.std.specs.Prelude.{ℕ, ◌≡◌, ◌≤◌, ◌+◌, ◌⊎◌, Bool, true, false, List, IfErr, OnOk, Option, None, Some, Result, Ok, Err}
+use Rattle.std.specs.Prelude.{ℕ, ◌≡◌, ◌≤◌, ◌+◌, ◌⊎◌, Bool, true, false, List, IfErr, IfOk, OnOk, Option, None, Some, Result, Ok, Err}
 use Rattle.ufs_base.specs.Faults.{RoseTo}
 use Rattle.ufs_base.specs.Images.{Image}
 use Rattle.ufs_base.specs.declared.lack.Lack.TheVariants as lack
@@ -64,13 +64,13 @@ pub record ClosesBy (from number inodes : ℕ) (behind : Image) : Type 0 where
 -- ---- the whole
 
 -- The session ended so, with names, files and store as they were behind the commits, and so the disk was left.
-pub record HasFinished (k : Start) (origin : Moments) (keeps : Bool) (tickets : ℕ) (lists : List (List Entry)) (bytes : Option ℕ) (sectors faults : ℕ) (now : Moments) (ended : Result (Unit {0}) CloseFault) : Type 0 where
+pub record HasFinished (k : Start) (origin : Moments) (keeps : Bool) (tickets : ℕ) (lists : List (List Entry)) (bytes : Result ℕ Memory) (sectors faults : ℕ) (now : Moments) (ended : Result (Unit {0}) CloseFault) : Type 0 where
   pub names : NamesCell
   pub files : List FileCell
   pub store : StoreState
   pub session : HasEnded k origin keeps tickets lists names files store
   -- where the files were measured they are together as large as all files of the tree
-  pub measured : (n : ℕ) → bytes ≡ Some n → n ≡ total_size (tree_after session.start session.history)
+  pub measured : IfOk bytes (λ n. n ≡ total_size (tree_after session.start session.history))
   -- whether everything was committed
   pub all : Bool
   pub ends : EndsBy all store.stop store.faults faults ended

@@ -1,5 +1,5 @@
 // A session on hands is ended over a disk: everything is committed, and the image is made clean.
-ghost use Rattle.std.specs.Prelude.{ℕ, ◌≡◌, ◌<◌, ◌↔◌, ◌+◌, eqb, length, List, IfErr, IsSome, IsTrue, None, OnOk, Some, Err, false, true};
+ghost use Rattle.std.specs.Prelude.{ℕ, ◌≡◌, ◌<◌, ◌↔◌, ◌+◌, eqb, length, List, IfErr, IsOk, IsTrue, None, OnOk, Some, Err, false, true};
 ghost use Rattle.ufs_base.specs.declared.lack.Lack.TheVariants as lack;
 ghost use Rattle.ufs_disk.specs.Disk.{Leaves};
 ghost use Rattle.ufs_disk.specs.Moments.{LeavesOnly, reads};
@@ -40,8 +40,8 @@ use ufs_turns::{Direct, HeldStore};
 pub struct Finished<D: Disk> {
     /// How many entries the session has.
     pub tickets: u64,
-    /// How large all files are together at the end; nothing where they were let go.
-    pub bytes: Option<u128>,
+    /// How large all files are together at the end; want of memory where they were let go for it.
+    pub bytes: Result<u128, Memory>,
     pub disk: D,
     pub ended: Result<(), CloseFault>,
 }
@@ -70,7 +70,7 @@ pub fn finish<N: Naming, D: Disk, L: Ledger>(
         → HasFinished N.start N.origin D.keeps result.tickets lists result.bytes (D.size result.disk) (D.faults result.disk) (D.moments result.disk) result.ended }
     ensures stopped { (fault : ℕ) → (result.ended ≡ Err (cause.Stopped fault)) ↔ (stop_in actors.store.store ≡ Some fault) }
     ensures counted { IsTold (tally_in actors.store.store).faults (D.faults result.disk) (closing_fault result.ended) }
-    ensures measured { IsSome result.bytes }
+    ensures measured { IsOk result.bytes }
     ensures raised { N.start.is_visible ≡ true → OnOk result.ended (ClosesBy (tally_in actors.store.store).epoch (tally_in actors.store.store).number N.start.geometry.inodes (reads (D.moments result.disk))) }
 {
     let Actors {
@@ -102,7 +102,7 @@ pub fn finish<N: Naming, D: Disk, L: Ledger>(
     let ended = clean_if(alloc, &mut disk, done);
     Finished {
         tickets,
-        bytes: Some(bytes),
+        bytes: Ok(bytes),
         disk,
         ended,
     }
@@ -125,13 +125,14 @@ pub fn leave<N: Naming, D: Disk, L: Ledger>(
     ensures counted { IsTold (tally_in remains.store.store).faults (D.faults result.disk) (closing_fault result.ended) }
     ensures open { OnOk result.ended ⊥ }
     ensures lack { stop_in remains.store.store ≡ None → result.ended ≡ Err (cause.Lack (lack.Memory memory)) }
+    ensures unmeasured { result.bytes ≡ Err memory }
 {
     let gathered = gather_remains(&table, remains);
     let Ended { tickets, store } = close_gathered(table, gathered);
     let stop = store.stopped();
     Finished {
         tickets,
-        bytes: None,
+        bytes: Err(memory),
         disk: store.into_disk(),
         ended: Err(cause_of(stop, memory)),
     }

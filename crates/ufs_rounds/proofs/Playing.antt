@@ -1,6 +1,7 @@
 -- A session that was played is finished.
-use Rattle.std.proofs.Common.{◌≡◌, ℕ, zero, suc, ◌+◌, Bool, List, [], ◌∷◌, length, map, Option, Result, Ok, Err, inl, inr, refl, ap, sym, ◌∙◌, subst, arith}
+use Rattle.std.proofs.Common.{◌≡◌, ℕ, zero, suc, ◌+◌, Bool, List, [], ◌∷◌, length, map, Result, Ok, Err, inl, inr, refl, ap, sym, ◌∙◌, subst, arith}
 use Rattle.std.specs.Prelude.{OnOk}
+use Rattle.ufs_base.specs.declared.memory.Memory.{Memory}
 use Rattle.ufs_caller.specs.Callers.{Caller, entries_in}
 use Rattle.ufs_caller.specs.declared.told.Told.{Told}
 use Rattle.ufs_client.specs.Played.{IsMerged, transcript}
@@ -50,7 +51,7 @@ not_well (Err fault) X none = tt
 
 -- ---- the whole
 
-module _ (k : Start) (origin : Moments) (keeps : Bool) (scripts : List (List Op)) (tickets : ℕ) (lists : List (List Entry)) (answers : List (List Told)) (clients : List Caller) (bytes : Option ℕ) (sectors faults : ℕ) (now : Moments) (ended : Result (Unit {0}) CloseFault)
+module _ (k : Start) (origin : Moments) (keeps : Bool) (scripts : List (List Op)) (tickets : ℕ) (lists : List (List Entry)) (answers : List (List Told)) (clients : List Caller) (bytes : Result ℕ Memory) (sectors faults : ℕ) (now : Moments) (ended : Result (Unit {0}) CloseFault)
     (told : lists ≡ lists_of clients) (are : lists ≡ map entries_in answers) (given : scripts_of clients ≡ scripts) (made : AreAllMadeThere k answers) where
   pub has_played : HasFinished k origin keeps tickets (lists_of clients) bytes sectors faults now ended → AnswerFirst scripts (lists_of clients) → AnswerAll scripts (lists_of clients)
       → HasPlayed k origin keeps scripts tickets lists bytes sectors faults now ended

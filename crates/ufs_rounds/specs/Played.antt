@@ -1,5 +1,6 @@
 -- What is known of a session that was played by turns and has ended, by what its clients were given to ask.
-use Rattle.std.specs.Prelude.{ℕ, ◌≡◌, ◌↔◌, Bool, IfSome, List, length, Ok, Err, Option, Result, Some, OnOk, true}
+use Rattle.std.specs.Prelude.{ℕ, ◌≡◌, ◌↔◌, Bool, IfSome, List, length, Ok, Err, Result, Some, OnOk, true}
+use Rattle.ufs_base.specs.declared.memory.Memory.{Memory}
 use Rattle.ufs_client.specs.Played.{IsMerged}
 use Rattle.ufs_disk.specs.Moments.{Moments, reads}
 use Rattle.ufs_brink.specs.Closes.{closing_fault}
@@ -22,7 +23,7 @@ use Rattle.ufs_rounds.specs.Turns.{GlobalState}
 
 -- The session was finished so, with these transcripts, one of each script: each answers the requests of its client's script, in order, and
 -- so does the one history of which they are. Each entry is by its client or by a server that is there.
-pub record HasPlayed (k : Start) (origin : Moments) (keeps : Bool) (scripts : List (List Op)) (tickets : ℕ) (lists : List (List Entry)) (bytes : Option ℕ) (sectors faults : ℕ) (now : Moments) (ended : Result (Unit {0}) CloseFault) : Type 0 where
+pub record HasPlayed (k : Start) (origin : Moments) (keeps : Bool) (scripts : List (List Op)) (tickets : ℕ) (lists : List (List Entry)) (bytes : Result ℕ Memory) (sectors faults : ℕ) (now : Moments) (ended : Result (Unit {0}) CloseFault) : Type 0 where
   pub finished : HasFinished k origin keeps tickets lists bytes sectors faults now ended
   pub each : length lists ≡ length scripts
   pub made : (e : Entry) → Has e finished.session.history → MayHaveServed k e.client e.by

@@ -29,6 +29,7 @@ use crate::rounds::Unfinished;
 use crate::session::Session;
 use std::alloc::Global;
 use std::sync::ledger::{Ledger, Share};
+use ufs_base::Memory;
 use ufs_brink::CloseFault;
 use ufs_caller::Told;
 use ufs_disk::Disk;
@@ -46,8 +47,8 @@ pub struct Played<D: Disk> {
     pub told: Vec<Vec<Told>>,
     /// How many entries it has.
     pub tickets: u64,
-    /// How large all files are together at the end; nothing where memory was wanting to commit anything.
-    pub bytes: Option<u128>,
+    /// How large all files are together at the end; want of memory where it was wanting to commit anything.
+    pub bytes: Result<u128, Memory>,
     pub disk: D,
     /// Whether everything was committed, and the image made clean.
     pub ended: Result<(), CloseFault>,

@@ -1,17 +1,18 @@
 use Rattle.std.proofs.Common.{◌≡◌, ◌∙◌, ◌<◌, ℕ, List, [], length, Result, refl, sym, subst}
 use Rattle.std.specs.Prelude.{true}
 use Rattle.ufs_brink.specs.declared.closing.CloseFault.{CloseFault}
+use Rattle.ufs_client.specs.Played.{IsMerged}
 use Rattle.ufs_disk.specs.Disk.{Leaves}
 use Rattle.ufs_disk.specs.Moments.{Moments}
 use Rattle.ufs_gathered.specs.Ended.{AnswerAll}
 use Rattle.ufs_joint.specs.Cells.{Start}
 use Rattle.ufs_joint.specs.FirstHand.{Beginning, start_first}
 use Rattle.ufs_joint.specs.Ready.{IsReady}
-use Rattle.ufs_model.specs.History.{joined}
 use Rattle.ufs_model.specs.declared.data.Entry.{Entry}
 use Rattle.ufs_model.specs.declared.data.Op.{Op}
 use Rattle.ufs_msg.specs.There.{worker_count}
 use Rattle.ufs_promise_laws.specs.OnDisk.{IsExplainedImage}
+use Rattle.ufs_rounds.specs.Played.{TellsToEnd}
 use Rattle.ufs_store.specs.State.{StoreState}
 use Rattle.ufs_store.specs.Tables.{state_of}
 use Rattle.ufs_engine_hands.specs.Asked.{IsAskedOf, given, lists_in}
@@ -20,7 +21,7 @@ use Rattle.ufs_engine_hands.proofs.Clients.{for_scripts}
 use Rattle.ufs_engine_hands.proofs.Ending.{HasRun, IsWholeEnd, no_worker, played_on}
 use Rattle.ufs_engine_hands.proofs.Leaving.{begins_so, left_on, ready_there}
 use Rattle.ufs_engine_hands.proofs.Rooms.{given_fit, has_room}
-use Rattle.ufs_engine_hands.proofs.Running.{TellsStore, has_run, some_given, some_of}
+use Rattle.ufs_engine_hands.proofs.Running.{counts_first, formed_so, has_run, some_given}
 use Rattle.ufs_engine_hands.proofs.session.play_named.Given.{Over}
 use Rattle.ufs_engine_hands.proofs.session.play_named.Goals.{After-whole_end}
 use Rattle.ufs_engine_hands.proofs.session.play_named.Goals as goal
@@ -85,22 +86,23 @@ module _ (g : Over) (c : After-whole_end g) where
   abbrev now : Moments
   now = g.D.Disk.moments c.in-Ok-play.played.disk
 
-  -- What the turns of a session tell of its store. It is wanted of `Session::play`.
-  tells : TellsStore k opened (joined lists) faults now closed
-  tells = ?tells_store
+  -- What the turns of the session tell of its store.
+  tells : (history : List Entry) → IsMerged lists history → TellsToEnd k opened c.in-Ok.session.store history faults now closed
+  tells = c.in-Ok-play.ensures.told (c.in-Ok.ensures.alone refl) c.in-Ok.ensures.nothing opened (formed_so k b opened from is_ready)
 
   whole : IsWholeEnd closed c.in-Ok-play.played.bytes c.whole_end.result c.bytes_of.result
   whole = record {
     closed_well = c.whole_end.ensures.closed;
     device = c.whole_end.ensures.device;
     stopped = c.whole_end.ensures.stopped;
-    measured = λ ok. some_of c.in-Ok-play.played.bytes c.bytes_of.result (c.whole_end.ensures.measured ok) c.bytes_of.ensures;
+    measured = c.whole_end.ensures.measured;
+    counts = c.bytes_of.ensures;
   }
 
   module _ (scripts : List (List Op)) (asked : IsAskedOf scripts c.args.asked.clients c.args.asked.lists c.args.asked.rooms.items) where
     run : HasRun k g.D.Disk.keeps (given scripts) opened c.in-Ok-play.played.tickets lists c.in-Ok-play.played.bytes sectors faults now closed
-    run = has_run k g.N.Naming.origin g.D.Disk.keeps _ (given scripts) opened c.in-Ok-play.played.tickets lists c.in-Ok-play.played.bytes sectors faults now closed b
-        from is_ready c.requires.origin (c.in-Ok.ensures.scripts ∙ asked.clients_are) c.in-Ok-play.ensures.played alone (c.in-Ok-play.ensures.in_turn (c.in-Ok.ensures.alone refl) c.in-Ok.ensures.nothing refl) tells
+    run = has_run k g.N.Naming.origin g.D.Disk.keeps _ (given scripts) opened c.in-Ok.session.store c.in-Ok-play.played.tickets lists c.in-Ok-play.played.bytes sectors faults now closed
+        (formed_so k b opened from is_ready) (counts_first opened c.in-Ok.session.store c.in-Ok.ensures.store.store) c.requires.origin (c.in-Ok.ensures.scripts ∙ asked.clients_are) c.in-Ok-play.ensures.played alone (c.in-Ok-play.ensures.in_turn (c.in-Ok.ensures.alone refl) c.in-Ok.ensures.nothing refl) tells
 
     on : IsPlayedOn k g.D.Disk.keeps (given scripts) opened lists c.bytes_of.result c.whole_end.result sectors faults now
     on = played_on k g.D.Disk.keeps (given scripts) opened c.in-Ok-play.played.tickets lists c.in-Ok-play.played.bytes sectors faults now closed run b from is_ready begins c.whole_end.result c.bytes_of.result whole

@@ -12,7 +12,6 @@ use Rattle.ufs_image.specs.Volume.{superblock_of}
 use Rattle.ufs_recovery.specs.Recovered.{IsCleanDisk, IsRecovered}
 use Rattle.ufs_joint.specs.Cells.{FileCell, StoreCell}
 use Rattle.ufs_hand_laws.specs.Owned.{count}
-use Rattle.ufs_hand_laws.proofs.Owning.{same_some}
 use Rattle.ufs_store.specs.Refusals.{IsTold, fault_in, stop_after}
 use Rattle.ufs_store.specs.State.{StoreState}
 use Rattle.ufs_store.specs.Tables.{state_of}
@@ -62,9 +61,8 @@ returns-clause-finished g c lists at_home =
       files = d.new.files;
       store = s;
       session = session;
-      measured = λ n is.
-          sym (same_some c.length_of-bytes.result n is)
-          ∙ c.length_of-bytes.ensures
+      measured =
+          c.length_of-bytes.ensures
           ∙ ap (λ (files : List FileCell). sum_by size_of_cell files) (c.as_slice.ensures.value ∙ whole)
           ∙ session.bytes;
       all = is_ok d.result.0;

@@ -1,4 +1,4 @@
-use Rattle.std.proofs.Common.{◌≡◌, ℕ, List, Option, None, Err, sym, ap, ◌∙◌, subst}
+use Rattle.std.proofs.Common.{◌≡◌, ℕ, List, Option, Err, sym, ap, ◌∙◌, subst}
 use Rattle.ufs_disk.specs.Moments.{Moments}
 use Rattle.ufs_brink.specs.Closes.{closing_fault}
 use Rattle.ufs_brink.specs.declared.closing.CloseFault.{CloseFault}
@@ -36,8 +36,8 @@ returns-clause-finished g c lists at_home =
     c.close_gathered-tickets.ensures.ended a.names back.0 a.rest a.clients.items (c.gather_remains-gathered.ensures.all back.0 back.1) back.2 lists at_home in
     let into = c.into_disk.ensures in
     let is : c.cause_of.result ≡ left_by s.stop c.args.memory = c.cause_of.ensures ∙ ap (λ (stop : Option ℕ). left_by stop c.args.memory) c.stopped-stop.ensures in
-    subst (λ (x : ℕ × (ℕ × Moments)). HasFinished k g.N.Naming.origin keeps tickets lists None x.0 x.1.0 x.1.1 (Err c.cause_of.result)) (λ i. (sym into.size i, (sym into.faults i, sym into.moments i)))
-    (subst (λ (fault : CloseFault). HasFinished k g.N.Naming.origin keeps tickets lists None s.sectors s.faults s.moments (Err fault)) (sym is) (left_open k g.N.Naming.origin keeps tickets lists a.names back.0 s session c.args.memory))
+    subst (λ (x : ℕ × (ℕ × Moments)). HasFinished k g.N.Naming.origin keeps tickets lists (Err c.args.memory) x.0 x.1.0 x.1.1 (Err c.cause_of.result)) (λ i. (sym into.size i, (sym into.faults i, sym into.moments i)))
+    (subst (λ (fault : CloseFault). HasFinished k g.N.Naming.origin keeps tickets lists (Err c.args.memory) s.sectors s.faults s.moments (Err fault)) (sym is) (left_open k g.N.Naming.origin keeps tickets lists a.names back.0 s session c.args.memory))
 
 pub returns-clause-stopped : goal.returns-clause-stopped
 returns-clause-stopped g c fault =
