@@ -1,5 +1,5 @@
 -- A turn in which a checkpoint is made, or can't be.
-use Rattle.std.proofs.Common.{◌≡◌, ◌≤◌, ◌⊎◌, ◌++◌, ℕ, Bool, true, cond, None, Option, List, [], ◌∷◌, sym, refl, ap, ◌∙◌, subst, arith}
+use Rattle.std.proofs.Common.{◌≡◌, ◌≤◌, ◌⊎◌, inl, ◌++◌, ℕ, Bool, true, cond, None, Option, List, [], ◌∷◌, sym, refl, ap, ◌∙◌, subst, arith}
 use Rattle.std.specs.Prelude.{IsTrue}
 use Rattle.ufs_bitmap.specs.Space.{Space}
 use Rattle.ufs_disk.specs.Disk.{IsWhole}
@@ -19,7 +19,21 @@ use Rattle.ufs_turns.specs.HeldStore.{IsStoreIn, bare_turn, begun_view, ended_vi
 use Rattle.ufs_turns.specs.Lent.{IsBeside}
 use Rattle.ufs_turns.specs.Syncs.{HasMade}
 use Rattle.ufs_turns.specs.Told.{fault_told, told_list}
+use Rattle.ufs_disk.proofs.Runs.{started}
+use Rattle.ufs_turns.proofs.FreeBlocks.{rests_so}
 use Rattle.ufs_turns.proofs.Turning as turning
+
+-- Where nothing is done, that is as where memory was wanting for it.
+pub none_made : (visible keeps : Bool) (s : StoreState) → HasMade visible keeps s s None
+none_made visible keeps s = record {
+  made = λ seen. inl refl;
+  crash = λ seen l has. started keeps (IsLeftByAny s.sectors (l ∷ beginning_next s l ∷ [])) s.moments (λ image left. inl (has.by.is.images image left));
+  unassigned = refl;
+  geometry = refl;
+  sectors = refl;
+  cause = refl;
+  stop = rests_so s.stop s.stop refl;
+}
 
 module _ (k : Start) (origin : Moments) (visible keeps : Bool) (n : ℕ) (v w : View) (s t : StoreState) (knows : Knows k n v) (home : IsStoreIn k origin visible keeps v s) (begun : w ≡ begun_view v n) where
   abbrev was : StoreCell

@@ -20,7 +20,7 @@ ghost use Rattle.ufs_turns.specs.Told.{fault_told, told_list};
 
 use crate::commits::commit_lent;
 use crate::reclaims::reclaim_lent;
-use crate::space::{checkpoint_lent, give_lent, take_lent};
+use crate::space::{checkpoint_lent, give_lent, stop_lent, take_lent};
 use crate::syncs::{sync_store, told_by, told_of};
 use std::marker::{Brand, Model};
 use std::sync::ledger::{Book, Ledger, Share};
@@ -275,6 +275,29 @@ impl<N: Naming, D: Door, L: Ledger> HeldStore<N, D, L> {
         give_back(table, own, hand);
         count_made(book, share, &made);
         made
+    }
+
+    /// Says where the store stopped, as `Turns` says.
+    pub fn stopped(&mut self, table: &HandTable<N>, hand: &mut Hand<N>) -> Option<u64>
+        requires bare { IsBare hand.old }
+        ensures told { result ≡ stop_in self.old.store }
+        ensures stop { hand.new.stop ≡ result }
+        ensures free { free_in self.new.store ≡ free_in self.old.store }
+        ensures bare { IsBare hand.new }
+        ensures beside { IsBeside hand.old hand.new }
+        ensures ran { RunIn None 0 0 self.old.store self.new.store }
+        ensures rests { stop_in self.new.store ≡ stop_in self.old.store }
+        ensures faults { hand.new.faults ≡ hand.old.faults }
+    {
+        let HeldStore {
+            hand: own,
+            store,
+            ..
+        } = self;
+        lend(table, own, hand);
+        let stop = stop_lent(table, hand, store);
+        give_back(table, own, hand);
+        stop
     }
 
     /// Makes a checkpoint behind which what the names dropped is unassigned, as `Turns` says.

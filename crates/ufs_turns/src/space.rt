@@ -53,6 +53,30 @@ pub(crate) fn checkpoint_lent<N: Naming, D: Door>(
     made
 }
 
+// A turn in which nothing is done, by a hand that has the store's cell and no file. The hand knows then where the store stopped.
+pub(crate) fn stop_lent<N: Naming, D: Door>(
+    table: &HandTable<N>,
+    hand: &mut Hand<N>,
+    store: &D,
+) -> Option<u64>
+    requires store { IsStoreIn N.start N.origin D.visible D.keeps hand.old (D.store store.now) }
+    requires files { hand.old.files ≡ [] }
+    requires names { hand.old.names ≡ [] }
+    ensures store { IsStoreIn N.start N.origin D.visible D.keeps hand.new (D.store store.now) }
+    ensures told { result ≡ (D.store store.now).stop }
+    ensures stop { hand.new.stop ≡ (D.store store.now).stop }
+    ensures files { hand.new.files ≡ [] }
+    ensures names { hand.new.names ≡ [] }
+    ensures beside { IsBeside hand.old hand.new }
+    ensures faults { hand.new.faults ≡ hand.old.faults }
+{
+    let geometry = store.geometry();
+    a_checkpoint_ends(&geometry);
+    begin_turn::<N, Brand>(table, hand, &geometry);
+    end_bare::<N, D, Brand>(table, hand, &geometry, store, None);
+    store.stopped()
+}
+
 // A turn ends that was about no file. Answers the tickets.
 fn end_bare<N: Naming, D: Door, E: Event>(
     table: &HandTable<N>,

@@ -10,7 +10,7 @@ ghost use Rattle.ufs_joint.specs.Cells.{FileCell, NamesCell, View};
 ghost use Rattle.ufs_store.specs.Refusals.{fault_in, is_no_space, is_own};
 ghost use Rattle.ufs_store.specs.declared.fault.StoreFault.TheVariants as refusal;
 ghost use Rattle.ufs_turns.specs.AllLent.{LendsAll, without_dropped};
-ghost use Rattle.ufs_turns.specs.Lent.{AreTold, GainsBlocks, HasCommitted, IsBare, IsBeside, IsBesidePools, LacksBlocks, LendsFile, LendsPool, Runs, StopsByFault, TellsStop, TellsWhere, used_in};
+ghost use Rattle.ufs_turns.specs.Lent.{AreTold, GainsBlocks, HasCommitted, IsBare, IsBeside, IsBesidePools, LacksBlocks, LendsFile, LendsPool, Runs, StopsByFault, TellsStop, TellsWhere, stop_in, used_in};
 ghost use Rattle.ufs_turns.specs.NamesLent.{HaveCommitted, LendsNames};
 ghost use Rattle.ufs_turns.specs.Told.{fault_told, told_list};
 
@@ -170,6 +170,21 @@ pub trait Turns<N: Naming> {
         ensures halted { TellsStop (tells self.old) result }
         ensures stopped { TellsWhere (tells self.new) result }
         ensures refused { IfErr result (λ fault. is_no_space fault ≡ false) };
+
+    /// The fault at which the store stopped, if it did: the hand knows it then. A turn in which nothing is done; the hand that is lent has
+    /// no file. No call of the disk.
+    fn stopped(&mut self, hand: &mut Hand<N>) -> Option<u64>
+        requires bare { IsBare hand.old }
+        ensures told { IfSome (tells self.old) (λ v. result ≡ stop_in v.store) }
+        ensures stop { hand.new.stop ≡ result }
+        ensures free { AreTold (tells self.old) (tells self.new) (λ had has. has ≡ had) }
+        ensures ran { Runs (tells self.old) (tells self.new) None 0 0 }
+        ensures rests { StopsByFault (tells self.old) (tells self.new) None }
+        ensures telling { is_some (tells self.new) ≡ is_some (tells self.old) }
+        ensures answers { answers self.new ≡ answers self.old }
+        ensures bare { IsBare hand.new }
+        ensures beside { IsBeside hand.old hand.new }
+        ensures faults { hand.new.faults ≡ hand.old.faults };
 
     /// Makes a checkpoint by a hand with the names and each live file, where nothing of the names and of the files is left to commit: what
     /// directories and removed files dropped is unassigned behind it. Where it fails all stays, and the hand was told the fault, or that the

@@ -75,6 +75,10 @@ impl<'a, N: Naming, D: Door, L: Ledger> Turns<N> for Direct<'a, N, D, L> {
         self.held.checkpoint(self.table, hand, &mut self.share)
     }
 
+    fn stopped(&mut self, hand: &mut Hand<N>) -> Option<u64> {
+        self.held.stopped(self.table, hand)
+    }
+
     fn reclaim(&mut self, hand: &mut Hand<N>, dropped: &mut Pool) -> Result<(), StoreFault> {
         self.held
             .reclaim(self.table, hand, dropped, &mut self.share)
@@ -152,6 +156,10 @@ impl<'a, N: Naming, D: Door, L: Ledger, R: Wait> Turns<N> for Locked<'a, N, D, L
         self.held
             .lock(self.rt)
             .checkpoint(self.table, hand, &mut self.share)
+    }
+
+    fn stopped(&mut self, hand: &mut Hand<N>) -> Option<u64> {
+        self.held.lock(self.rt).stopped(self.table, hand)
     }
 
     fn reclaim(&mut self, hand: &mut Hand<N>, dropped: &mut Pool) -> Result<(), StoreFault> {
