@@ -33,6 +33,7 @@ fn is_to_go<N: Naming>(home: &Home<N>, file: u32, to: u8) -> bool
     ensures here { result ≡ true → owner_at home.now.owners file ≡ owner.Primary }
     ensures yes { result ≡ true → order_of (owner_at home.now.owners file) (is_waited home.now.owners file) to ≡ moved.Sent }
     ensures no { result ≡ false → owner_at home.now.owners file ≡ owner.Primary → to ≢ 0 → waiting_at home.now.owners file ≢ [] }
+    ensures called { to ≡ 0 → result ≡ false }
 {
     if to == 0 {
         return false;
@@ -104,7 +105,8 @@ fn make_ready<N: Naming, T: Turns<N>>(
     Ok(())
 }
 
-/// The file is to go to this worker, or to the primary for 0. One that goes from here knows its birth as committed then.
+/// The file is to go to this worker, or to the primary for 0. One that goes from here knows its birth as committed then; none that is called
+/// to the primary has a turn of the store.
 pub(crate) fn order_file<N: Naming, T: Turns<N>>(
     table: &HandTable<N>,
     names: &mut HeldNames<N>,
@@ -125,6 +127,7 @@ pub(crate) fn order_file<N: Naming, T: Turns<N>>(
     ensures telling { is_some (T.tells door.new) ≡ is_some (T.tells door.old) }
     ensures halts { StopsByFault (T.tells door.old) (T.tells door.new) (dropped_by result) }
     ensures ran { Runs (T.tells door.old) (T.tells door.new) (dropped_by result) 1 1 }
+    ensures called { to ≡ 0 → T.tells door.new ≡ T.tells door.old }
 {
     if !is_to_go(home, file, to) {
         return Ordered::Moved(home.order(file, to));

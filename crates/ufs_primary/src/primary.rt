@@ -142,7 +142,7 @@ impl<N: Naming> Primary<N> {
     }
 
     /// The file is to go to this worker, or to the primary for 0. Where it goes from here, and its birth isn't known as committed, the
-    /// names are committed first; where that is refused nothing is done.
+    /// names are committed first; where that is refused nothing is done. One that is called to the primary has no turn of the store.
     pub fn order<T: Turns<N>>(
         &mut self,
         table: &HandTable<N>,
@@ -157,6 +157,7 @@ impl<N: Naming> Primary<N> {
         ensures telling { is_some (T.tells door.new) ≡ is_some (T.tells door.old) }
         ensures halts { StopsByFault (T.tells door.old) (T.tells door.new) (dropped_by result) }
         ensures ran { Runs (T.tells door.old) (T.tells door.new) (dropped_by result) 1 1 }
+        ensures called { to ≡ 0 → T.tells door.new ≡ T.tells door.old }
     {
         self.stock.order(table, door, file, to)
     }

@@ -11,14 +11,17 @@ use Rattle.ufs_caller.specs.declared.told.Told.{Told as Told'}
 use Rattle.ufs_caller.specs.declared.turn.Turn.{Turn}
 use Rattle.ufs_caller.specs.declared.turn.Turn.TheVariants as turn
 use Rattle.ufs_client.specs.Played.{IsMerged, transcript}
+use Rattle.ufs_crash_laws.specs.Changes.{asks_commit}
 use Rattle.ufs_hand_laws.proofs.Keys.{itself}
 use Rattle.ufs_hand_laws.proofs.Owning.{has_append}
 use Rattle.ufs_hand_laws.specs.Owned.{Has, one}
 use Rattle.ufs_joint.specs.Cells.{Start}
-use Rattle.ufs_model.specs.History.{entries_of}
+use Rattle.ufs_model.specs.History.{entries_of, is_excused}
 use Rattle.ufs_model.specs.declared.data.Actor.TheVariants as actor
 use Rattle.ufs_model.specs.declared.data.Entry.{Entry}
+use Rattle.ufs_model.specs.declared.data.Errno.{Errno}
 use Rattle.ufs_model.specs.declared.data.Op.{Op}
+use Rattle.ufs_model.specs.declared.data.Reply.TheVariants as reply
 use Rattle.ufs_msg.specs.Answers.{Told}
 use Rattle.ufs_msg.specs.Rows.{HappensAt}
 use Rattle.ufs_msg.specs.declared.answer.Answer.{Answer}
@@ -113,6 +116,8 @@ module _ {N : Type 0} (since upto number : ℕ) (p q : Rings N) (a b : Caller) w
     pub mine : new.entry.client ≡ number
     pub idle : a.errand ≡ None
     pub some : a.left ≡ [] → ⊥
+    pub plain : is_excused new.entry.reply ≡ false
+    pub refused : asks_commit new.entry.op ≡ true → (errno : Errno) × (new.entry.reply ≡ reply.Refused errno)
 
 module _ {N : Type 0} (k : Start) (s t : GlobalState N) (w : ServesAlone k s) (number : ℕ) (said : Turn) (h : IsClientTurn s.seen t.seen number s.clients t.clients s.rings t.rings said) (rest : t ≡ record s { clients = t.clients; rings = t.rings; seen = t.seen }) where
   abbrev Told3 : Type 0
@@ -137,6 +142,8 @@ module _ {N : Type 0} (k : Start) (s t : GlobalState N) (w : ServesAlone k s) (n
         mine = g.0.client ∙ w.numbers number h.goes.was h.goes.stood;
         idle = g.0.idle;
         some = none_left g.0.request h.goes.is.left h.goes.was.left g.0.next;
+        plain = g.0.plain;
+        refused = λ asks. g.0.refused (sym (ap asks_commit g.0.asked) ∙ asks);
       }))
       by turn.Told is g = inr (inl (record {
         answer = g.0;

@@ -16,7 +16,10 @@ use Rattle.ufs_model.specs.declared.data.Entry.{Entry}
 use Rattle.ufs_model.specs.declared.data.Op.{Op}
 use Rattle.ufs_msg.specs.There.{MayHaveServed}
 use Rattle.ufs_store.specs.Refusals.{IsTold}
+use Rattle.ufs_store.specs.State.{StoreState}
+use Rattle.ufs_told.specs.Told.{AreFaultsTold}
 use Rattle.ufs_turns.specs.Lent.{stop_in, tally_in}
+use Rattle.ufs_rounds.specs.Faults.{counts_in}
 use Rattle.ufs_rounds.specs.Rest.{IsPlayed}
 use Rattle.ufs_rounds.specs.Scripts.{lists_of}
 use Rattle.ufs_rounds.specs.Turns.{GlobalState}
@@ -39,6 +42,12 @@ pub record IsEndOf (k : Start) (faults : ℕ) (now : Moments) (ended : Result (U
   pub stopped : (fault : ℕ) → (ended ≡ Err (cause.Stopped fault)) ↔ (stop_in before.store ≡ Some fault)
   pub counted : IsTold (tally_in before.store).faults faults (closing_fault ended)
   pub raised : k.is_visible ≡ true → OnOk ended (ClosesBy (tally_in before.store).epoch (tally_in before.store).number k.geometry.inodes (reads now))
+
+-- Before the end the store was so that the entries of this history tell what it counted from the first cell to that one; and so it ended.
+pub record TellsToEnd (k : Start) (s : StoreState) (first : View) (history : List Entry) (faults : ℕ) (now : Moments) (ended : Result (Unit {0}) CloseFault) : Type 0 where
+  pub before : View
+  pub ends : IsEndOf k faults now ended before
+  pub told : AreFaultsTold (counts_in s first.store) (counts_in s before.store) history
 
 -- It was played to the end from this state on, first by the schedule, and these were the transcripts then. So it ended.
 pub record IsPlayedOut {N : Type 0} (k : Start) (schedule : List Actor) (s : GlobalState N) (lists : List (List Entry)) (faults : ℕ) (now : Moments) (ended : Result (Unit {0}) CloseFault) : Type 0 where

@@ -1,12 +1,11 @@
 -- What was done in a session, one step after the other.
-use Rattle.std.specs.Prelude.{ℕ, suc, ◌+◌, ◌≡◌, ◌||◌, Bool, false, is_some, List, [], ◌∷◌, map, Option, None, Some}
-use Rattle.ufs_at_primary.specs.Orders.{IsFileOrdered, dropped_by}
+use Rattle.std.specs.Prelude.{ℕ, suc, ◌+◌, ◌≡◌, ◌||◌, Bool, false, List, [], ◌∷◌, map, Option, None, Some}
+use Rattle.ufs_at_primary.specs.Orders.{IsFileOrdered}
 use Rattle.ufs_at_primary.specs.declared.ordered.Ordered.{Ordered}
 use Rattle.ufs_base.specs.declared.lack.Lack.{Lack}
 use Rattle.ufs_hand_laws.specs.Owned.{Has, one}
 use Rattle.ufs_joint.specs.Cells.{Start}
 use Rattle.ufs_model.specs.declared.data.Actor.{Actor}
-use Rattle.ufs_turns.specs.Lent.{AreTold, Runs, StopsByFault}
 use Rattle.ufs_rounds.specs.Moves.{first_lack, is_called, is_move, lack_in, order_lack}
 use Rattle.ufs_rounds.specs.Turns.{GlobalState, IsTurnOf}
 use Rattle.ufs_rounds.specs.declared.turned.Turned.{Turned}
@@ -63,14 +62,10 @@ AreCalls file (CallOf n o ∷ ms) = (n ≡ file) × AreCalls (suc file) ms
 -- ---- what they did
 
 module _ {N : Type 0} (k : Start) where
-  -- The file is to go to the primary.
+  -- The file is to go to the primary. The store is as it was.
   pub record IsCallOf (file : ℕ) (s t : GlobalState N) (o : Ordered) : Type 0 where
     pub ordered : IsFileOrdered k.is_visible s.primary.stock t.primary.stock file 0 o
-    pub free : AreTold s.store t.store (λ had has. has ≡ had)
-    pub telling : is_some t.store ≡ is_some s.store
-    pub halts : StopsByFault s.store t.store (dropped_by o)
-    pub ran : Runs s.store t.store (dropped_by o) 1 1
-    pub rest : t ≡ record s { primary = record s.primary { stock = t.primary.stock }; store = t.store }
+    pub rest : t ≡ record s { primary = record s.primary { stock = t.primary.stock } }
 
   abbrev pub IsStep : Step → GlobalState N → GlobalState N → Type 0
   IsStep (TurnOf who o) s t = IsTurnOf k who s t o

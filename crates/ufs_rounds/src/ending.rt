@@ -4,6 +4,7 @@ ghost use Rattle.std.specs.Prelude.{ℕ, ◌≡◌, ◌<◌, ◌↔◌, [], Err,
 ghost use Rattle.ufs_caller.specs.Callers.{entries_in};
 ghost use Rattle.ufs_brink.specs.Closes.{closing_fault};
 ghost use Rattle.ufs_brink.specs.declared.closing.CloseFault.TheVariants as cause;
+ghost use Rattle.ufs_client.specs.Played.{IsMerged};
 ghost use Rattle.ufs_gathered.specs.Ended.{AnswerFirst};
 ghost use Rattle.ufs_disk.specs.Moments.{reads};
 ghost use Rattle.ufs_gathered.specs.Finished.{ClosesBy, HasFinished};
@@ -16,12 +17,12 @@ ghost use Rattle.ufs_rounds.specs.Back.{AreBackHere};
 ghost use Rattle.ufs_rounds.specs.Dealing.{HaveAskedNothing};
 ghost use Rattle.ufs_rounds.specs.Made.{AreAllMadeThere};
 ghost use Rattle.ufs_rounds.specs.Numbers.{IsThere};
-ghost use Rattle.ufs_rounds.specs.Played.{AreInTurn, HasPlayed, IsPlayedOut};
+ghost use Rattle.ufs_rounds.specs.Played.{AreInTurn, HasPlayed, IsPlayedOut, TellsToEnd};
 ghost use Rattle.ufs_rounds.specs.Rest.{IsAtRest, IsPlayed};
 ghost use Rattle.ufs_rounds.specs.Scripts.{lists_of, scripts_of};
 ghost use Rattle.ufs_rounds.specs.View.{global_of};
 ghost use Rattle.ufs_store.specs.Refusals.{IsTold};
-ghost use Rattle.ufs_store.specs.State.{StoreState};
+ghost use Rattle.ufs_store.specs.State.{StoreState, geometry_of_store};
 ghost use Rattle.ufs_turns.specs.Lent.{stop_in, tally_in};
 
 use crate::gathering::AtRest;
@@ -172,8 +173,8 @@ impl<N: Naming, D: Disk, L: Ledger> Session<N, D, L> {
 
     /// Plays the session by turns, and ends it: by the schedule, one turn a word; then by rounds until nothing is under way; then each
     /// client in order asks what it has left. Where rounds come to no rest the session comes back. Where the primary serves alone, as it
-    /// does without a worker, they always come to rest (`ended`); and without a schedule each client asks all that it was given before the
-    /// next one does (`in_turn`).
+    /// does without a worker, they always come to rest (`ended`); the entries tell each fault of the device, and how far the store's epoch and
+    /// next commit number rose (`told`); and without a schedule each client asks all that it was given before the next one does (`in_turn`).
     pub fn play(self, alloc: Global, schedule: &[Actor]) -> Result<Played<D>, Unended<N, D, L>>
         requires start { (b : Beginning) × (s : StoreState) × (N.start ≡ start_first b s) }
         requires there { AllByRecursion (IsThere N.start) schedule.now }
@@ -181,6 +182,8 @@ impl<N: Naming, D: Disk, L: Ledger> Session<N, D, L> {
         ensures made { IfOk result (λ p. AreAllMadeThere N.start (map (λ t. t.items) p.told.items)) }
         ensures turns { IfOk result (λ p. IsPlayedOut N.start schedule.now (global_of self.participants (Some self.store)) (map (λ t. entries_in t.items) p.told.items) (D.faults p.disk) (D.moments p.disk) p.ended) }
         ensures in_turn { ServesAlone N.start (global_of self.participants (Some self.store)) → HaveAskedNothing self.participants.clients.items → schedule.now ≡ [] → IfOk result (λ p. AreInTurn (map (λ t. entries_in t.items) p.told.items)) }
+        ensures told { ServesAlone N.start (global_of self.participants (Some self.store)) → HaveAskedNothing self.participants.clients.items → (s : StoreState) → geometry_of_store s ≡ N.start.geometry
+            → IfOk result (λ p. (history : List Entry) → IsMerged (map (λ t. entries_in t.items) p.told.items) history → TellsToEnd N.start s self.store history (D.faults p.disk) (D.moments p.disk) p.ended) }
         ensures ended { ServesAlone N.start (global_of self.participants (Some self.store)) → IsOk result }
         ensures under_way { IfErr result (λ u. IsAtRest u.session.participants.clients.items u.session.participants.primary → ⊥) }
         ensures so_far { IfErr result (λ u. IsPlayed N.start schedule.now (global_of self.participants (Some self.store)) (global_of u.session.participants (Some u.session.store)) (Err u.why)) }

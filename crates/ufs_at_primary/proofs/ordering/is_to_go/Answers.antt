@@ -23,3 +23,6 @@ returns-in-Primary-clause-no g c = λ no at some none.
 
 pub returns-in_default-clause-no : goal.returns-in_default-clause-no
 returns-in_default-clause-no g c = λ no at some none. c.in_default.not-Primary (c.owner_of.ensures ∙ at)
+
+pub returns-in-Primary-clause-called : goal.returns-in-Primary-clause-called
+returns-in-Primary-clause-called g c = λ none. absurd (c.if-to-eq0.false none)

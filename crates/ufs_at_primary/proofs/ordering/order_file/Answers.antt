@@ -1,4 +1,4 @@
-use Rattle.std.proofs.Common.{inl, inr, refl, sym, ◌∙◌}
+use Rattle.std.proofs.Common.{inl, inr, refl, sym, true≢false, ◌∙◌}
 use Rattle.ufs_at_primary.specs.Stock.{stock_of}
 use Rattle.ufs_at_primary.proofs.Births.{both_kept, obeyed, sendable, unready}
 use Rattle.ufs_at_primary.proofs.NamesTold.{free_still}
@@ -70,3 +70,11 @@ returns-in-Err-clause-ran g c = c.in-Err.ensures.ran
 
 pub returns-clause-ran : goal.returns-clause-ran
 returns-clause-ran g c = c.in_default.ensures.ran
+
+-- none that goes from here is called to the primary
+
+pub returns-in-Err-clause-called : goal.returns-in-Err-clause-called
+returns-in-Err-clause-called g c = λ none. absurd (true≢false (sym c.if-not-is_to_go.false ∙ c.is_to_go.ensures.called none))
+
+pub returns-clause-called : goal.returns-clause-called
+returns-clause-called g c = λ none. absurd (true≢false (sym c.if-not-is_to_go.false ∙ c.is_to_go.ensures.called none))

@@ -16,11 +16,7 @@ loop-file-preserved g c =
       calls = next_called g.N.Naming.start (global_of c.args.self.now (t.tells c.args.door.now)) l.file l.called c.count_called-called.result l.lack c.first_of-lack.result (global_of l.self (t.tells l.door))
           (state_of l.self.clients.items l.self.workers.items c.order-ordered.new.self (rings_in l.self.post) l.self.baton (t.tells c.order-ordered.new.door)) c.order-ordered.result l.invariant.calls (record {
             ordered = c.order-ordered.ensures.ordered;
-            free = c.order-ordered.ensures.free;
-            telling = c.order-ordered.ensures.telling;
-            halts = c.order-ordered.ensures.halts;
-            ran = c.order-ordered.ensures.ran;
-            rest = λ i. state_of l.self.clients.items l.self.workers.items (c.order-ordered.ensures.rest i) (rings_in l.self.post) l.self.baton (t.tells c.order-ordered.new.door);
+            rest = λ i. state_of l.self.clients.items l.self.workers.items (c.order-ordered.ensures.rest i) (rings_in l.self.post) l.self.baton (c.order-ordered.ensures.called refl i);
           }) c.count_called-called.ensures (c.first_of-lack.ensures ∙ ap (first_lack l.lack) c.order_lack.ensures);
       clients = l.invariant.clients;
     }
