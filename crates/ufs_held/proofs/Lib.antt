@@ -5,3 +5,4 @@ pub mod Birth
 pub mod Together
 pub mod Stopping
 pub mod Replying
+pub mod Few

@@ -1,5 +1,5 @@
 -- Files lend their rights to one hand, one after another, and get them back.
-use Rattle.std.proofs.Common.{◌≡◌, ℕ, ◌+◌, ◌≤◌, eqb, Bool, true, false, cond, List, [], ◌∷◌, ◌++◌, append_assoc, sym, refl, ap, ◌∙◌, arith}
+use Rattle.std.proofs.Common.{◌≡◌, ℕ, ◌+◌, ◌≤◌, eqb, Bool, true, false, cond, List, [], ◌∷◌, ◌++◌, append_assoc, length, length-append, sym, refl, ap, ◌∙◌, arith}
 use Rattle.std.proofs.lemmas.List.{append-nil}
 use Rattle.ufs_file_commits.specs.State.{DurableState}
 use Rattle.ufs_model.specs.declared.data.PartName.TheVariants.{File}
@@ -13,6 +13,7 @@ use Rattle.ufs_joint.specs.Cells.{FileCell, View, both_of, given_of, kept_of}
 use Rattle.ufs_joint.specs.Draws.{drawn}
 use Rattle.ufs_turns.specs.Lent.{IsBeside}
 use Rattle.ufs_turns.proofs.Hands.{later_left}
+use Rattle.ufs_held.specs.Births.{HasStill}
 use Rattle.ufs_held.specs.Drawn.{first_fds}
 use Rattle.ufs_held.specs.Held.{IsHeld}
 use Rattle.ufs_held.specs.Together.{AreApartFrom, HasDrawnStill, HasThemToo, still_of, under_numbers}
@@ -125,6 +126,13 @@ module _ (own v : View) (x : DurableState) (held : IsHeld x own) (first : FileCe
     stop = λ fault told. has.stop fault (stop_joined v.stop own.stop fault told);
   }
 
+  -- the files are one more while it is lent
+  pub one_more : (g : ℕ) → length joined.files + length rest ≤ g → length v.files + length (first ∷ rest) ≤ g
+  one_more g few =
+      let n = ap length joined_files in
+      let m = length-append v.files ((x.file.file, first) ∷ []) in
+      omega (arith, few, n, m)
+
   -- no other file has its number, and no pool
   its_count : count eqb x.file.file (v.files ++ under_numbers (first ∷ rest)) ≡ count eqb x.file.file v.files + (1 + count eqb x.file.file (under_numbers rest))
   its_count =
@@ -213,3 +221,18 @@ module _ (own v : View) (x : DurableState) (held : IsHeld x own) (first : FileCe
 
     pub store_left : (kept_of (File x.file.file) w).store ≡ w.store
     store_left = without_none w.store
+
+  -- ---- behind a look
+
+  module _ (w : View) (still : HasStill joined w) where
+    pub still_home : HasStill v (kept_of (File x.file.file) w)
+    still_home = record {
+      clients = without_none w.clients ∙ still.clients ∙ joined_clients;
+      asked = without_none w.asked ∙ still.asked ∙ joined_asked;
+      files = files_left w still.files still.pools;
+      pools = pools_left w still.files still.pools;
+      names = without_none w.names ∙ still.names ∙ joined_names;
+      store = without_none w.store ∙ still.store ∙ joined_store;
+      faults = still.faults ∙ append-nil v.faults;
+      seen = let a = still.seen in let b = later_left v.seen own.seen in omega (arith, a, b);
+    }

@@ -1,10 +1,10 @@
 -- What the answer to a request tells of the store's stop, and of what the store counts.
-use Rattle.std.specs.Prelude.{ℕ, ◌≡◌, Option, Some, None}
+use Rattle.std.specs.Prelude.{ℕ, ◌≡◌, ◌+◌, ◌≤◌, Option, Some, None}
 use Rattle.ufs_joint.specs.Cells.{View}
 use Rattle.ufs_model.specs.declared.data.Excuse.TheVariants as excuse
 use Rattle.ufs_model.specs.declared.data.Reply.{Reply}
 use Rattle.ufs_model.specs.declared.data.Reply.TheVariants as reply
-use Rattle.ufs_turns.specs.Lent.{Runs, StopsByFault, stop_in}
+use Rattle.ufs_turns.specs.Lent.{Runs, StopsByFault, Tally, stop_in, tally_in}
 use Rattle.ufs_turns.specs.Told.{fault_told}
 
 -- The answer excuses by a stop where the store had stopped before, by just that one, and else by none.
@@ -37,3 +37,15 @@ Rests tells told fault = StopsByFault tells told None × Runs tells told fault 0
 -- but for the last number of the disk's count.
 abbrev pub RestsByReply : Option View → Option View → Reply → Type 0
 RestsByReply tells told r = (fault : Option ℕ) × (fault_told fault ≡ fault_by r) × Rests tells told fault
+
+-- The epoch and the next commit number rose by no more than this.
+pub record HasRaisedBy (most : ℕ) (old new : Tally) : Type 0 where
+  pub epoch : old.epoch ≤ new.epoch
+  pub epoch_most : new.epoch ≤ old.epoch + most
+  pub number : old.number ≤ new.number
+  pub number_most : new.number ≤ old.number + most
+
+-- So the store's rose, where its cell is told.
+abbrev pub Raises : Option View → Option View → ℕ → Type 0
+Raises (Some v) (Some w) most = HasRaisedBy most (tally_in v.store) (tally_in w.store)
+Raises _ _ most = Unit {0}

@@ -1,6 +1,6 @@
 // A file, what is known of its commits, and the right to its cell.
 ghost use Rattle.ufs_turns.specs.AllLent.{LendsAll, without_dropped};
-ghost use Rattle.std.specs.Prelude.{ℕ, List, ◌≡◌, ◌≢◌, ◌≤◌, ◌∷◌, ◌++◌, ◌||◌, suc, [], true, false, Err, None, Some, IfErr, IsSome, OnErr, OnOk, is_some, length};
+ghost use Rattle.std.specs.Prelude.{ℕ, List, ◌≡◌, ◌≢◌, ◌≤◌, ◌+◌, ◌∷◌, ◌++◌, ◌||◌, suc, [], true, false, Err, None, Some, IfErr, IsSome, OnErr, OnOk, is_some, length};
 ghost use Rattle.std.specs.FinMap as fin;
 ghost use Rattle.std.specs.FinSet as set;
 ghost use Rattle.ufs_bitmap.specs.Blocks.{BlockSet};
@@ -424,4 +424,29 @@ pub fn reclaim_with_files<N: Naming, T: Turns<N>>(
     let lent = hand.split(table, PartName::File(number));
     right.join(table, lent);
     made
+}
+
+/// By a look of a hand that has each of these files meanwhile: there are no more of them than inodes. The files are as they were. Takes no
+/// memory, and goes as deep as there are files.
+pub fn see_files<N: Naming>(table: &HandTable<N>, files: &mut [HeldFile<N>], hand: &mut Hand<N>)
+    requires apart { AreApartFrom hand.old files.old }
+    ensures files { files.new ≡ files.old }
+    ensures still { HasStill hand.old hand.new }
+    ensures few { length hand.old.files + length files.old ≤ N.start.geometry.inodes }
+{
+    let Some((file, rest)) = files.split_first_mut() else {
+        hand.look(table);
+        return;
+    };
+    let HeldFile {
+        hand: own,
+        commits: _,
+        right,
+    } = file;
+    let number = own.file();
+    let lent = right.split(table, PartName::File(number));
+    hand.join(table, lent);
+    see_files(table, rest, hand);
+    let lent = hand.split(table, PartName::File(number));
+    right.join(table, lent);
 }

@@ -13,6 +13,6 @@ mod still;
 mod syncs;
 
 pub use excuses::excuse_of;
-pub use held::{Dropped, HeldFile, Served, draw_with_files, reclaim_with_files};
+pub use held::{Dropped, HeldFile, Served, draw_with_files, reclaim_with_files, see_files};
 pub use parcel::Parcel;
 pub use replies::{draw_reply, entry_at, reply_to};
