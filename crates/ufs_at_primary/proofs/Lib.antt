@@ -1,5 +1,5 @@
 mod NamesTold
-mod Excuses
+pub mod Excuses
 mod DirsTold
 mod AllTold
 mod SyncedHere

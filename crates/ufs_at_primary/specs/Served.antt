@@ -114,11 +114,10 @@ module _ (visible : Bool) (before after : Option View) (s t : StockState) (ask :
     pub served : IsAllSynced visible before after s.names t.names olds nows ask told
     pub rest : t ≡ record s { names = t.names; home = record s.home { places = put_all lent nows } }
 
-  -- one that is excused for want of memory: all else is as it was
+  -- one that is excused for want of memory, or, where it asks for a commit, since the store has stopped: all else is as it was
   pub record IsLackedHere : Type 0 where
-    pub excused : IsExcusedHere s.home.owners ask told
+    pub excused : IsExcusedHere before after s.home.owners ask told
     pub rest : t ≡ s
-    pub store : after ≡ before
 
 pub data IsServed (visible : Bool) (before after : Option View) (s t : StockState) (ask : Ask) (told : Told) : Type 0 where
   OnFile : IsOnFileHere visible before after s t ask told → IsServed visible before after s t ask told

@@ -25,7 +25,7 @@ use ufs_store::StoreFault;
 use ufs_turns::Turns;
 
 // Whether it asks for a commit.
-fn commits(op: &Op) -> bool
+pub(crate) fn commits(op: &Op) -> bool
     ensures { result ≡ asks_commit op.now }
 {
     match op {

@@ -51,7 +51,7 @@ impl<N: Naming> Stock<N> {
     ghost use Rattle.ufs_msg.specs.declared.answer.Answer.TheVariants as answer;
     ghost use Rattle.ufs_owner.specs.Lacks.{IsLackOut};
     ghost use Rattle.ufs_owner.specs.Owners.{count_out, is_coming, is_primary, owner_at};
-    ghost use Rattle.ufs_at_primary.specs.Excused.{IsExcusedHere};
+    ghost use Rattle.ufs_at_primary.specs.Excused.{IsExcusedHere, IsOpened};
     ghost use Rattle.ufs_at_primary.specs.Noted.{IsUnnoted, unwaited, waited_for};
     ghost use Rattle.ufs_at_primary.specs.Orders.{IsFileOrdered, dropped_by};
     ghost use Rattle.ufs_at_primary.specs.Stock.{AreHere, HasNumbers, stock_of};
@@ -110,13 +110,21 @@ impl<N: Naming> Stock<N> {
         }
     }
 
-    /// Excuses the request for want of memory.
-    pub fn excuse(&mut self, table: &HandTable<N>, request: Request<N>, memory: Memory) -> Answer<N>
-        ensures excused { (told : Told) × (result ≡ answer.Served told) × IsExcusedHere self.old.home.owners request.ask told }
+    /// Excuses the request for want of memory, or, where it asks for a commit, since the store has stopped.
+    pub fn excuse<T: Turns<N>>(
+        &mut self,
+        table: &HandTable<N>,
+        request: Request<N>,
+        memory: Memory,
+        door: &mut T,
+    ) -> Answer<N>
+        requires opened { IsOpened request.ask }
+        ensures excused { (told : Told) × (result ≡ answer.Served told) × IsExcusedHere (T.tells door.old) (T.tells door.new) self.old.home.owners request.ask told }
         ensures rest { self.new ≡ self.old }
         ensures drawn { IsToldSince request.hand.seen result }
+        ensures telling { is_some (T.tells door.new) ≡ is_some (T.tells door.old) }
     {
-        excuse(table, &self.home, request, memory, &mut self.right)
+        excuse(table, &self.home, request, memory, &mut self.right, door)
     }
 
     /// Letters to workers that are kept go, as far as there is room.

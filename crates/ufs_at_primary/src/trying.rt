@@ -1,10 +1,10 @@
 // A request is served, or it is said why not.
-ghost use Rattle.std.specs.Prelude.{ℕ, ◌≡◌, ◌≢◌, ◌<◌, ◌^◌, Bool, IfNone, IfSome, Option, true, is_some};
+ghost use Rattle.std.specs.Prelude.{ℕ, ◌≡◌, ◌≢◌, ◌<◌, ◌^◌, Bool, IfNone, IfSome, true, is_some};
 ghost use Rattle.ufs_baton.specs.Baton.{IsToldSince};
 ghost use Rattle.ufs_bitmap.specs.Blocks.{BlockSet};
 ghost use Rattle.ufs_joint.specs.FirstHand.{HasPoolAlone, pool_of};
 ghost use Rattle.ufs_held_names.specs.SyncAll.{AreAllLive};
-ghost use Rattle.ufs_joint.specs.Cells.{FileCell, NamesCell, View};
+ghost use Rattle.ufs_joint.specs.Cells.{FileCell, NamesCell};
 ghost use Rattle.ufs_layout.specs.Areas.{IsGeometry};
 ghost use Rattle.ufs_model.specs.declared.data.Actor.TheVariants.{Worker};
 ghost use Rattle.ufs_model.specs.declared.data.Op.TheVariants as op;
@@ -14,6 +14,7 @@ ghost use Rattle.ufs_msg.specs.declared.answer.Answer.TheVariants as says;
 ghost use Rattle.ufs_owner.specs.Owners.{owner_at};
 ghost use Rattle.ufs_owner.specs.declared.owner.Owner.TheVariants as owner;
 ghost use Rattle.ufs_at_primary.specs.All.{IsAllSynced};
+ghost use Rattle.ufs_at_primary.specs.Excused.{IsOpened};
 ghost use Rattle.ufs_at_primary.specs.Kinds.{IsOnFile};
 ghost use Rattle.ufs_at_primary.specs.Served.{IsAnsweredHere};
 ghost use Rattle.ufs_at_primary.specs.Stock.{stock_of};
@@ -99,20 +100,23 @@ fn sync_lent<N: Naming, T: Turns<N>>(
     )
 }
 
-// A request is excused for want of memory.
-fn lacking<N: Naming>(
+// A request is excused for want of memory, or, where it asks for a commit, since the store has stopped.
+fn lacking<N: Naming, T: Turns<N>>(
     table: &HandTable<N>,
     home: &Home<N>,
     right: &mut Hand<N>,
     request: Request<N>,
     memory: Memory,
+    door: &mut T,
 ) -> Answer<N>
     requires pool { (pool : BlockSet) × HasPoolAlone (pool_of 0) pool right.old }
+    requires opened { IsOpened request.ask }
     ensures pool { (pool : BlockSet) → HasPoolAlone (pool_of 0) pool right.old → HasPoolAlone (pool_of 0) pool right.new }
-    ensures answered { (visible : Bool) (tells : Option View) (names : NamesCell) (pool : BlockSet) → IsAnsweredHere visible tells tells (stock_of names home.now pool) (stock_of names home.now pool) request result }
+    ensures answered { (visible : Bool) (names : NamesCell) (pool : BlockSet) → IsAnsweredHere visible (T.tells door.old) (T.tells door.new) (stock_of names home.now pool) (stock_of names home.now pool) request result }
     ensures drawn { IsToldSince request.hand.seen result }
+    ensures telling { is_some (T.tells door.new) ≡ is_some (T.tells door.old) }
 {
-    excuse(table, home, request, memory, right)
+    excuse(table, home, request, memory, right, door)
 }
 
 impl<N: Naming> Stock<N> {
@@ -165,7 +169,9 @@ impl<N: Naming> Stock<N> {
     {
         let held = match self.home.lend(file) {
             Ok(held) => held,
-            Err(memory) => return lacking(table, &self.home, &mut self.right, request, memory),
+            Err(memory) => {
+                return lacking(table, &self.home, &mut self.right, request, memory, door);
+            }
         };
         let (held, answer) = serve_here(
             table,
@@ -229,6 +235,7 @@ impl<N: Naming> Stock<N> {
                     &mut self.right,
                     request,
                     memory,
+                    door,
                 ));
             }
         };
@@ -271,7 +278,9 @@ impl<N: Naming> Stock<N> {
         );
         let (next, held) = match lent {
             Ok(lent) => lent,
-            Err(memory) => return lacking(table, &self.home, &mut self.right, request, memory),
+            Err(memory) => {
+                return lacking(table, &self.home, &mut self.right, request, memory, door);
+            }
         };
         let NamesAnswered { answer, file, made } = serve_named(
             table,
@@ -311,6 +320,7 @@ impl<N: Naming> Stock<N> {
                     &mut self.right,
                     request,
                     memory,
+                    door,
                 ));
             }
         };
@@ -318,7 +328,7 @@ impl<N: Naming> Stock<N> {
             return Tried::Away { request, file };
         }
         if let Err(memory) = self.make_room(table, door) {
-            return Tried::Answered(self.excuse(table, request, memory));
+            return Tried::Answered(self.excuse(table, request, memory, door));
         }
         // For the prover alone: the file that the request touches is the same, whatever is noted.
         notes_are_beside();

@@ -59,15 +59,14 @@ module _ {N Q : Type 0} (answers : Q → ℕ → Answer N → Q → Type 0) (sam
   }
 
   -- it came back, and its file may have been asked for
-  pub is_unnoted : (h t u w : StockState) (r asked back : Asked) (file : ℕ) (told : Told) → IsStill r asked → IsAway h r.ask file → t ≡ h → after ≡ before → IsUnnoted t.home u.home file → u ≡ record t { home = u.home } → back ≡ asked
-      → IsExcusedHere u.home.owners back.ask told → w ≡ u → IsUnnotedHere before after h w r told
-  is_unnoted h t u w r asked back file told still cause same' store home rest came excused then = record {
+  pub is_unnoted : (h t u w : StockState) (mid : Option View) (r asked back : Asked) (file : ℕ) (told : Told) → IsStill r asked → IsAway h r.ask file → t ≡ h → mid ≡ before → IsUnnoted t.home u.home file → u ≡ record t { home = u.home } → back ≡ asked
+      → IsExcusedHere mid after u.home.owners back.ask told → w ≡ u → IsUnnotedHere before after h w r told
+  is_unnoted h t u w mid r asked back file told still cause same' store home rest came excused then = record {
     file = file;
     cause = cause;
     home = subst (λ (x : StockState × StockState). IsUnnoted x.0.home x.1.home file) (λ i. (same' i, sym then i)) home;
-    excused = subst (λ (x : StockState × Ask). IsExcusedHere x.0.home.owners x.1 told) (λ i. (sym then i, (ap (λ (q : Asked). q.ask) came ∙ still.ask) i)) excused;
+    excused = subst (λ (x : Option View × StockState × Ask). IsExcusedHere x.0 after x.1.home.owners x.2 told) (λ i. (store i, sym then i, (ap (λ (q : Asked). q.ask) came ∙ still.ask) i)) excused;
     rest = then ∙ rest ∙ (λ i. record (same' i) { home = (sym then i).home });
-    store = store;
   }
 
   -- ---- the request as it came
@@ -77,9 +76,8 @@ module _ {N Q : Type 0} (answers : Q → ℕ → Answer N → Q → Type 0) (sam
     file = u.file;
     cause = subst (λ (a : Ask). IsAway s a u.file) still.ask u.cause;
     home = u.home;
-    excused = subst (λ (a : Ask). IsExcusedHere t.home.owners a told) still.ask u.excused;
+    excused = subst (λ (a : Ask). IsExcusedHere before after t.home.owners a told) still.ask u.excused;
     rest = u.rest;
-    store = u.store;
   }
 
   as_served : (s t : StockState) (r q : Asked) (told : Told) → IsStill r q → IsServedInRoom visible before after s t q.ask told ⊎ IsUnnotedHere before after s t q told → IsServedInRoom visible before after s t r.ask told ⊎ IsUnnotedHere before after s t r told

@@ -53,14 +53,14 @@ pub record IsTakenUp (s t : StockState) (old new : List Waits) (r : Asked) : Typ
   pub taken : TakesOldest s.home.owners old new one
   pub rest : t ≡ record s { home = unwaited s.home one.file r.ask.client }
 
--- It wants a file that is out, and is excused for want of memory to note that it waits: the file may have been asked for.
+-- It wants a file that is out, and is excused for want of memory to note that it waits, or, where it asks for a commit, since the store has
+-- stopped: the file may have been asked for.
 pub record IsUnnotedHere (before after : Option View) (s t : StockState) (r : Asked) (told : Told) : Type 0 where
   pub file : ℕ
   pub cause : IsAway s r.ask file
   pub home : IsUnnoted s.home t.home file
-  pub excused : IsExcusedHere t.home.owners r.ask told
+  pub excused : IsExcusedHere before after t.home.owners r.ask told
   pub rest : t ≡ record s { home = t.home }
-  pub store : after ≡ before
 
 module _ {N Q : Type 0} (answers : Q → ℕ → Answer N → Q → Type 0) (same : Q → Q → Type 0) (full : Q → ℕ → Type 0) (visible : Bool) (before after : Option View) (since upto : ℕ) where
   -- It is served or excused, its entry drawn with the baton, and its answer goes behind those that are kept.

@@ -73,7 +73,7 @@ fn do_request<N: Naming, Q: ServerPost<N, Letter<Parcel<N>>>, T: Turns<N>>(
         Tried::Away { request, file } => match put_off(stock, waiting, request, file) {
             Ok(()) => PrimaryTurn::Waiting { file },
             Err((memory, back)) => {
-                let answer = stock.excuse(table, back, memory);
+                let answer = stock.excuse(table, back, memory, door);
                 let answer = baton.follow(table, answer);
                 say(answers, answer, post);
                 PrimaryTurn::Served

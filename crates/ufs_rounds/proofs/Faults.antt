@@ -3,8 +3,10 @@ use Rattle.std.proofs.Common.{◌≡◌, ◌≢◌, ◌⊎◌, inl, inr, ℕ, �
 use Rattle.ufs_base.specs.Faults.{RoseTo}
 use Rattle.ufs_at_primary.specs.Here.{IsDoneHere}
 use Rattle.ufs_at_primary.specs.Dirs.{IsDirDone}
+use Rattle.ufs_at_primary.specs.Excused.{excuse_at}
 use Rattle.ufs_at_primary.specs.Served.{All, ByNames, IsAllHere, IsByNamesHere, IsLackedHere, IsOnFileHere, IsOnNoneHere, IsServed, IsServedInRoom, Lacked, OnFile, OnNone}
 use Rattle.ufs_at_primary.specs.Stock.{StockState}
+use Rattle.ufs_at_primary.proofs.Excuses.{no_fault}
 use Rattle.ufs_crash_laws.specs.Changes.{asks_commit}
 use Rattle.ufs_file.specs.Content.{Content, IsContentOf}
 use Rattle.ufs_file.specs.Hand.{FileState}
@@ -341,13 +343,13 @@ module _ (s : StoreState) (visible : Bool) (before after : Option View) (p q : S
       op_same = ap asks_commit x.excused.of_ask.asked
 
       none : fault_told None ≡ fault_by told.entry.reply
-      none = sym x.excused.no_fault
+      none = sym (ap fault_by x.excused.replied ∙ no_fault x.excused.stop)
 
       by : (b : Bool) → asks_commit ask.op ≡ b → Tells
-      by true asks = one_stops s before after told.entry 0 0 (None, none, x.rests.0, x.rests.1) (x.halted asks) (op_same ∙ asks)
+      by true asks = one_stops s before after told.entry 0 0 (None, none, x.excused.rests.0, x.excused.rests.1) (x.excused.halted asks) (op_same ∙ asks)
       by false commits =
-          let said = x.excused.plain commits in
-          one_rests s before after told.entry (None, none, x.rests) (op_same ∙ commits) (ap stopped_in said) (λ n is. clash_none n (sym (ap device_in said) ∙ is))
+          let said = x.excused.replied ∙ ap (λ (stop : Option ℕ). reply.Excused (excuse_at stop)) (x.excused.plain commits) in
+          one_rests s before after told.entry (None, none, x.excused.rests) (op_same ∙ commits) (ap stopped_in said) (λ n is. clash_none n (sym (ap device_in said) ∙ is))
 
   served_tells : IsServed visible before after p q ask told → Tells
   served_tells (OnFile x) = on_file x

@@ -12,15 +12,15 @@ use Rattle.ufs_at_primary.proofs.excusing.draw_excuse.Goals as goal
 
 pub draw_reply-entry-requires : goal.draw_reply-entry-requires
 draw_reply-entry-requires g c =
-    let f = c.requires in
+    let f = c.requires.asked in
     let k = g.N.Naming.start in
     record {
-      may = λ ticket. subst (λ (x : Excuse). MayDraw k.geometry k.is_visible c.args.guest (replied_to c.args.ask Primary (reply.Excused x)) (still_of c.args.guest) ticket) (sym c.from-cause.ensures)
-          (may_excuse k c.args.guest f.0 f.1 f.2 c.args.ask ticket f.3 f.4 f.5 c.draw_law.ensures.excused);
+      may = λ ticket. subst (λ (x : Excuse). MayDraw k.geometry k.is_visible c.args.guest (replied_to c.args.ask Primary (reply.Excused x)) (still_of c.args.guest) ticket) (sym c.cause_of-cause.ensures)
+          (may_excuse k c.args.guest f.0 f.1 f.2 c.args.ask c.args.stop ticket f.3 f.4 f.5 f.6 c.requires.knows c.requires.opened c.draw_law.ensures.excused);
     }
 
 pub returns-clause-replied : goal.returns-clause-replied
-returns-clause-replied g c = c.draw_reply-entry.ensures.replied ∙ ap reply.Excused c.from-cause.ensures
+returns-clause-replied g c = c.draw_reply-entry.ensures.replied ∙ ap reply.Excused c.cause_of-cause.ensures
 
 pub returns-clause-guest : goal.returns-clause-guest
 returns-clause-guest g c =

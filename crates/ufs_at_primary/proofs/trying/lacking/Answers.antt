@@ -3,6 +3,6 @@ use Rattle.ufs_at_primary.specs.Served.{Lacked}
 use Rattle.ufs_at_primary.proofs.trying.lacking.Goals as goal
 
 pub returns-clause-answered : goal.returns-clause-answered
-returns-clause-answered g c = λ visible tells names pool.
+returns-clause-answered g c = λ visible names pool.
     let x = c.excuse.ensures.excused in
-    (x.0, x.1, Lacked (record { excused = x.2; rest = refl; store = refl }))
+    (x.0, x.1, Lacked (record { excused = x.2; rest = refl }))

@@ -2,7 +2,9 @@ use Rattle.std.proofs.Common.{◌≤◌, ap, arith, inl, inr, refl, subst, sym, 
 use Rattle.ufs_baton.proofs.Since.{drawn_with}
 use Rattle.ufs_msg.specs.Requests.{Asked}
 use Rattle.ufs_serving.specs.Posts.{all_said, said}
+use Rattle.ufs_at_primary.specs.Excused.{IsOpened}
 use Rattle.ufs_at_primary.specs.Served.{IsTried, IsTriedSince}
+use Rattle.ufs_at_primary.proofs.Excuses.{opened_away}
 use Rattle.ufs_primary.specs.Primary.{primary_of}
 use Rattle.ufs_primary.specs.declared.turn.PrimaryTurn.TheVariants as turn
 use Rattle.ufs_primary.proofs.Doing.{done_as, is_redirected, is_served, is_unnoted, is_waiting, lent_still}
@@ -74,16 +76,27 @@ returns-in-Ok-clause-store g c = λ _.
     let is = subst (IsTried g.N.Naming.start.is_visible (g.T.Turns.tells c.args.door.now) (g.T.Turns.tells c.serve.new.door) c.args.stock.now c.serve.new.self c.lend-request.result) c.in-Away.is c.serve.ensures.tried in
     is.3
 
+pub excuse-answer-requires : goal.excuse-answer-requires
+excuse-answer-requires g c =
+    let visible = g.N.Naming.start.is_visible in
+    let before = g.T.Turns.tells c.args.door.now in
+    let mid = g.T.Turns.tells c.serve.new.door in
+    let q = c.lend-request.result in
+    let is = subst (IsTried visible before mid c.args.stock.now c.serve.new.self q) c.in-Away.is c.serve.ensures.tried in
+    let still = is.0 in
+    record { opened = subst IsOpened (sym (ap (λ (r : Asked). r.ask) c.in-Err.ensures.back ∙ still.ask)) (opened_away c.args.stock.now q.ask c.in-Away.file is.1) }
+
 pub returns-in-Err-clause-done : goal.returns-in-Err-clause-done
 returns-in-Err-clause-done g c = λ coming.
     let visible = g.N.Naming.start.is_visible in
     let before = g.T.Turns.tells c.args.door.now in
-    let after = g.T.Turns.tells c.serve.new.door in
+    let mid = g.T.Turns.tells c.serve.new.door in
+    let after = g.T.Turns.tells c.excuse-answer.new.door in
     let q = c.lend-request.result in
     let l = c.lend-request.ensures in
     let had = c.args.baton.now in
     let has = c.follow-answer-in-Err.new.self in
-    let is = subst (IsTried visible before after c.args.stock.now c.serve.new.self q) c.in-Away.is c.serve.ensures.tried in
+    let is = subst (IsTried visible before mid c.args.stock.now c.serve.new.self q) c.in-Away.is c.serve.ensures.tried in
     let away : q.hand.seen ≤ c.in-Away.request.hand.seen = subst (IsTriedSince q.hand.seen) c.in-Away.is c.serve.ensures.drawn in
     let e = c.in-Err.ensures in
     let x = c.excuse-answer.ensures.excused in
@@ -95,7 +108,7 @@ returns-in-Err-clause-done g c = λ coming.
     done_as g.Q.ServerPost.answers g.Q.ServerPost.same g.Q.ServerPost.answers_full visible before after had has (primary_of c.args.stock.now coming old c.args.waiting.now.items) (primary_of c.excuse-answer.new.self coming new c.put_off.new.waiting.items) c.args.request q c.args.post.now c.say-in-Err.new.post turn.Served
     (lent_still c.args.request q had l.ask l.leases_back l.hand)
     (is_served g.Q.ServerPost.answers g.Q.ServerPost.same g.Q.ServerPost.answers_full visible before after had has c.args.stock.now c.excuse-answer.new.self coming old new c.args.waiting.now.items c.put_off.new.waiting.items q (said c.follow-answer-in-Err.result) c.args.post.now c.say-in-Err.new.post x.0 (ap said (c.follow-answer-in-Err.ensures.same ∙ x.1))
-    (inr (is_unnoted g.Q.ServerPost.answers g.Q.ServerPost.same g.Q.ServerPost.answers_full visible before after had has c.args.stock.now c.serve.new.self c.put_off.new.stock c.excuse-answer.new.self q c.in-Away.request c.in-Err.back c.in-Away.file x.0 is.0 is.1 is.2 is.3 e.unnoted c.put_off.ensures.rest e.back x.2 c.excuse-answer.ensures.rest))
+    (inr (is_unnoted g.Q.ServerPost.answers g.Q.ServerPost.same g.Q.ServerPost.answers_full visible before after had has c.args.stock.now c.serve.new.self c.put_off.new.stock c.excuse-answer.new.self mid q c.in-Away.request c.in-Err.back c.in-Away.file x.0 is.0 is.1 is.2 is.3 e.unnoted c.put_off.ensures.rest e.back x.2 c.excuse-answer.ensures.rest))
     (drawn_with c.excuse-answer.result x.0 had c.in-Err.back.hand.seen has x.1 c.excuse-answer.ensures.drawn back (c.follow-answer-in-Err.ensures.seen x.0 x.1)) e.same c.say-in-Err.ensures.goes)
 
 pub returns-in-Err-clause-store : goal.returns-in-Err-clause-store

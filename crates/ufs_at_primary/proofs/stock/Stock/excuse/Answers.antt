@@ -5,8 +5,8 @@ use Rattle.ufs_at_primary.specs.Excused.{IsExcusedHere}
 use Rattle.ufs_at_primary.specs.Stock.{StockState}
 use Rattle.ufs_at_primary.proofs.stock.Stock.excuse.Goals as goal
 
-pub excuse-requires : goal.excuse-requires
-excuse-requires g c = record { pool = (c.self.inside.pool, c.self.invariant.hand) }
+pub excuse-requires-clause-pool : goal.excuse-requires-clause-pool
+excuse-requires-clause-pool g c = (c.self.inside.pool, c.self.invariant.hand)
 
 pub invariant_of-self : goal.invariant_of-self
 invariant_of-self g c =
@@ -15,7 +15,7 @@ invariant_of-self g c =
 
 pub returns-clause-excused : goal.returns-clause-excused
 returns-clause-excused g c =
-    subst (λ (s : StockState). (told : Told) × (c.excuse.result ≡ answer.Served told) × IsExcusedHere s.home.owners c.args.request.ask told) c.self.view_is c.excuse.ensures.excused
+    subst (λ (s : StockState). (told : Told) × (c.excuse.result ≡ answer.Served told) × IsExcusedHere (g.T.Turns.tells c.args.door.now) (g.T.Turns.tells c.excuse.new.door) s.home.owners c.args.request.ask told) c.self.view_is c.excuse.ensures.excused
 
 pub returns-clause-rest : goal.returns-clause-rest
 returns-clause-rest g c = c.self.view_is

@@ -1,4 +1,4 @@
-use Rattle.std.proofs.Common.{◌≢◌, refl, subst, ◌∙◌}
+use Rattle.std.proofs.Common.{◌≢◌, inl, refl, subst, ◌∙◌}
 use Rattle.ufs_owner.specs.Owners.{owner_at}
 use Rattle.ufs_owner.specs.declared.owner.Owner.TheVariants as owner
 use Rattle.ufs_at_primary.specs.Served.{OfAll}
@@ -11,16 +11,20 @@ use Rattle.ufs_at_primary.proofs.stock.Stock.serve_all.Goals as goal
 pub returns-in-Some-clause-tried : goal.returns-in-Some-clause-tried
 returns-in-Some-clause-tried g c = (same_still c.args.request, record { out = subst (λ (s : StockState). owner_at s.home.owners c.in-Some.file ≢ owner.Primary) c.self.view_is c.in-Some.ensures; wants = OfAll c.requires.sync }, refl, refl)
 
-pub lacking-requires : goal.lacking-requires
-lacking-requires g c = record { pool = (c.self.inside.pool, c.self.invariant.hand) }
+pub lacking-requires-clause-pool : goal.lacking-requires-clause-pool
+lacking-requires-clause-pool g c = (c.self.inside.pool, c.self.invariant.hand)
+
+pub lacking-requires-clause-opened : goal.lacking-requires-clause-opened
+lacking-requires-clause-opened g c = λ asks. inl c.requires.sync
 
 pub returns-in-Err-clause-tried : goal.returns-in-Err-clause-tried
 returns-in-Err-clause-tried g c =
     let f = c.self.inside in
-    let tells = g.T.Turns.tells c.args.door.now in
+    let before = g.T.Turns.tells c.args.door.now in
+    let after = g.T.Turns.tells c.lacking.new.door in
     let t = stock_of f.names c.lend_all.new.self f.pool in
-    as_found g.N.Naming.start.is_visible tells tells c.args.self.now t c.args.request c.lacking.result
-    (answered_from g.N.Naming.start.is_visible tells tells t c.args.self.now t c.args.request c.lacking.result ((λ i. stock_of f.names (c.in-Err.ensures.kept i) f.pool) ∙ c.self.view_is) (c.lacking.ensures.answered g.N.Naming.start.is_visible tells f.names f.pool))
+    as_found g.N.Naming.start.is_visible before after c.args.self.now t c.args.request c.lacking.result
+    (answered_from g.N.Naming.start.is_visible before after t c.args.self.now t c.args.request c.lacking.result ((λ i. stock_of f.names (c.in-Err.ensures.kept i) f.pool) ∙ c.self.view_is) (c.lacking.ensures.answered g.N.Naming.start.is_visible f.names f.pool))
 
 pub sync_lent-answer-requires-clause-pool : goal.sync_lent-answer-requires-clause-pool
 sync_lent-answer-requires-clause-pool g c = (c.self.inside.pool, c.self.invariant.hand)

@@ -5,6 +5,7 @@ use Rattle.ufs_file.specs.Hand.{IsOf}
 use Rattle.ufs_home.specs.Places.{file_here}
 use Rattle.ufs_at_primary.specs.Stock.{AreHere, StockState, stock_of}
 use Rattle.ufs_at_primary.proofs.AtHome.{here_answered}
+use Rattle.ufs_at_primary.proofs.Excuses.{opened_on}
 use Rattle.ufs_at_primary.proofs.Outcomes.{on_file, answered_from}
 use Rattle.ufs_at_primary.proofs.Trials.{lent_place, of_file}
 use Rattle.ufs_at_primary.proofs.stock.Stock.serve_at_hand.Goals as goal
@@ -12,8 +13,11 @@ use Rattle.ufs_at_primary.proofs.stock.Stock.serve_at_hand.Goals as goal
 pub lend-requires : goal.lend-requires
 lend-requires g c = subst (λ (s : StockState). IsSome (file_here s.home.places c.args.file)) (sym c.self.view_is) c.requires.here
 
-pub lacking-requires : goal.lacking-requires
-lacking-requires g c = record { pool = (c.self.inside.pool, c.self.invariant.hand) }
+pub lacking-requires-clause-pool : goal.lacking-requires-clause-pool
+lacking-requires-clause-pool g c = (c.self.inside.pool, c.self.invariant.hand)
+
+pub lacking-requires-clause-opened : goal.lacking-requires-clause-opened
+lacking-requires-clause-opened g c = opened_on c.args.request.ask c.args.file c.requires.kind
 
 pub serve_here-held-requires-clause-on_file : goal.serve_here-held-requires-clause-on_file
 serve_here-held-requires-clause-on_file g c = let k = c.requires.kind in k.kind
@@ -38,9 +42,10 @@ put_back-requires-clause-low g c =
 pub returns-in-Err-clause-answered : goal.returns-in-Err-clause-answered
 returns-in-Err-clause-answered g c =
     let f = c.self.inside in
-    let tells = g.T.Turns.tells c.args.door.now in
+    let before = g.T.Turns.tells c.args.door.now in
+    let after = g.T.Turns.tells c.lacking.new.door in
     let t = stock_of f.names c.lend.new.self f.pool in
-    answered_from g.N.Naming.start.is_visible tells tells t c.args.self.now t c.args.request c.lacking.result ((λ i. stock_of f.names (c.in-Err.ensures.kept i) f.pool) ∙ c.self.view_is) (c.lacking.ensures.answered g.N.Naming.start.is_visible tells f.names f.pool)
+    answered_from g.N.Naming.start.is_visible before after t c.args.self.now t c.args.request c.lacking.result ((λ i. stock_of f.names (c.in-Err.ensures.kept i) f.pool) ∙ c.self.view_is) (c.lacking.ensures.answered g.N.Naming.start.is_visible f.names f.pool)
 
 pub returns-clause-answered : goal.returns-clause-answered
 returns-clause-answered g c =

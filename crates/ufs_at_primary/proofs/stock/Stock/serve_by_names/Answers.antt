@@ -12,6 +12,7 @@ use Rattle.ufs_at_primary.specs.Served.{IsAway, IsStill, Lacked, OfNames}
 use Rattle.ufs_at_primary.specs.Stock.{AreHere, StockState, stock_of}
 use Rattle.ufs_at_primary.specs.declared.tried.Tried.TheVariants as tried
 use Rattle.ufs_at_primary.proofs.AtHome.{still_tidied}
+use Rattle.ufs_at_primary.proofs.Excuses.{opened_named}
 use Rattle.ufs_at_primary.proofs.Outcomes.{answered_as, answered_from, as_found, in_room}
 use Rattle.ufs_at_primary.proofs.Rooms.{below_still, needed_here, needed_still, next_still}
 use Rattle.ufs_at_primary.proofs.Trials.{is_out, since_before}
@@ -23,8 +24,14 @@ see_request-request-requires g c = record { pool = (c.self.inside.pool, c.self.i
 pub ask_needed-request-requires : goal.ask_needed-request-requires
 ask_needed-request-requires g c = record { kind = subst IsByNames (sym (let still = c.see_request-request.ensures.still in still.ask)) c.requires.kind }
 
-pub lacking-requires : goal.lacking-requires
-lacking-requires g c = record { pool = (c.self.inside.pool, c.see_request-request.ensures.pool c.self.inside.pool c.self.invariant.hand) }
+pub lacking-requires-clause-pool : goal.lacking-requires-clause-pool
+lacking-requires-clause-pool g c = (c.self.inside.pool, c.see_request-request.ensures.pool c.self.inside.pool c.self.invariant.hand)
+
+pub lacking-requires-clause-opened : goal.lacking-requires-clause-opened
+lacking-requires-clause-opened g c = opened_named c.ask_needed-request.result.0.ask (subst (λ (r : Asked). IsByNames r.ask) (sym c.ask_needed-request.ensures.same) (subst IsByNames (sym (let still = c.see_request-request.ensures.still in still.ask)) c.requires.kind))
+
+pub excuse-requires : goal.excuse-requires
+excuse-requires g c = record { opened = opened_named c.ask_needed-request.result.0.ask (subst (λ (r : Asked). IsByNames r.ask) (sym c.ask_needed-request.ensures.same) (subst IsByNames (sym (let still = c.see_request-request.ensures.still in still.ask)) c.requires.kind)) }
 
 pub invariant_of-self : goal.invariant_of-self
 invariant_of-self g c =
@@ -39,11 +46,12 @@ returns-in-Err-clause-tried g c =
     let e = c.see_request-request in
     let q = c.ask_needed-request in
     let visible = g.N.Naming.start.is_visible in
-    let tells = g.T.Turns.tells c.args.door.now in
+    let before = g.T.Turns.tells c.args.door.now in
+    let after = g.T.Turns.tells c.lacking.new.door in
     let t = stock_of e.new.names f.home f.pool in
-    as_found visible tells tells c.args.self.now t c.args.request c.lacking.result
-    (answered_as visible tells tells c.args.self.now t c.args.request q.result.0 c.lacking.result (subst (IsStill c.args.request) (sym q.ensures.same) e.ensures.still)
-    (answered_from visible tells tells t c.args.self.now t q.result.0 c.lacking.result ((λ i. stock_of (e.ensures.names i) f.home f.pool) ∙ c.self.view_is) (c.lacking.ensures.answered visible tells e.new.names f.pool)))
+    as_found visible before after c.args.self.now t c.args.request c.lacking.result
+    (answered_as visible before after c.args.self.now t c.args.request q.result.0 c.lacking.result (subst (IsStill c.args.request) (sym q.ensures.same) e.ensures.still)
+    (answered_from visible before after t c.args.self.now t q.result.0 c.lacking.result ((λ i. stock_of (e.ensures.names i) f.home f.pool) ∙ c.self.view_is) (c.lacking.ensures.answered visible e.new.names f.pool)))
 
 pub invariant_of-self-in-Some : goal.invariant_of-self-in-Some
 invariant_of-self-in-Some g c =
@@ -109,11 +117,12 @@ returns-in-Err-make_room-clause-tried g c =
     let x = c.excuse.ensures.excused in
     let visible = g.N.Naming.start.is_visible in
     let before = g.T.Turns.tells c.args.door.now in
-    let after = g.T.Turns.tells c.make_room.new.door in
+    let mid = g.T.Turns.tells c.make_room.new.door in
+    let after = g.T.Turns.tells c.excuse.new.door in
     let s = stock_of e.new.names f.home f.pool in
-    let room = subst (λ (y : StockState). IsRoomMade visible before after y m) ((λ i. stock_of (e.ensures.names i) f.home f.pool) ∙ c.self.view_is) c.make_room.ensures.made in
-    in_room visible before after after c.args.self.now m t c.args.request c.excuse.result room (λ commits. absurd (let k = c.requires.kind in let clash : true ≡ false = sym commits ∙ k.no_commit in cc))
-    (answered_as visible after after m t c.args.request q.result.0 c.excuse.result (subst (IsStill c.args.request) (sym q.ensures.same) e.ensures.still) (x.0, x.1, Lacked (record { excused = x.2; rest = c.excuse.ensures.rest; store = refl })))
+    let room = subst (λ (y : StockState). IsRoomMade visible before mid y m) ((λ i. stock_of (e.ensures.names i) f.home f.pool) ∙ c.self.view_is) c.make_room.ensures.made in
+    in_room visible before mid after c.args.self.now m t c.args.request c.excuse.result room (λ commits. absurd (let k = c.requires.kind in let clash : true ≡ false = sym commits ∙ k.no_commit in cc))
+    (answered_as visible mid after m t c.args.request q.result.0 c.excuse.result (subst (IsStill c.args.request) (sym q.ensures.same) e.ensures.still) (x.0, x.1, Lacked (record { excused = x.2; rest = c.excuse.ensures.rest })))
 
 pub returns-clause-tried : goal.returns-clause-tried
 returns-clause-tried g c =
@@ -131,7 +140,7 @@ returns-clause-tried g c =
     (answered_as visible mid after m x.new.self c.args.request q.result.0 x.result (subst (IsStill c.args.request) (sym q.ensures.same) e.ensures.still) x.ensures.answered)
 
 pub returns-in-Err-make_room-clause-telling : goal.returns-in-Err-make_room-clause-telling
-returns-in-Err-make_room-clause-telling g c = (let made = c.make_room.ensures.made in made.telling)
+returns-in-Err-make_room-clause-telling g c = (let made = c.make_room.ensures.made in c.excuse.ensures.telling ∙ made.telling)
 
 pub returns-clause-telling : goal.returns-clause-telling
 returns-clause-telling g c = (let made = c.make_room.ensures.made in c.serve_touching.ensures.telling ∙ made.telling)

@@ -8,6 +8,7 @@ use Rattle.ufs_joint.specs.Cells.{NamesCell}
 use Rattle.ufs_model.specs.History.{is_excused}
 use Rattle.ufs_at_primary.specs.Stock.{AreHere, StockState, stock_of}
 use Rattle.ufs_at_primary.proofs.AtHome.{here_answered}
+use Rattle.ufs_at_primary.proofs.Excuses.{opened_named}
 use Rattle.ufs_at_primary.proofs.Outcomes.{answered_from, by_names}
 use Rattle.ufs_at_primary.proofs.Trials.{made_number, next_free, still_same, touched_lent}
 use Rattle.ufs_at_primary.proofs.stock.Stock.serve_touching.Goals as goal
@@ -18,16 +19,20 @@ lend_touched-lent-requires-clause-below g c = subst (λ (s : StockState). (file 
 pub lend_touched-lent-requires-clause-here : goal.lend_touched-lent-requires-clause-here
 lend_touched-lent-requires-clause-here g c = subst (λ (s : StockState). IfSome c.args.needed (λ file. IsSome (file_here s.home.places file))) (sym c.self.view_is) c.requires.here
 
-pub lacking-requires : goal.lacking-requires
-lacking-requires g c = record { pool = (c.self.inside.pool, c.self.invariant.hand) }
+pub lacking-requires-clause-pool : goal.lacking-requires-clause-pool
+lacking-requires-clause-pool g c = (c.self.inside.pool, c.self.invariant.hand)
+
+pub lacking-requires-clause-opened : goal.lacking-requires-clause-opened
+lacking-requires-clause-opened g c = opened_named c.args.request.ask c.requires.kind
 
 pub returns-in-Err-clause-answered : goal.returns-in-Err-clause-answered
 returns-in-Err-clause-answered g c =
     let f = c.self.inside in
     let e = c.lend_touched-lent in
-    let tells = g.T.Turns.tells c.args.door.now in
+    let before = g.T.Turns.tells c.args.door.now in
+    let after = g.T.Turns.tells c.lacking.new.door in
     let t = stock_of e.new.names e.new.home f.pool in
-    answered_from g.N.Naming.start.is_visible tells tells t c.args.self.now t c.args.request c.lacking.result ((λ i. stock_of (e.ensures.names i) (c.in-Err.ensures.kept i) f.pool) ∙ c.self.view_is) (c.lacking.ensures.answered g.N.Naming.start.is_visible tells e.new.names f.pool)
+    answered_from g.N.Naming.start.is_visible before after t c.args.self.now t c.args.request c.lacking.result ((λ i. stock_of (e.ensures.names i) (c.in-Err.ensures.kept i) f.pool) ∙ c.self.view_is) (c.lacking.ensures.answered g.N.Naming.start.is_visible e.new.names f.pool)
 
 pub serve_named-answer-requires-clause-kind : goal.serve_named-answer-requires-clause-kind
 serve_named-answer-requires-clause-kind g c = let k = c.requires.kind in k.kind
