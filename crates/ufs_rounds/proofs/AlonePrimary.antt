@@ -139,13 +139,6 @@ told_so k visible before after s t ask told none (All x) = (ap (λ (z : StockSta
 told_so k visible before after s t ask told none (Lacked x) =
     (ap (λ (z : StockState). z.home.owners) x.rest, x.excused.of_ask.client, λ who e. told_there k s.home.owners (file_in ask.desc) None none who (sym x.excused.owner ∙ e))
 
-asked_so : (visible : Bool) (before after : Option View) (s t : StockState) (ask : Ask) (told : Told) → IsServed visible before after s t ask told → told.entry.op ≡ ask.op
-asked_so visible before after s t ask told (OnFile x) = x.served.of_ask.asked
-asked_so visible before after s t ask told (ByNames x) = x.served.of_ask.asked
-asked_so visible before after s t ask told (OnNone x) = x.served.of_ask.asked
-asked_so visible before after s t ask told (All x) = x.served.of_ask.asked
-asked_so visible before after s t ask told (Lacked x) = x.excused.of_ask.asked
-
 -- Where room was made for it before, that left the table as it was, too.
 room_owners : (visible : Bool) (before then : Option View) (s t : StockState) → IsRoomMade visible before then s t → t.home.owners ≡ s.home.owners
 room_owners visible before then s t room = by room.files
@@ -207,7 +200,6 @@ module _ {N : Type 0} (k : Start) (s t : GlobalState N) (w : ServesAlone k s) wh
     pub told : Told
     pub tells : answer ≡ answer'.Served told
     pub mine : told.entry.client ≡ request.ask.client
-    pub asked : told.entry.op ≡ request.ask.op
     pub drawn : IsDrawnWith s.seen t.seen told.entry
     pub gained : HappensAt HasGained s.rings.answers request.ask.client answer t.rings.answers
     pub stock : StockState
@@ -332,7 +324,6 @@ module _ {N : Type 0} (k : Start) (s t : GlobalState N) (w : ServesAlone k s) wh
               told = told;
               tells = named x.1.0 x.1.1;
               mine = so.1;
-              asked = asked_so k.is_visible in_room.then t.store in_room.between t.primary.stock f.request.ask told in_room.served;
               drawn = f.done.drawn;
               gained = subst (λ (z : List (Buffer (Answer N)) × ℕ). HappensAt HasGained z.0 z.1 x.1.0 t.rings.answers) (λ i. ((f.came.2 ∙ near_lettered.answers) i, so.1 i)) x.1.2.0;
               stock = h.goes.lettered.stock;

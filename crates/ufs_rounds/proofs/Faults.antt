@@ -63,11 +63,11 @@ use Rattle.ufs_rounds.proofs.InTurn.{none_drawn}
 use Rattle.ufs_rounds.proofs.Telling.{rests_caused, said_stop, stops_caused, told_rests, told_stops}
 
 -- the store as it was at first, with the faults that its disk has counted here, and where it has stopped here
-abbrev faults_in : StoreState → List (Unit {0} × StoreCell) → StoreState
+abbrev pub faults_in : StoreState → List (Unit {0} × StoreCell) → StoreState
 faults_in s cells = record s { faults = (tally_in cells).faults; stop = stop_in cells }
 
 -- The entries tell the store's faults between both, where the way to it tells of it.
-abbrev TellBetween : (List (Unit {0} × StoreCell) → StoreState) → Option View → Option View → List Entry → Type 0
+abbrev pub TellBetween : (List (Unit {0} × StoreCell) → StoreState) → Option View → Option View → List Entry → Type 0
 TellBetween by (Some v) (Some w) entries = AreFaultsTold (by v.store) (by w.store) entries
 TellBetween by _ _ entries = Unit {0}
 
