@@ -9,3 +9,5 @@ pub mod Rooms
 mod Trials
 mod Outcomes
 mod Births
+pub mod Raised
+mod Seen

@@ -1,6 +1,6 @@
 // Room before a request: the names are committed before their notes fill the journal, and what was dropped comes back where blocks are
 // wanting.
-ghost use Rattle.std.specs.Prelude.{ℕ, ◌≡◌, ◌<◌, ◌^◌, true};
+ghost use Rattle.std.specs.Prelude.{ℕ, ◌≡◌, ◌<◌, ◌≤◌, ◌^◌, length, true};
 ghost use Rattle.ufs_bitmap.specs.Blocks.{BlockSet};
 ghost use Rattle.ufs_crash_laws.specs.Changes.{asks_commit};
 ghost use Rattle.ufs_joint.specs.Cells.{FileCell};
@@ -13,7 +13,7 @@ ghost use Rattle.ufs_at_primary.specs.Room.{AreAllTidied};
 use crate::naming::FOR_A_NAME;
 use crate::stock::Stock;
 use ufs_base::{Lack, Memory};
-use ufs_held::HeldFile;
+use ufs_held::{HeldFile, see_files};
 use ufs_held_names::HeldNames;
 use ufs_joint::{Hand, HandTable, Naming};
 use ufs_layout::Geometry;
@@ -97,8 +97,12 @@ fn tidy_lent<N: Naming, T: Turns<N>>(
     requires low { (c : FileCell) → Has c files.old.items → c.value.file.file < 2 ^ 31 }
     ensures pool { (pool : BlockSet) → HasPoolAlone (pool_of 0) pool right.old → HasPoolAlone (pool_of 0) pool right.new }
     ensures tidied { AreAllTidied N.start.is_visible (T.tells door.old) (T.tells door.new) names.old names.new files.old.items files.new.items }
+    ensures few { length files.old.items ≤ N.start.geometry.inodes }
 {
-    tidy_all(table, names, geometry, files.as_mut_slice(), right, door);
+    let slice = files.as_mut_slice();
+    // For the prover alone: a commit of each of them raises the store's numbers by no more than there are inodes.
+    see_files(table, slice, right);
+    tidy_all(table, names, geometry, slice, right, door);
 }
 
 // Only that memory is wanting is told who asks for no commit.
@@ -110,9 +114,9 @@ fn told_memory(fault: StoreFault) -> Result<(), Memory> {
 }
 
 impl<N: Naming> Stock<N> {
-    ghost use Rattle.std.specs.Prelude.{◌≡◌, ◌<◌, ◌/◌, ◌⊎◌, IsSome, None, OnErr, OnOk, is_some, true};
+    ghost use Rattle.std.specs.Prelude.{◌≡◌, ◌<◌, ◌+◌, ◌/◌, ◌⊎◌, IsSome, None, OnErr, OnOk, is_some, true};
     ghost use Rattle.ufs_crash_laws.specs.Changes.{asks_commit};
-    ghost use Rattle.ufs_held.specs.Stopping.{Rests};
+    ghost use Rattle.ufs_held.specs.Stopping.{Raises, Rests};
     ghost use Rattle.ufs_held_names.specs.HeldNames.{AreCommitted};
     ghost use Rattle.ufs_home.specs.Places.{file_here};
     ghost use Rattle.ufs_ilog.specs.Notes.{sectors_noted};
@@ -131,6 +135,7 @@ impl<N: Naming> Stock<N> {
     ) -> Result<(), Memory>
         ensures made { IsRoomMade N.start.is_visible (T.tells door.old) (T.tells door.new) self.old self.new }
         ensures idle { sectors_noted self.old.names.value.tree.noted < N.start.geometry.journal / 2 → HasNoneDropped self.old → (self.new ≡ self.old) × (T.tells door.new ≡ T.tells door.old) }
+        ensures raised { Raises (T.tells door.old) (T.tells door.new) (N.start.geometry.inodes + 3) }
     {
         if let Err(fault) = self.commit_crowded(table, door) {
             return told_memory(fault);
@@ -197,6 +202,7 @@ impl<N: Naming> Stock<N> {
         ensures made { IsTidied 0 N.start.is_visible (T.tells door.old) (T.tells door.new) self.old self.new }
         ensures idle { HasNoneDropped self.old → (self.new ≡ self.old) × (T.tells door.new ≡ T.tells door.old) }
         ensures spared { wanted ≡ 0 → (self.new ≡ self.old) × (T.tells door.new ≡ T.tells door.old) }
+        ensures raised { Raises (T.tells door.old) (T.tells door.new) (N.start.geometry.inodes + 2) }
     {
         if wanted == 0 {
             return;
@@ -213,6 +219,8 @@ impl<N: Naming> Stock<N> {
     // Where all files are here, commits everything, and makes a checkpoint.
     fn reclaim<T: Turns<N>>(&mut self, table: &HandTable<N>, door: &mut T)
         ensures made { IsTidied 0 N.start.is_visible (T.tells door.old) (T.tells door.new) self.old self.new }
+        // no more files are committed than there are inodes
+        ensures raised { Raises (T.tells door.old) (T.tells door.new) (N.start.geometry.inodes + 2) }
     {
         no_file_is_out();
         if let Some(_file) = self.home.some_out() {

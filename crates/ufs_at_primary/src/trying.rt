@@ -1,5 +1,5 @@
 // A request is served, or it is said why not.
-ghost use Rattle.std.specs.Prelude.{ℕ, ◌≡◌, ◌≢◌, ◌<◌, ◌^◌, Bool, IfNone, IfSome, true, is_some};
+ghost use Rattle.std.specs.Prelude.{ℕ, ◌≡◌, ◌≢◌, ◌<◌, ◌≤◌, ◌^◌, Bool, IfNone, IfSome, length, true, is_some};
 ghost use Rattle.ufs_baton.specs.Baton.{IsToldSince};
 ghost use Rattle.ufs_bitmap.specs.Blocks.{BlockSet};
 ghost use Rattle.ufs_joint.specs.FirstHand.{HasPoolAlone, pool_of};
@@ -30,7 +30,7 @@ use crate::stock::Stock;
 use crate::touching::{ask_needed, lend_touched, missing, put_after, see_request};
 use crate::tried::Tried;
 use ufs_base::Memory;
-use ufs_held::HeldFile;
+use ufs_held::{HeldFile, see_files};
 use ufs_held_names::HeldNames;
 use ufs_home::Home;
 use ufs_joint::{Hand, HandTable, Naming};
@@ -88,16 +88,12 @@ fn sync_lent<N: Naming, T: Turns<N>>(
     ensures served { (told : Told) × (result ≡ says.Served told) × IsAllSynced N.start.is_visible (T.tells door.old) (T.tells door.new) names.old names.new files.old.items files.new.items request.ask told }
     ensures drawn { IsToldSince request.hand.seen result }
     ensures telling { is_some (T.tells door.new) ≡ is_some (T.tells door.old) }
+    ensures few { length files.old.items ≤ N.start.geometry.inodes }
 {
-    serve_sync_all(
-        table,
-        names,
-        geometry,
-        files.as_mut_slice(),
-        request,
-        right,
-        door,
-    )
+    let slice = files.as_mut_slice();
+    // For the prover alone: a commit of each of them raises the store's numbers by no more than there are inodes.
+    see_files(table, slice, right);
+    serve_sync_all(table, names, geometry, slice, request, right, door)
 }
 
 // A request is excused for want of memory, or, where it asks for a commit, since the store has stopped.
@@ -122,6 +118,7 @@ fn lacking<N: Naming, T: Turns<N>>(
 impl<N: Naming> Stock<N> {
     ghost use Rattle.std.specs.Prelude.{ℕ, ◌≡◌, ◌<◌, ◌^◌, Bool, IfSome, IsSome, None, Option, true, is_some};
     ghost use Rattle.std.specs.FinMap as fin;
+    ghost use Rattle.ufs_held.specs.Stopping.{Raises};
     ghost use Rattle.ufs_held_names.specs.Asked.{IsNeeded};
     ghost use Rattle.ufs_home.specs.Places.{file_here};
     ghost use Rattle.ufs_joint.specs.Cells.{View};
@@ -130,6 +127,7 @@ impl<N: Naming> Stock<N> {
     ghost use Rattle.ufs_at_primary.specs.Kinds.{IsByNames, IsOnFile};
     ghost use Rattle.ufs_baton.specs.Baton.{IsToldSince};
     ghost use Rattle.ufs_at_primary.specs.Served.{IsAnsweredHere, IsTried, IsTriedSince};
+    ghost use Rattle.ufs_told.specs.Numbers.{most_raised};
 
     // A request on a file that isn't here.
     fn send_on(
@@ -201,6 +199,7 @@ impl<N: Naming> Stock<N> {
         ensures tried { IsTried N.start.is_visible (T.tells door.old) (T.tells door.new) self.old self.new request result }
         ensures drawn { IsTriedSince request.hand.seen result }
         ensures telling { is_some (T.tells door.new) ≡ is_some (T.tells door.old) }
+        ensures raised { Raises (T.tells door.old) (T.tells door.new) (most_raised N.start.geometry) }
     {
         if !self.home.has(file) {
             return self.send_on(table, request, file, hinted);
@@ -221,6 +220,7 @@ impl<N: Naming> Stock<N> {
         ensures tried { IsTried N.start.is_visible (T.tells door.old) (T.tells door.new) self.old self.new request result }
         ensures drawn { IsTriedSince request.hand.seen result }
         ensures telling { is_some (T.tells door.new) ≡ is_some (T.tells door.old) }
+        ensures raised { Raises (T.tells door.old) (T.tells door.new) (most_raised N.start.geometry) }
     {
         no_file_is_out();
         if let Some(file) = self.home.some_out() {
@@ -308,6 +308,7 @@ impl<N: Naming> Stock<N> {
         ensures tried { IsTried N.start.is_visible (T.tells door.old) (T.tells door.new) self.old self.new request result }
         ensures drawn { IsTriedSince request.hand.seen result }
         ensures telling { is_some (T.tells door.new) ≡ is_some (T.tells door.old) }
+        ensures raised { Raises (T.tells door.old) (T.tells door.new) (most_raised N.start.geometry) }
     {
         let request = see_request(table, &mut self.names, &mut self.right, request);
         let (request, needed) = ask_needed(&self.names, request);
@@ -345,6 +346,7 @@ impl<N: Naming> Stock<N> {
         ensures tried { IsTried N.start.is_visible (T.tells door.old) (T.tells door.new) self.old self.new request result }
         ensures drawn { IsTriedSince request.hand.seen result }
         ensures telling { is_some (T.tells door.new) ≡ is_some (T.tells door.old) }
+        ensures raised { Raises (T.tells door.old) (T.tells door.new) (most_raised N.start.geometry) }
     {
         let (request, kind) = kind_asked(request);
         match kind {

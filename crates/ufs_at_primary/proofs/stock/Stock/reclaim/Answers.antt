@@ -1,9 +1,10 @@
-use Rattle.std.proofs.Common.{refl, sym, subst, ◌∙◌}
+use Rattle.std.proofs.Common.{refl, sym, subst, ◌∙◌, ◌+◌, length, arith}
 use Rattle.ufs_at_primary.specs.Room.{IsTidied}
 use Rattle.ufs_at_primary.specs.Stock.{AreHere, StockState, stock_of}
 use Rattle.ufs_at_primary.proofs.AtHome.{here_tidied}
 use Rattle.ufs_at_primary.proofs.Rooms.{files_tidied, tidied_still}
 use Rattle.ufs_at_primary.proofs.Trials.{away_still}
+use Rattle.ufs_at_primary.proofs.Raised.{raises_run, raises_still}
 use Rattle.ufs_at_primary.proofs.stock.Stock.reclaim.Goals as goal
 
 pub returns-in-Some-clause-made : goal.returns-in-Some-clause-made
@@ -71,3 +72,16 @@ invariant_of-self-2 g c =
           (files_tidied g.N.Naming.start.is_visible before after f.names e.new.names f.pool f.home c.lend_all.new.self c.put_back_all.new.self c.in-Ok.files.items e.new.files.items lent
           (record { live = λ n is. c.in-Ok.ensures.all n (h.here n is (c.no_file_is_out.ensures f.home.owners n c.in_default.ensures)); once = away.once }) c.in-Ok.ensures.rest c.put_back_all.ensures e.ensures.tidied) h.here;
     }
+
+pub returns-in-Some-clause-raised : goal.returns-in-Some-clause-raised
+returns-in-Some-clause-raised g c = raises_still (g.T.Turns.tells c.args.door.now) (g.N.Naming.start.geometry.inodes + 2)
+
+pub returns-in-Err-clause-raised : goal.returns-in-Err-clause-raised
+returns-in-Err-clause-raised g c = raises_still (g.T.Turns.tells c.args.door.now) (g.N.Naming.start.geometry.inodes + 2)
+
+pub returns-clause-raised : goal.returns-clause-raised
+returns-clause-raised g c =
+    let done = c.tidy_lent.ensures.tidied in
+    let few = c.tidy_lent.ensures.few in
+    let most = 2 + length c.in-Ok.files.items in
+    raises_run (g.T.Turns.tells c.args.door.now) (g.T.Turns.tells c.tidy_lent.new.door) done.fault most most (g.N.Naming.start.geometry.inodes + 2) (omega (arith, few)) (omega (arith, few)) done.ran

@@ -1,4 +1,4 @@
-use Rattle.std.proofs.Common.{◌≡◌, ap, refl, sym, subst, ◌∙◌}
+use Rattle.std.proofs.Common.{◌≡◌, ap, refl, sym, subst, ◌∙◌, arith}
 use Rattle.ufs_baton.specs.Baton.{IsToldSince}
 use Rattle.ufs_msg.specs.Answers.{Told}
 use Rattle.ufs_msg.specs.Requests.{Asked}
@@ -10,6 +10,8 @@ use Rattle.ufs_at_primary.specs.Stock.{StockState, stock_of}
 use Rattle.ufs_at_primary.specs.Served.{IsTried, IsTriedSince, OnNone}
 use Rattle.ufs_at_primary.specs.declared.tried.Tried.TheVariants as tried
 use Rattle.ufs_at_primary.proofs.Outcomes.{as_found}
+use Rattle.ufs_told.specs.Numbers.{most_raised}
+use Rattle.ufs_at_primary.proofs.Raised.{dir_raises, raises_more}
 use Rattle.ufs_at_primary.proofs.stock.Stock.serve.Goals as goal
 
 pub serve_on_file-requires-clause-kind : goal.serve_on_file-requires-clause-kind
@@ -81,3 +83,20 @@ returns-in-All-clause-drawn g c = subst (λ (q : Asked). IsTriedSince q.hand.see
 
 pub returns-in-OnNone-clause-drawn : goal.returns-in-OnNone-clause-drawn
 returns-in-OnNone-clause-drawn g c = subst (λ (q : Asked). IsToldSince q.hand.seen c.serve_dir.result) c.kind_asked-request.ensures.same c.serve_dir.ensures.drawn
+
+pub returns-in-OnFile-clause-raised : goal.returns-in-OnFile-clause-raised
+returns-in-OnFile-clause-raised g c = c.serve_on_file.ensures.raised
+
+pub returns-in-Names-clause-raised : goal.returns-in-Names-clause-raised
+returns-in-Names-clause-raised g c = c.serve_by_names.ensures.raised
+
+pub returns-in-All-clause-raised : goal.returns-in-All-clause-raised
+returns-in-All-clause-raised g c = c.serve_all.ensures.raised
+
+pub returns-in-OnNone-clause-raised : goal.returns-in-OnNone-clause-raised
+returns-in-OnNone-clause-raised g c =
+    let f = c.self.inside in
+    let had = g.T.Turns.tells c.args.door.now in
+    let has = g.T.Turns.tells c.serve_dir.new.door in
+    let s = c.serve_dir.ensures.served in
+    raises_more had has 2 (most_raised g.N.Naming.start.geometry) (omega arith) (dir_raises g.N.Naming.start.is_visible had has (stock_of f.names f.home f.pool) (stock_of c.serve_dir.new.names f.home f.pool) c.kind_asked-request.result.0.ask s.0 s.2)

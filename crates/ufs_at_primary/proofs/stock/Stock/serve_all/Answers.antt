@@ -1,4 +1,4 @@
-use Rattle.std.proofs.Common.{◌≢◌, inl, refl, subst, ◌∙◌}
+use Rattle.std.proofs.Common.{◌≢◌, ◌+◌, inl, length, refl, subst, ◌∙◌, arith}
 use Rattle.ufs_owner.specs.Owners.{owner_at}
 use Rattle.ufs_owner.specs.declared.owner.Owner.TheVariants as owner
 use Rattle.ufs_at_primary.specs.Served.{OfAll}
@@ -6,6 +6,8 @@ use Rattle.ufs_at_primary.specs.Stock.{StockState, stock_of}
 use Rattle.ufs_at_primary.proofs.AtHome.{here_answered}
 use Rattle.ufs_at_primary.proofs.Outcomes.{answered_from, as_found, on_all}
 use Rattle.ufs_at_primary.proofs.Trials.{away_still, same_still}
+use Rattle.ufs_told.specs.Numbers.{most_raised}
+use Rattle.ufs_at_primary.proofs.Raised.{raises_still, reply_raises}
 use Rattle.ufs_at_primary.proofs.stock.Stock.serve_all.Goals as goal
 
 pub returns-in-Some-clause-tried : goal.returns-in-Some-clause-tried
@@ -77,3 +79,16 @@ invariant_of-self-2 g c =
           (on_all g.N.Naming.start.is_visible before after f.names e.new.names f.pool f.pool c.args.request e.result f.home c.lend_all.new.self c.put_back_all.new.self c.in-Ok.files.items e.new.files.items c.requires.sync lent
           (record { live = λ n is. c.in-Ok.ensures.all n (h.here n is (c.no_file_is_out.ensures f.home.owners n c.in_default.ensures)); once = away.once }) c.in-Ok.ensures.rest c.put_back_all.ensures refl e.ensures.served);
     }
+
+pub returns-in-Some-clause-raised : goal.returns-in-Some-clause-raised
+returns-in-Some-clause-raised g c = raises_still (g.T.Turns.tells c.args.door.now) (most_raised g.N.Naming.start.geometry)
+
+pub returns-in-Err-clause-raised : goal.returns-in-Err-clause-raised
+returns-in-Err-clause-raised g c = raises_still (g.T.Turns.tells c.args.door.now) (most_raised g.N.Naming.start.geometry)
+
+pub returns-clause-raised : goal.returns-clause-raised
+returns-clause-raised g c =
+    let s = c.sync_lent-answer.ensures.served in
+    let done = s.2 in
+    let few = c.sync_lent-answer.ensures.few in
+    reply_raises (g.T.Turns.tells c.args.door.now) (g.T.Turns.tells c.sync_lent-answer.new.door) (1 + length c.in-Ok.files.items) (most_raised g.N.Naming.start.geometry) s.0.entry.reply (omega (arith, few)) done.halts

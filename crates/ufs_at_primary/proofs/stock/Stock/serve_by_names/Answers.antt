@@ -1,4 +1,4 @@
-use Rattle.std.proofs.Common.{◌≡◌, ◌<◌, ◌^◌, ℕ, true, false, Some, ap, arith, refl, sym, subst, ◌∙◌, ◌≤◌}
+use Rattle.std.proofs.Common.{◌≡◌, ◌<◌, ◌^◌, ℕ, true, false, Some, ap, arith, refl, sym, subst, ◌∙◌, ◌≤◌, ◌+◌}
 use Rattle.std.specs.Prelude.{IfOk, IfSome, IsSome}
 use Rattle.std.specs.FinMap as fin
 use Rattle.ufs_held_names.specs.Asked.{IsNeeded}
@@ -16,6 +16,8 @@ use Rattle.ufs_at_primary.proofs.Excuses.{opened_named}
 use Rattle.ufs_at_primary.proofs.Outcomes.{answered_as, answered_from, as_found, in_room}
 use Rattle.ufs_at_primary.proofs.Rooms.{below_still, needed_here, needed_still, next_still}
 use Rattle.ufs_at_primary.proofs.Trials.{is_out, since_before}
+use Rattle.ufs_told.specs.Numbers.{most_raised}
+use Rattle.ufs_at_primary.proofs.Raised.{calm_not_all, raises_more, raises_still, raises_then, served_raises}
 use Rattle.ufs_at_primary.proofs.stock.Stock.serve_by_names.Goals as goal
 
 pub see_request-request-requires : goal.see_request-request-requires
@@ -172,3 +174,29 @@ returns-in-Err-make_room-clause-drawn g c =
     let e = c.see_request-request in
     let q = c.ask_needed-request in
     since_before (tried.Answered c.excuse.result) c.args.request.hand.seen q.result.0.hand.seen (seen_then e.result q.result.0 c.args.request.hand.seen q.ensures.same e.ensures.later) c.excuse.ensures.drawn
+
+pub returns-in-Err-clause-raised : goal.returns-in-Err-clause-raised
+returns-in-Err-clause-raised g c = raises_still (g.T.Turns.tells c.args.door.now) (most_raised g.N.Naming.start.geometry)
+
+pub returns-in-Some-clause-raised : goal.returns-in-Some-clause-raised
+returns-in-Some-clause-raised g c = raises_still (g.T.Turns.tells c.args.door.now) (most_raised g.N.Naming.start.geometry)
+
+pub returns-in-Err-make_room-clause-raised : goal.returns-in-Err-make_room-clause-raised
+returns-in-Err-make_room-clause-raised g c =
+    raises_more (g.T.Turns.tells c.args.door.now) (g.T.Turns.tells c.make_room.new.door) (g.N.Naming.start.geometry.inodes + 3) (most_raised g.N.Naming.start.geometry) (omega arith) c.make_room.ensures.raised
+
+pub returns-clause-raised : goal.returns-clause-raised
+returns-clause-raised g c =
+    let e = c.see_request-request in
+    let q = c.ask_needed-request in
+    let x = c.serve_touching in
+    let m = c.make_room.new.self in
+    let visible = g.N.Naming.start.is_visible in
+    let had = g.T.Turns.tells c.args.door.now in
+    let mid = g.T.Turns.tells c.make_room.new.door in
+    let has = g.T.Turns.tells x.new.door in
+    let ask = c.args.request.ask in
+    let made = c.make_room.ensures.made in
+    let kind = c.requires.kind in
+    let s = answered_as visible mid has m x.new.self c.args.request q.result.0 x.result (subst (IsStill c.args.request) (sym q.ensures.same) e.ensures.still) x.ensures.answered in
+    raises_then had mid has (g.N.Naming.start.geometry.inodes + 3) 2 (most_raised g.N.Naming.start.geometry) (omega arith) made.telling c.make_room.ensures.raised (served_raises visible mid has m x.new.self ask s.0 (calm_not_all ask.op kind.no_commit) s.2)

@@ -1,4 +1,4 @@
-use Rattle.std.proofs.Common.{◌≡◌, None, sym, subst, ◌∙◌}
+use Rattle.std.proofs.Common.{◌≡◌, None, sym, subst, ◌∙◌, ◌+◌, arith}
 use Rattle.std.specs.Prelude.{IsSome}
 use Rattle.ufs_baton.specs.Baton.{IsToldSince}
 use Rattle.ufs_home.specs.Places.{file_here}
@@ -10,6 +10,8 @@ use Rattle.ufs_at_primary.proofs.AtHome.{still_tidied}
 use Rattle.ufs_at_primary.proofs.Outcomes.{in_room}
 use Rattle.ufs_at_primary.proofs.Rooms.{tidied_more}
 use Rattle.ufs_at_primary.proofs.Trials.{none_is}
+use Rattle.ufs_told.specs.Numbers.{most_raised}
+use Rattle.ufs_at_primary.proofs.Raised.{on_file_not_all, raises_still, raises_then, served_raises}
 use Rattle.ufs_at_primary.proofs.stock.Stock.serve_on_file.Goals as goal
 
 pub send_on-requires-clause-away : goal.send_on-requires-clause-away
@@ -49,3 +51,20 @@ returns-clause-drawn g c = subst (λ (q : Asked). IsToldSince q.hand.seen c.serv
 
 pub returns-clause-telling : goal.returns-clause-telling
 returns-clause-telling g c = (let made = c.make_space.ensures.made in c.serve_at_hand.ensures.telling ∙ made.telling)
+
+pub returns-then-not-has-clause-raised : goal.returns-then-not-has-clause-raised
+returns-then-not-has-clause-raised g c = raises_still (g.T.Turns.tells c.args.door.now) (most_raised g.N.Naming.start.geometry)
+
+pub returns-clause-raised : goal.returns-clause-raised
+returns-clause-raised g c =
+    let visible = g.N.Naming.start.is_visible in
+    let had = g.T.Turns.tells c.args.door.now in
+    let mid = g.T.Turns.tells c.make_space.new.door in
+    let has = g.T.Turns.tells c.serve_at_hand.new.door in
+    let m = c.make_space.new.self in
+    let t = c.serve_at_hand.new.self in
+    let ask = c.args.request.ask in
+    let made = c.make_space.ensures.made in
+    let kind = c.requires.kind in
+    let s = subst (λ (q : Asked). IsAnsweredHere visible mid has m t q c.serve_at_hand.result) c.measure-request.ensures.request c.serve_at_hand.ensures.answered in
+    raises_then had mid has (g.N.Naming.start.geometry.inodes + 2) 2 (most_raised g.N.Naming.start.geometry) (omega arith) made.telling c.make_space.ensures.raised (served_raises visible mid has m t ask s.0 (on_file_not_all ask.op kind.kind) s.2)
