@@ -1,12 +1,14 @@
 // A request is done, and what is told of it is sent or kept.
 ghost use Rattle.std.specs.Prelude.{◌≡◌, ◌≢◌, ◌<◌, ◌≤◌, ◌++◌, [], ◌∷◌, Option, is_some};
 ghost use Rattle.std.specs.VecDeque.{deque_capacity, deque_len};
+ghost use Rattle.ufs_held.specs.Stopping.{Raises};
 ghost use Rattle.ufs_joint.specs.Cells.{FileCell};
 ghost use Rattle.ufs_msg.specs.There.{client_count};
 ghost use Rattle.ufs_serving.specs.Posts.{AnswersGo, all_said, said};
 ghost use Rattle.ufs_primary.specs.Primary.{HasRoom, primary_of};
 ghost use Rattle.ufs_primary.specs.Turns.{IsRequestDone, IsWorkDone};
 ghost use Rattle.ufs_primary.specs.declared.turn.PrimaryTurn.TheVariants as turn;
+ghost use Rattle.ufs_told.specs.Numbers.{most_raised};
 
 use crate::turn::PrimaryTurn;
 use crate::waiting::{Waiting, put_off, take_waiting};
@@ -58,6 +60,7 @@ fn do_request<N: Naming, Q: ServerPost<N, Letter<Parcel<N>>>, T: Turns<N>>(
     ensures places { deque_capacity waiting.new ≡ deque_capacity waiting.old }
     ensures me { Q.me post.new ≡ Q.me post.old }
     ensures telling { is_some (T.tells door.new) ≡ is_some (T.tells door.old) }
+    ensures raised { Raises (T.tells door.old) (T.tells door.new) (most_raised N.start.geometry) }
 {
     let request = baton.lend(table, request);
     match stock.serve(table, request, door) {
@@ -103,6 +106,7 @@ pub(crate) fn serve_next<N: Naming, Q: ServerPost<N, Letter<Parcel<N>>>, T: Turn
     ensures waiting { HasRoom (client_count N.start) (deque_len waiting.new) (deque_capacity waiting.new) }
     ensures me { Q.me post.new ≡ Q.me post.old }
     ensures telling { is_some (T.tells door.new) ≡ is_some (T.tells door.old) }
+    ensures raised { Raises (T.tells door.old) (T.tells door.new) (most_raised N.start.geometry) }
 {
     if answers.len() >= answers.capacity() {
         return PrimaryTurn::Idle;

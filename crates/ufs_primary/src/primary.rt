@@ -47,6 +47,7 @@ impl<N: Naming> Model for Primary<N> {
 impl<N: Naming> Primary<N> {
     ghost use Rattle.std.specs.Prelude.{◌≡◌, ◌≢◌, ◌≤◌, [], None, is_some};
     ghost use Rattle.std.specs.FinSet as set;
+    ghost use Rattle.ufs_held.specs.Stopping.{Raises};
     ghost use Rattle.ufs_joint.specs.FirstHand.{HasPoolAlone, pool_of};
     ghost use Rattle.ufs_home.specs.Letters.{letter_of};
     ghost use Rattle.ufs_layout.specs.Areas.{IsGeometry};
@@ -59,6 +60,7 @@ impl<N: Naming> Primary<N> {
     ghost use Rattle.ufs_primary.specs.Turns.{IsTurn};
     ghost use Rattle.ufs_primary.specs.declared.turn.PrimaryTurn.TheVariants as turn;
     ghost use Rattle.ufs_serving.specs.Pools.{most_at_rest};
+    ghost use Rattle.ufs_told.specs.Numbers.{most_raised};
     ghost use Rattle.ufs_turns.specs.Lent.{AreTold, Runs, StopsByFault};
 
     /// A primary that keeps nothing, with the hand of its pool's cell. So few files were made before the session that each one made in it
@@ -124,6 +126,8 @@ impl<N: Naming> Primary<N> {
         // no other turn draws an entry
         ensures seen { result ≢ turn.Served → baton.new ≡ baton.old }
         ensures telling { is_some (T.tells door.new) ≡ is_some (T.tells door.old) }
+        // everything may be committed, a checkpoint made, and the names be committed before and behind
+        ensures raised { Raises (T.tells door.old) (T.tells door.new) (most_raised N.start.geometry) }
     {
         self.stock.send_letters(post);
         send_answers(&mut self.answers, post);

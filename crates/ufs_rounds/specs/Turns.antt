@@ -4,6 +4,7 @@ use Rattle.ufs_caller.specs.Callers.{Caller}
 use Rattle.ufs_caller.specs.Turns as caller
 use Rattle.ufs_caller.specs.declared.turn.Turn.{Turn}
 use Rattle.ufs_caller.specs.declared.turn.Turn.TheVariants as client_turn
+use Rattle.ufs_held.specs.Stopping.{Raises}
 use Rattle.ufs_home.specs.Letters.{letter_of}
 use Rattle.ufs_joint.specs.Cells.{Start, View}
 use Rattle.ufs_model.specs.declared.data.Actor.{Actor}
@@ -14,6 +15,7 @@ use Rattle.ufs_primary.specs.Primary.{PrimaryState}
 use Rattle.ufs_primary.specs.Turns as primary
 use Rattle.ufs_primary.specs.declared.turn.PrimaryTurn.{PrimaryTurn}
 use Rattle.ufs_primary.specs.declared.turn.PrimaryTurn.TheVariants as primary_turn
+use Rattle.ufs_told.specs.Numbers.{most_raised}
 use Rattle.ufs_worker.specs.Turns as worker
 use Rattle.ufs_worker.specs.Worker.{WorkerState}
 use Rattle.ufs_worker.specs.declared.turn.WorkerTurn.{WorkerTurn}
@@ -92,6 +94,7 @@ module _ {N : Type 0} where
     pub telling : is_some after ≡ is_some before
     pub store : o ≢ primary_turn.Served → after ≡ before
     pub seen : o ≢ primary_turn.Served → upto ≡ since
+    pub raised : Raises before after (most_raised k.geometry)
 
   -- This actor made its turn, as it says, and the others are as they were. A client's turn doesn't come to the store.
   abbrev pub IsTurnOf : Start → Actor → GlobalState N → GlobalState N → Turned → Type 0

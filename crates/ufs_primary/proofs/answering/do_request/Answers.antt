@@ -116,3 +116,15 @@ returns-in-Err-clause-store g c = λ no. absurd (no refl)
 
 pub returns-in-Err-clause-seen : goal.returns-in-Err-clause-seen
 returns-in-Err-clause-seen g c = λ no. absurd (no refl)
+
+pub returns-in-Answered-clause-raised : goal.returns-in-Answered-clause-raised
+returns-in-Answered-clause-raised g c = c.serve.ensures.raised
+
+pub returns-in-Redirected-clause-raised : goal.returns-in-Redirected-clause-raised
+returns-in-Redirected-clause-raised g c = c.serve.ensures.raised
+
+pub returns-in-Ok-clause-raised : goal.returns-in-Ok-clause-raised
+returns-in-Ok-clause-raised g c = c.serve.ensures.raised
+
+pub returns-in-Err-clause-raised : goal.returns-in-Err-clause-raised
+returns-in-Err-clause-raised g c = c.serve.ensures.raised

@@ -5,6 +5,8 @@ use Rattle.ufs_serving.specs.Posts.{all_said}
 use Rattle.ufs_primary.specs.Waiting.{Waits}
 use Rattle.ufs_primary.proofs.Doing.{of_front, of_full, of_none, of_oldest}
 use Rattle.ufs_primary.proofs.Rooms.{full_of_answers}
+use Rattle.ufs_told.specs.Numbers.{most_raised}
+use Rattle.ufs_at_primary.proofs.Raised.{raises_still}
 use Rattle.ufs_primary.proofs.answering.serve_next.Goals as goal
 
 pub returns-in-Some-clause-done : goal.returns-in-Some-clause-done
@@ -45,3 +47,18 @@ returns-then-len-capacity-2-clause-done g c = λ coming.
     let many : k ≤ length w.items = let o = w.ok.0 in omega (arith, full, each, o) in
     inr (inr (inr (of_full g.Q.ServerPost.answers g.Q.ServerPost.same g.Q.ServerPost.answers_full g.N.Naming.start.is_visible (g.T.Turns.tells c.args.door.now) (g.T.Turns.tells c.args.door.now) c.args.baton.now c.args.baton.now k g.Q.ServerPost.gets_ask g.Q.ServerPost.asks_empty
     c.args.stock.now c.take_waiting.new.stock coming (all_said c.args.answers.now.items) c.args.waiting.now.items w.items c.args.post.now (inr (subst (λ (xs : List Waits). k ≤ length xs) none.1 many, none.0)) none.1 none.2)))
+
+pub returns-in-Some-clause-raised : goal.returns-in-Some-clause-raised
+returns-in-Some-clause-raised g c = c.do_request.ensures.raised
+
+pub returns-in_default-take_ask-clause-raised : goal.returns-in_default-take_ask-clause-raised
+returns-in_default-take_ask-clause-raised g c = raises_still (g.T.Turns.tells c.args.door.now) (most_raised g.N.Naming.start.geometry)
+
+pub returns-clause-raised : goal.returns-clause-raised
+returns-clause-raised g c = c.do_request-2.ensures.raised
+
+pub returns-then-len-capacity-clause-raised : goal.returns-then-len-capacity-clause-raised
+returns-then-len-capacity-clause-raised g c = raises_still (g.T.Turns.tells c.args.door.now) (most_raised g.N.Naming.start.geometry)
+
+pub returns-then-len-capacity-2-clause-raised : goal.returns-then-len-capacity-2-clause-raised
+returns-then-len-capacity-2-clause-raised g c = raises_still (g.T.Turns.tells c.args.door.now) (most_raised g.N.Naming.start.geometry)

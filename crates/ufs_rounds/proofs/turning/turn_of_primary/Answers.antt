@@ -19,5 +19,6 @@ returns g c =
         telling = c.poll.ensures.telling;
         store = c.poll.ensures.store;
         seen = c.poll.ensures.seen;
+        raised = c.poll.ensures.raised;
       };
     }

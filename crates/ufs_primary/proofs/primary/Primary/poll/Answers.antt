@@ -6,6 +6,8 @@ use Rattle.ufs_serving.specs.Posts.{all_said}
 use Rattle.ufs_at_primary.specs.Stock.{StockState}
 use Rattle.ufs_primary.specs.Primary.{PrimaryState, primary_of}
 use Rattle.ufs_primary.specs.Turns.{IsTurn}
+use Rattle.ufs_told.specs.Numbers.{most_raised}
+use Rattle.ufs_at_primary.proofs.Raised.{raises_still}
 use Rattle.ufs_primary.proofs.primary.Primary.poll.Goals as goal
 
 pub returns-in-Some-clause-turn : goal.returns-in-Some-clause-turn
@@ -41,3 +43,9 @@ returns-clause-turn g c =
       letter = record { front = c.in_default.ensures.front; rest = ap (λ (h : StockState). primary_of h c.take_letter.new.coming kept f.waiting.items) c.take_letter.ensures.rest };
       work = c.serve_next.ensures.done c.take_letter.new.coming;
     })
+
+pub returns-in-Some-clause-raised : goal.returns-in-Some-clause-raised
+returns-in-Some-clause-raised g c = raises_still (g.T.Turns.tells c.args.door.now) (most_raised g.N.Naming.start.geometry)
+
+pub returns-clause-raised : goal.returns-clause-raised
+returns-clause-raised g c = c.serve_next.ensures.raised
