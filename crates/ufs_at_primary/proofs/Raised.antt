@@ -1,7 +1,7 @@
 -- How far a request at the primary raises the numbers of the store.
 use Rattle.std.proofs.Common.{◌≡◌, ◌≤◌, ◌+◌, ℕ, Bool, true, false, is_some, Option, Some, None, sym, ap, ◌∙◌, subst, arith}
 use Rattle.ufs_crash_laws.specs.Changes.{asks_commit}
-use Rattle.ufs_held.specs.Stopping.{RestsByReply, Raises, StopsByReply}
+use Rattle.ufs_held.specs.Stopping.{Raises, Rests, RestsByReply, StopsByReply}
 use Rattle.ufs_joint.specs.Cells.{View}
 use Rattle.ufs_model.specs.FileCalls.{is_on_file}
 use Rattle.ufs_model.specs.declared.data.Ask.{Ask}
@@ -28,6 +28,10 @@ raises_run (Some v) (Some w) told epochs commits most less fewer ran =
 -- nothing is done
 pub raises_still : (o : Option View) (most : ℕ) → Raises o o most
 raises_still o most = raises_run o o None 0 0 most (omega arith) (omega arith) (runs_still o 0 0)
+
+-- its numbers are as they were
+pub raises_rests : (o p : Option View) (most : ℕ) → Rests o p None → Raises o p most
+raises_rests o p most rests = raises_run o p None 0 0 most (omega arith) (omega arith) rests.1
 
 raises_same : (o p : Option View) (most : ℕ) → p ≡ o → Raises o p most
 raises_same o p most same = subst (λ (q : Option View). Raises o q most) (sym same) (raises_still o most)
@@ -93,4 +97,4 @@ module _ (visible : Bool) (before after : Option View) (s t : StockState) (ask :
   served_raises one (ByNames x) = rests_raises before after 2 told.entry.reply x.served.done.halts
   served_raises one (OnNone x) = dir_raises x.served
   served_raises one (All x) = absurd (one x.kind)
-  served_raises one (Lacked x) = raises_same before after 2 x.store
+  served_raises one (Lacked x) = raises_rests before after 2 x.excused.rests

@@ -34,11 +34,7 @@ use ufs_serving::{lend_pool, pool_number, take_pool};
 use ufs_turns::Turns;
 
 // Where the store stopped, if it did and the request asks for a commit: the guest knows it then.
-fn stop_for<N: Naming, T: Turns<N>>(
-    ask: &Ask,
-    guest: &mut Hand<N>,
-    door: &mut T,
-) -> Option<u64>
+fn stop_for<N: Naming, T: Turns<N>>(ask: &Ask, guest: &mut Hand<N>, door: &mut T) -> Option<u64>
     requires bare { IsBare guest.old }
     ensures plain { asks_commit ask.now.op ≡ false → result ≡ None }
     ensures told { asks_commit ask.now.op ≡ true → IfSome (T.tells door.old) (λ v. result ≡ stop_in v.store) }

@@ -1,8 +1,9 @@
 // A request is served, or it is said why not.
-ghost use Rattle.std.specs.Prelude.{ℕ, ◌≡◌, ◌≢◌, ◌<◌, ◌≤◌, ◌^◌, Bool, IfNone, IfSome, length, true, is_some};
+ghost use Rattle.std.specs.Prelude.{ℕ, ◌≡◌, ◌≢◌, ◌<◌, ◌≤◌, ◌^◌, Bool, IfNone, IfSome, None, length, true, is_some};
 ghost use Rattle.ufs_baton.specs.Baton.{IsToldSince};
 ghost use Rattle.ufs_bitmap.specs.Blocks.{BlockSet};
 ghost use Rattle.ufs_joint.specs.FirstHand.{HasPoolAlone, pool_of};
+ghost use Rattle.ufs_held.specs.Stopping.{Rests};
 ghost use Rattle.ufs_held_names.specs.SyncAll.{AreAllLive};
 ghost use Rattle.ufs_joint.specs.Cells.{FileCell, NamesCell};
 ghost use Rattle.ufs_layout.specs.Areas.{IsGeometry};
@@ -111,6 +112,7 @@ fn lacking<N: Naming, T: Turns<N>>(
     ensures answered { (visible : Bool) (names : NamesCell) (pool : BlockSet) → IsAnsweredHere visible (T.tells door.old) (T.tells door.new) (stock_of names home.now pool) (stock_of names home.now pool) request result }
     ensures drawn { IsToldSince request.hand.seen result }
     ensures telling { is_some (T.tells door.new) ≡ is_some (T.tells door.old) }
+    ensures rests { Rests (T.tells door.old) (T.tells door.new) None }
 {
     excuse(table, home, request, memory, right, door)
 }

@@ -6,3 +6,9 @@ pub returns-clause-answered : goal.returns-clause-answered
 returns-clause-answered g c = λ visible names pool.
     let x = c.excuse.ensures.excused in
     (x.0, x.1, Lacked (record { excused = x.2; rest = refl }))
+
+pub returns-clause-rests : goal.returns-clause-rests
+returns-clause-rests g c =
+    let x = c.excuse.ensures.excused in
+    let excused = x.2 in
+    excused.rests

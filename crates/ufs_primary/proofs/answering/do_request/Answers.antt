@@ -8,6 +8,8 @@ use Rattle.ufs_at_primary.proofs.Excuses.{opened_away}
 use Rattle.ufs_primary.specs.Primary.{primary_of}
 use Rattle.ufs_primary.specs.declared.turn.PrimaryTurn.TheVariants as turn
 use Rattle.ufs_primary.proofs.Doing.{done_as, is_redirected, is_served, is_unnoted, is_waiting, lent_still}
+use Rattle.ufs_told.specs.Numbers.{most_raised}
+use Rattle.ufs_at_primary.proofs.Raised.{raises_rests, raises_then}
 use Rattle.ufs_primary.proofs.answering.do_request.Goals as goal
 
 pub returns-in-Answered-clause-done : goal.returns-in-Answered-clause-done
@@ -127,4 +129,11 @@ pub returns-in-Ok-clause-raised : goal.returns-in-Ok-clause-raised
 returns-in-Ok-clause-raised g c = c.serve.ensures.raised
 
 pub returns-in-Err-clause-raised : goal.returns-in-Err-clause-raised
-returns-in-Err-clause-raised g c = c.serve.ensures.raised
+returns-in-Err-clause-raised g c =
+    let had = g.T.Turns.tells c.args.door.now in
+    let mid = g.T.Turns.tells c.serve.new.door in
+    let has = g.T.Turns.tells c.excuse-answer.new.door in
+    let most = most_raised g.N.Naming.start.geometry in
+    let x = c.excuse-answer.ensures.excused in
+    let excused = x.2 in
+    raises_then had mid has most 0 most (omega arith) c.serve.ensures.telling c.serve.ensures.raised (raises_rests mid has 0 excused.rests)

@@ -1,7 +1,7 @@
-use Rattle.std.proofs.Common.{ap, refl, ◌∙◌, ◌+◌, None, arith}
+use Rattle.std.proofs.Common.{ap, refl, ◌∙◌, ◌+◌, arith}
 use Rattle.ufs_at_primary.specs.Stock.{StockState}
 use Rattle.ufs_at_primary.proofs.Rooms.{pool_then, tidied_pool, tidied_still}
-use Rattle.ufs_at_primary.proofs.Raised.{raises_run, raises_still, raises_then}
+use Rattle.ufs_at_primary.proofs.Raised.{raises_rests, raises_still, raises_then}
 use Rattle.ufs_at_primary.proofs.stock.Stock.make_space.Goals as goal
 
 pub returns-then-wanted-eq0-clause-made : goal.returns-then-wanted-eq0-clause-made
@@ -54,7 +54,7 @@ returns-then-not-has_dropped-clause-raised g c = raises_still (g.T.Turns.tells c
 pub returns-then-not-is_short-clause-raised : goal.returns-then-not-is_short-clause-raised
 returns-then-not-is_short-clause-raised g c =
     let rests = c.is_short.ensures.still in
-    raises_run (g.T.Turns.tells c.args.door.now) (g.T.Turns.tells c.is_short.new.door) None 0 0 (g.N.Naming.start.geometry.inodes + 2) (omega arith) (omega arith) rests.1
+    raises_rests (g.T.Turns.tells c.args.door.now) (g.T.Turns.tells c.is_short.new.door) (g.N.Naming.start.geometry.inodes + 2) rests
 
 pub returns-clause-raised : goal.returns-clause-raised
 returns-clause-raised g c =
@@ -62,4 +62,4 @@ returns-clause-raised g c =
     let most = g.N.Naming.start.geometry.inodes + 2 in
     let had = g.T.Turns.tells c.args.door.now in
     let mid = g.T.Turns.tells c.is_short.new.door in
-    raises_then had mid (g.T.Turns.tells c.reclaim.new.door) 0 most most (omega arith) c.is_short.ensures.telling (raises_run had mid None 0 0 0 (omega arith) (omega arith) rests.1) c.reclaim.ensures.raised
+    raises_then had mid (g.T.Turns.tells c.reclaim.new.door) 0 most most (omega arith) c.is_short.ensures.telling (raises_rests had mid 0 rests) c.reclaim.ensures.raised

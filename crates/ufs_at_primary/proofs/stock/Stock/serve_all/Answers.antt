@@ -7,7 +7,7 @@ use Rattle.ufs_at_primary.proofs.AtHome.{here_answered}
 use Rattle.ufs_at_primary.proofs.Outcomes.{answered_from, as_found, on_all}
 use Rattle.ufs_at_primary.proofs.Trials.{away_still, same_still}
 use Rattle.ufs_told.specs.Numbers.{most_raised}
-use Rattle.ufs_at_primary.proofs.Raised.{raises_still, reply_raises}
+use Rattle.ufs_at_primary.proofs.Raised.{raises_rests, raises_still, reply_raises}
 use Rattle.ufs_at_primary.proofs.stock.Stock.serve_all.Goals as goal
 
 pub returns-in-Some-clause-tried : goal.returns-in-Some-clause-tried
@@ -84,7 +84,7 @@ pub returns-in-Some-clause-raised : goal.returns-in-Some-clause-raised
 returns-in-Some-clause-raised g c = raises_still (g.T.Turns.tells c.args.door.now) (most_raised g.N.Naming.start.geometry)
 
 pub returns-in-Err-clause-raised : goal.returns-in-Err-clause-raised
-returns-in-Err-clause-raised g c = raises_still (g.T.Turns.tells c.args.door.now) (most_raised g.N.Naming.start.geometry)
+returns-in-Err-clause-raised g c = raises_rests (g.T.Turns.tells c.args.door.now) (g.T.Turns.tells c.lacking.new.door) (most_raised g.N.Naming.start.geometry) c.lacking.ensures.rests
 
 pub returns-clause-raised : goal.returns-clause-raised
 returns-clause-raised g c =

@@ -17,7 +17,7 @@ use Rattle.ufs_at_primary.proofs.Outcomes.{answered_as, answered_from, as_found,
 use Rattle.ufs_at_primary.proofs.Rooms.{below_still, needed_here, needed_still, next_still}
 use Rattle.ufs_at_primary.proofs.Trials.{is_out, since_before}
 use Rattle.ufs_told.specs.Numbers.{most_raised}
-use Rattle.ufs_at_primary.proofs.Raised.{calm_not_all, raises_more, raises_still, raises_then, served_raises}
+use Rattle.ufs_at_primary.proofs.Raised.{calm_not_all, raises_rests, raises_still, raises_then, served_raises}
 use Rattle.ufs_at_primary.proofs.stock.Stock.serve_by_names.Goals as goal
 
 pub see_request-request-requires : goal.see_request-request-requires
@@ -176,14 +176,19 @@ returns-in-Err-make_room-clause-drawn g c =
     since_before (tried.Answered c.excuse.result) c.args.request.hand.seen q.result.0.hand.seen (seen_then e.result q.result.0 c.args.request.hand.seen q.ensures.same e.ensures.later) c.excuse.ensures.drawn
 
 pub returns-in-Err-clause-raised : goal.returns-in-Err-clause-raised
-returns-in-Err-clause-raised g c = raises_still (g.T.Turns.tells c.args.door.now) (most_raised g.N.Naming.start.geometry)
+returns-in-Err-clause-raised g c = raises_rests (g.T.Turns.tells c.args.door.now) (g.T.Turns.tells c.lacking.new.door) (most_raised g.N.Naming.start.geometry) c.lacking.ensures.rests
 
 pub returns-in-Some-clause-raised : goal.returns-in-Some-clause-raised
 returns-in-Some-clause-raised g c = raises_still (g.T.Turns.tells c.args.door.now) (most_raised g.N.Naming.start.geometry)
 
 pub returns-in-Err-make_room-clause-raised : goal.returns-in-Err-make_room-clause-raised
 returns-in-Err-make_room-clause-raised g c =
-    raises_more (g.T.Turns.tells c.args.door.now) (g.T.Turns.tells c.make_room.new.door) (g.N.Naming.start.geometry.inodes + 3) (most_raised g.N.Naming.start.geometry) (omega arith) c.make_room.ensures.raised
+    let mid = g.T.Turns.tells c.make_room.new.door in
+    let has = g.T.Turns.tells c.excuse.new.door in
+    let made = c.make_room.ensures.made in
+    let x = c.excuse.ensures.excused in
+    let excused = x.2 in
+    raises_then (g.T.Turns.tells c.args.door.now) mid has (g.N.Naming.start.geometry.inodes + 3) 0 (most_raised g.N.Naming.start.geometry) (omega arith) made.telling c.make_room.ensures.raised (raises_rests mid has 0 excused.rests)
 
 pub returns-clause-raised : goal.returns-clause-raised
 returns-clause-raised g c =
