@@ -38,8 +38,8 @@ pub draw_excuse-entry-requires-clause-knows : goal.draw_excuse-entry-requires-cl
 draw_excuse-entry-requires-clause-knows g c = λ fault is. (c.stop_for-stop.ensures.knows fault is, by (asks_commit c.into_parts-client.result.1.op) refl (λ none. (let other = c.stop_for-stop.ensures.plain none in let clash : None ≡ Some fault = sym other ∙ is in cc)))
   where
     by : (b : Bool) → asks_commit c.into_parts-client.result.1.op ≡ b → (asks_commit c.into_parts-client.result.1.op ≡ false → ⊥) → asks_commit c.into_parts-client.result.1.op ≡ true
-    by true is no = is
-    by false is no = absurd (no is)
+    by true is never = is
+    by false is never = absurd (never is)
 
 pub draw_excuse-entry-requires-clause-opened : goal.draw_excuse-entry-requires-clause-opened
 draw_excuse-entry-requires-clause-opened g c = subst (λ (q : Asked). IsOpened q.ask) (sym c.into_parts-client.ensures.same) c.requires.opened
