@@ -16,7 +16,8 @@ use Rattle.ufs_model.specs.History.{joined, tree_after}
 use Rattle.ufs_model.specs.PosixTree.{PosixTree, root_alone}
 use Rattle.ufs_model.specs.declared.data.Entry.{Entry}
 use Rattle.ufs_brink.specs.Numbers.{RaisesNumbers}
-use Rattle.ufs_engine.specs.Plays.{IsStampedThroughout, MayPlay}
+use Rattle.ufs_engine.specs.Plays.{IsStampedThroughout}
+pub use Rattle.ufs_engine.specs.Plays.{MayPlay}
 use Rattle.ufs_recover.specs.Stopped.{IsNewDisk, IsStopped}
 use Rattle.ufs_recover.specs.Tables.{IsOutside}
 use Rattle.ufs_recovery.specs.Home.{KeepsTree}

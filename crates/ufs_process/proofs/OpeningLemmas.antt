@@ -4,7 +4,7 @@ use Rattle.std.specs.Prelude.{◌&&◌}
 use Rattle.std.proofs.lemmas.List.{length-map}
 use Rattle.ufs_bench.specs.Workload.{bench_geometry}
 use Rattle.ufs_brink.specs.Begins.{BeginsWith}
-use Rattle.ufs_engine.specs.Plays.{MayPlay}
+use Rattle.ufs_command.specs.Left.{MayPlay}
 use Rattle.ufs_mirror.specs.Opens.{OpenRight}
 use Rattle.ufs_mirror.specs.Pairs.{all_pairs, state_of}
 use Rattle.ufs_model.specs.History.{joined}

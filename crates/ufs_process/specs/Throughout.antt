@@ -6,7 +6,7 @@ use Rattle.ufs_bench.specs.Workload.{bench_geometry}
 use Rattle.ufs_disk.specs.Disk.{IsImage}
 use Rattle.ufs_disk.specs.Moments.{reads}
 use Rattle.ufs_brink.specs.Begins.{BeginsWith}
-use Rattle.ufs_engine.specs.Plays.{MayPlay}
+use Rattle.ufs_command.specs.Left.{MayPlay}
 use Rattle.ufs_image.specs.Proper.{IsProperImage}
 use Rattle.ufs_ledger.specs.Kept.{OpensExplained}
 use Rattle.ufs_mirror.specs.Opens.{OpensOnly}
