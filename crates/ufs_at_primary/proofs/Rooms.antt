@@ -1,5 +1,5 @@
 -- Room is made before a request, in one step after another.
-use Rattle.std.proofs.Common.{◌≡◌, ◌≢◌, ◌≤◌, ◌<◌, ◌+◌, ◌++◌, ℕ, zero, suc, ◌⊎◌, inl, inr, eqb, ne_eqb, Bool, true, false, List, [], ◌∷◌, Option, Some, None, is_some, length, arith, refl, ap, sym, ◌∙◌, subst}
+use Rattle.std.proofs.Common.{◌≡◌, ◌≢◌, ◌≤◌, ◌<◌, ◌+◌, ◌++◌, ℕ, ◌⊎◌, inl, inr, eqb, ne_eqb, Bool, true, false, List, [], ◌∷◌, Option, Some, None, is_some, length, arith, refl, ap, sym, ◌∙◌, subst}
 use Rattle.std.specs.Prelude.{IfSome, IsSome, Result, Ok, Err, OnOk, OnErr}
 use Rattle.std.specs.FinMap as fin
 use Rattle.ufs_bitmap.specs.Blocks.{BlockSet}
@@ -162,7 +162,7 @@ module _ (visible : Bool) where
         telling = d.telling ∙ telling;
         fault = d.fault;
         stop = stops_twice had mid has d.fault telling rests.0 d.stop;
-        ran = runs_twice had mid has d.fault 0 0 d.most d.most telling rests.1 d.ran;
+        ran = runs_more had has d.fault (0 + d.most) (0 + d.most) d.most d.most (omega arith) (omega arith) (runs_twice had mid has d.fault 0 0 d.most d.most telling rests.1 d.ran);
       }
 
   -- the names were committed before the rest was done, or needn't be

@@ -1,4 +1,4 @@
-use Rattle.std.proofs.Common.{◌≡◌, ◌≤◌, ◌<◌, ◌^◌, List, length, arith, sym, subst, ◌∙◌}
+use Rattle.std.proofs.Common.{◌≤◌, ◌<◌, ◌^◌, List, length, arith, sym, subst, ◌∙◌}
 use Rattle.std.proofs.lemmas.List.{with_items_is}
 use Rattle.ufs_held_names.specs.SyncAll.{AreAllLive}
 use Rattle.ufs_joint.specs.Cells.{FileCell}

@@ -1,4 +1,4 @@
-use Rattle.std.proofs.Common.{◌≡◌, sym, subst, ◌∙◌, ◌+◌, arith}
+use Rattle.std.proofs.Common.{sym, subst, ◌∙◌, ◌+◌, arith}
 use Rattle.ufs_at_primary.specs.Room.{HasNoneDropped}
 use Rattle.ufs_at_primary.proofs.Rooms.{names_failed, names_then}
 use Rattle.ufs_store.specs.Refusals.{fault_in}

@@ -1,4 +1,4 @@
-use Rattle.std.proofs.Common.{refl, sym, subst, ◌∙◌, ◌+◌, length, arith}
+use Rattle.std.proofs.Common.{sym, subst, ◌∙◌, ◌+◌, length, arith}
 use Rattle.ufs_at_primary.specs.Room.{IsTidied}
 use Rattle.ufs_at_primary.specs.Stock.{AreHere, StockState, stock_of}
 use Rattle.ufs_at_primary.proofs.AtHome.{here_tidied}

@@ -1,8 +1,7 @@
-use Rattle.std.proofs.Common.{◌≡◌, ◌<◌, ◌^◌, ℕ, true, false, Some, ap, arith, refl, sym, subst, ◌∙◌, ◌≤◌, ◌+◌}
-use Rattle.std.specs.Prelude.{IfOk, IfSome, IsSome}
+use Rattle.std.proofs.Common.{◌≡◌, ◌<◌, ℕ, true, false, ap, arith, refl, sym, subst, ◌∙◌, ◌≤◌, ◌+◌}
+use Rattle.std.specs.Prelude.{IfOk, IsSome}
 use Rattle.std.specs.FinMap as fin
 use Rattle.ufs_held_names.specs.Asked.{IsNeeded}
-use Rattle.ufs_home.specs.Places.{file_here}
 use Rattle.ufs_joint.specs.Cells.{NamesCell}
 use Rattle.ufs_model.specs.declared.data.Ask.{Ask}
 use Rattle.ufs_msg.specs.Requests.{Asked}
