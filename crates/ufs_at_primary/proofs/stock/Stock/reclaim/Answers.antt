@@ -7,15 +7,15 @@ use Rattle.ufs_at_primary.proofs.Trials.{away_still}
 use Rattle.ufs_at_primary.proofs.Raised.{raises_run, raises_still}
 use Rattle.ufs_at_primary.proofs.stock.Stock.reclaim.Goals as goal
 
-pub returns-in-Some : goal.returns-in-Some
-returns-in-Some g c = record { made = tidied_still 0 g.N.Naming.start.is_visible (g.T.Turns.tells c.args.door.now) c.args.self.now }
+pub returns-in-Some-clause-made : goal.returns-in-Some-clause-made
+returns-in-Some-clause-made g c = tidied_still 0 g.N.Naming.start.is_visible (g.T.Turns.tells c.args.door.now) c.args.self.now
 
-pub returns-in-Err : goal.returns-in-Err
-returns-in-Err g c =
+pub returns-in-Err-clause-made : goal.returns-in-Err-clause-made
+returns-in-Err-clause-made g c =
     let f = c.self.inside in
     let tells = g.T.Turns.tells c.args.door.now in
     let t = stock_of f.names c.lend_all.new.self f.pool in
-    record { made = subst (λ (s : StockState). IsTidied 0 g.N.Naming.start.is_visible tells tells s t) ((λ i. stock_of f.names (c.in-Err.ensures.kept i) f.pool) ∙ c.self.view_is) (tidied_still 0 g.N.Naming.start.is_visible tells t) }
+    subst (λ (s : StockState). IsTidied 0 g.N.Naming.start.is_visible tells tells s t) ((λ i. stock_of f.names (c.in-Err.ensures.kept i) f.pool) ∙ c.self.view_is) (tidied_still 0 g.N.Naming.start.is_visible tells t)
 
 pub tidy_lent-requires-clause-pool : goal.tidy_lent-requires-clause-pool
 tidy_lent-requires-clause-pool g c = (c.self.inside.pool, c.self.invariant.hand)
@@ -35,19 +35,17 @@ put_back_all-requires g c =
     let lent = c.in-Ok.ensures.lent in
     away_still c.lend_all.new.self.places c.in-Ok.files.items c.tidy_lent.new.files.items done.numbers lent.away
 
-pub returns : goal.returns
-returns g c =
+pub returns-clause-made : goal.returns-clause-made
+returns-clause-made g c =
     let f = c.self.inside in
     let e = c.tidy_lent in
     let before = g.T.Turns.tells c.args.door.now in
     let after = g.T.Turns.tells e.new.door in
     let lent = c.in-Ok.ensures.lent in
     let away = lent.away in
-    record {
-      made = subst (λ (s : StockState). IsTidied 0 g.N.Naming.start.is_visible before after s (stock_of e.new.names c.put_back_all.new.self f.pool)) c.self.view_is
-          (files_tidied g.N.Naming.start.is_visible before after f.names e.new.names f.pool f.home c.lend_all.new.self c.put_back_all.new.self c.in-Ok.files.items e.new.files.items lent
-          (record { live = λ n is. c.in-Ok.ensures.all n (c.self.invariant.here n is (c.no_file_is_out.ensures f.home.owners n c.in_default.ensures)); once = away.once }) c.in-Ok.ensures.rest c.put_back_all.ensures e.ensures.tidied);
-    }
+    subst (λ (s : StockState). IsTidied 0 g.N.Naming.start.is_visible before after s (stock_of e.new.names c.put_back_all.new.self f.pool)) c.self.view_is
+    (files_tidied g.N.Naming.start.is_visible before after f.names e.new.names f.pool f.home c.lend_all.new.self c.put_back_all.new.self c.in-Ok.files.items e.new.files.items lent
+    (record { live = λ n is. c.in-Ok.ensures.all n (c.self.invariant.here n is (c.no_file_is_out.ensures f.home.owners n c.in_default.ensures)); once = away.once }) c.in-Ok.ensures.rest c.put_back_all.ensures e.ensures.tidied)
 
 pub invariant_of-self : goal.invariant_of-self
 invariant_of-self g c =
