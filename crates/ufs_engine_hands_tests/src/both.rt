@@ -39,12 +39,13 @@ pub fn alike<R: Abort + AllocGlobal>(rt: &R, text: &str) -> Result<usize, Fail> 
     assert!(rt; other.ended == Ok(()));
     assert_eq!(rt; one.bytes, other.bytes);
     same_lists(rt, &one.told, &other.told)?;
+    let entries = count(&other.told);
     // What is read of both images afterwards is the same.
     let read = "client 0\nlist /\nlist /a\nlist /b\nopen /b/x r\nread 3 9999\nend\n";
     let one = play_by_one(alloc, script(alloc, read)?, 0, one.disk);
     let other = play_by_one(alloc, script(alloc, read)?, 0, other.disk);
     same_lists(rt, &one.told, &other.told)?;
-    Ok(count(&other.told))
+    Ok(entries)
 }
 
 /// Plays it both ways over a disk that passes so many calls and then fails each. Answers whether each request was answered by both.
