@@ -1,5 +1,5 @@
 -- A request may be excused by want of memory, or by the store's stop where it asks for a commit, and what is told of it.
-use Rattle.std.proofs.Common.{◌≡◌, ◌⊎◌, ℕ, inl, inr, cond, eqb, Bool, true, false, List, [], ◌∷◌, Option, Some, None, refl, sym, ap, ◌∙◌, subst, arith}
+use Rattle.std.proofs.Common.{◌≡◌, ◌⊎◌, ℕ, inl, inr, true, false, List, Option, Some, None, refl, sym, ap, ◌∙◌}
 use Rattle.std.specs.Prelude.{IfSome, IsSome, is_none}
 use Rattle.std.specs.FinMap as fin
 use Rattle.ufs_base.specs.Choices.{first_of, refused_if}
@@ -8,19 +8,19 @@ use Rattle.ufs_crash_laws.specs.Changes.{asks_commit}
 use Rattle.ufs_file.specs.Hand.{IsEntryOf}
 use Rattle.ufs_held.specs.Asking.{IsGuest}
 use Rattle.ufs_held.specs.Stopping.{ExcusesByStop, fault_by}
-use Rattle.ufs_held.specs.Drawn.{first_fds, fresh_of, replied_to}
-use Rattle.ufs_held.specs.Together.{HasDrawnStill, still_of}
+use Rattle.ufs_held.specs.Drawn.{replied_to}
+use Rattle.ufs_held.specs.Together.{still_of}
 use Rattle.ufs_held_names.specs.Asking.{IsAnsweredNames}
 use Rattle.ufs_held_names.specs.Dirs.{answered}
 use Rattle.ufs_held_names.proofs.Refusing.{may_reply, still_hand}
 use Rattle.ufs_held_names.proofs.Untold.{named_none}
 use Rattle.ufs_joint.specs.Cells.{Start, View}
-use Rattle.ufs_joint.specs.Draws.{IsAround, Leaves, MayDraw}
+use Rattle.ufs_joint.specs.Draws.{IsAround, MayDraw}
 use Rattle.ufs_joint.specs.FileHands.{own_desc}
-use Rattle.ufs_joint.specs.NamesHands.{AreNumberedOnce, IsNextOf, still_leaves}
+use Rattle.ufs_joint.specs.NamesHands.{IsNextOf}
 use Rattle.ufs_joint.specs.Servers.{NeedsServer}
 use Rattle.ufs_joint.proofs.Served.{by_server}
-use Rattle.ufs_joint.proofs.StillDraws.{IsStillHand, may_draw, own_fds}
+use Rattle.ufs_joint.proofs.StillDraws.{own_fds}
 use Rattle.ufs_joint.proofs.StillKinds.{excuse_still}
 use Rattle.ufs_joint.specs.KnownDraws.{ExcusesStayKept}
 use Rattle.ufs_model.specs.Asks.{fd_named, fd_told, file_in}
@@ -43,11 +43,9 @@ use Rattle.ufs_msg.specs.Answers.{IsTold}
 use Rattle.ufs_msg.specs.Requests.{HasClientAlone, IsAsked}
 use Rattle.ufs_msg.specs.There.{IsServerThere}
 use Rattle.ufs_owner.specs.Owners.{Files}
-use Rattle.ufs_hand_laws.specs.Draws.{client_after, entry_of}
-use Rattle.ufs_hand_laws.specs.Owned.{each}
+use Rattle.ufs_hand_laws.specs.Draws.{entry_of}
 use Rattle.ufs_hand_laws.specs.Parts.{ClientPart}
 use Rattle.ufs_hand_laws.specs.declared.fresh.Fresh.{Fresh}
-use Rattle.ufs_hand_laws.proofs.Keys.{itself}
 use Rattle.ufs_promise_laws.specs.Parts.{Parts}
 use Rattle.ufs_turns.specs.Lent.{stop_in}
 use Rattle.ufs_at_primary.specs.Excused.{IsOpened, excuse_at}

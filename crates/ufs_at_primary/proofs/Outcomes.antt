@@ -1,6 +1,6 @@
 -- What comes of a request, by what was done.
-use Rattle.std.proofs.Common.{◌≡◌, ◌<◌, ℕ, Bool, true, List, Option, Some, None, refl, ap, sym, ◌∙◌, subst}
-use Rattle.std.specs.Prelude.{IfSome, IsSome}
+use Rattle.std.proofs.Common.{◌≡◌, ℕ, Bool, true, List, Option, Some, None, refl, ap, sym, ◌∙◌, subst}
+use Rattle.std.specs.Prelude.{IfSome}
 use Rattle.std.specs.FinMap as fin
 use Rattle.ufs_bitmap.specs.Blocks.{BlockSet}
 use Rattle.ufs_crash_laws.specs.Changes.{asks_commit}
@@ -8,7 +8,7 @@ use Rattle.ufs_held_names.specs.Asked.{IsNeeded, number_of}
 use Rattle.ufs_held_names.specs.SyncAll.{AreAllLive}
 use Rattle.ufs_home.specs.Home.{HomeState}
 use Rattle.ufs_home.specs.Lending.{AreLent, put_all}
-use Rattle.ufs_home.specs.Places.{Places, file_here}
+use Rattle.ufs_home.specs.Places.{file_here}
 use Rattle.ufs_joint.specs.Cells.{FileCell, NamesCell, View}
 use Rattle.ufs_model.specs.declared.data.Ask.{Ask}
 use Rattle.ufs_model.specs.declared.data.Op.TheVariants as op

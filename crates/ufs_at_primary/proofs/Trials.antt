@@ -1,6 +1,6 @@
 -- What comes of a request, put together.
 use Rattle.std.proofs.Common.{◌≡◌, ◌≢◌, ◌≤◌, ◌<◌, ◌^◌, ℕ, ◌⊎◌, inl, inr, Bool, true, false, cond, List, Option, Some, None, is_some, arith, refl, ap, sym, ◌∙◌, subst}
-use Rattle.std.specs.Prelude.{IfNone, IfSome, IsSome, not}
+use Rattle.std.specs.Prelude.{IfNone, IfSome, IsSome}
 use Rattle.std.specs.FinMap as fin
 use Rattle.ufs_file.specs.Hand.{IsOf}
 use Rattle.ufs_bitmap.specs.Blocks.{BlockSet}

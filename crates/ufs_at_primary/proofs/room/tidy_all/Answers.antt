@@ -1,4 +1,4 @@
-use Rattle.std.proofs.Common.{◌≡◌, ◌≤◌, ℕ, List, arith, length, sym, subst, ◌∙◌}
+use Rattle.std.proofs.Common.{◌≤◌, ℕ, List, arith, length, sym, subst, ◌∙◌}
 use Rattle.ufs_joint.specs.Cells.{FileCell}
 use Rattle.ufs_serving.proofs.Lacking.{off_pool}
 use Rattle.ufs_store.specs.Refusals.{fault_in}

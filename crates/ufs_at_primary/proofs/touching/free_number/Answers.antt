@@ -1,4 +1,4 @@
-use Rattle.std.proofs.Common.{◌≡◌, ◌<◌, ℕ, sym, subst, arith, ◌∙◌}
+use Rattle.std.proofs.Common.{ℕ, sym, subst, arith, ◌∙◌}
 use Rattle.std.specs.Prelude.{IsSome}
 use Rattle.std.specs.FinMap as fin
 use Rattle.ufs_at_primary.proofs.Trials.{none_is}

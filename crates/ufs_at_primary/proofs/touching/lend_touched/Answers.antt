@@ -1,8 +1,7 @@
-use Rattle.std.proofs.Common.{◌≡◌, None, ap, sym, subst, ◌∙◌}
+use Rattle.std.proofs.Common.{sym, subst}
 use Rattle.std.specs.Prelude.{IfSome, IsSome}
 use Rattle.ufs_home.specs.Home.{HomeState}
 use Rattle.ufs_home.specs.Places.{file_here}
-use Rattle.ufs_at_primary.specs.Served.{lent_with}
 use Rattle.ufs_at_primary.proofs.touching.lend_touched.Goals as goal
 
 pub lend_for-requires : goal.lend_for-requires

@@ -1,2 +1,0 @@
-use Rattle.std.proofs.Common.{◌≡◌, true, sym, ◌∙◌}
-use Rattle.ufs_at_primary.proofs.trying.worker_for.Goals as goal

@@ -1,4 +1,4 @@
-use Rattle.std.proofs.Common.{◌≡◌, inl, inr, ap, arith, refl, sym, subst, ◌∙◌}
+use Rattle.std.proofs.Common.{inl, inr, ap, arith, refl, sym, subst, ◌∙◌}
 use Rattle.std.specs.Prelude.{◌/◌}
 use Rattle.ufs_held.proofs.Stopping.{stops_still}
 use Rattle.ufs_held_names.specs.HeldNames.{AreCommitted}

@@ -1,4 +1,4 @@
-use Rattle.std.proofs.Common.{None, ap, sym, ◌∙◌}
+use Rattle.std.proofs.Common.{None, ap, ◌∙◌}
 use Rattle.ufs_held.proofs.Stopping.{rests_twice}
 use Rattle.ufs_at_primary.specs.Stock.{StockState}
 use Rattle.ufs_at_primary.proofs.stock.Stock.is_short.Goals as goal
