@@ -1,12 +1,12 @@
 -- What is known of the cells of a session's disk is so of its states.
-use Rattle.std.proofs.Common.{◌≡◌, ◌∙◌, inl, inr, ℕ, zero, suc, ◌<◌, ◌≤◌, Bool, true, false, List, [], ◌∷◌, ◌++◌, length, map, take, None, Some, refl, sym, ap, subst, arith}
+use Rattle.std.proofs.Common.{◌≡◌, ◌∙◌, inl, inr, ℕ, zero, suc, ◌<◌, ◌≤◌, Bool, true, List, [], ◌∷◌, ◌++◌, length, map, take, None, Some, refl, sym, ap, subst, arith}
 use Rattle.std.specs.Prelude.{IsTrue, Ok, drop}
 use Rattle.std.proofs.Math.Seq.{drop-append_seam}
 use Rattle.ufs_base.specs.Images.{Image}
 use Rattle.ufs_crash_laws.specs.Explained.{IsExplained}
 use Rattle.ufs_crash_laws.specs.Mapped.{mapped}
 use Rattle.ufs_disk.specs.Disk.{IsImage, Leaves, State}
-use Rattle.ufs_disk.specs.Moments.{LeavesOnly, Moments, all, gone_to}
+use Rattle.ufs_disk.specs.Moments.{Moments, all, gone_to}
 use Rattle.ufs_disk.proofs.Runs.{started}
 use Rattle.ufs_gathered.specs.Ended.{AreExplainedAlong, HasEnded}
 use Rattle.ufs_gathered.specs.Ended as ended

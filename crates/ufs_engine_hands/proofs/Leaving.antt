@@ -1,5 +1,5 @@
 -- An image that was mounted, and on which nothing was played.
-use Rattle.std.proofs.Common.{◌≡◌, ◌∙◌, ℕ, Bool, true, List, [], Result, Ok, Err, refl, sym, ap, subst, arith}
+use Rattle.std.proofs.Common.{◌≡◌, ◌∙◌, ℕ, Bool, true, List, [], Result, Err, refl, sym, ap, subst, arith}
 use Rattle.std.specs.FinMap as map
 use Rattle.ufs_base.specs.declared.lack.Lack.{Lack}
 use Rattle.ufs_disk.specs.Disk.{Leaves}

@@ -1,5 +1,5 @@
 -- Room for transcripts.
-use Rattle.std.proofs.Common.{◌≡◌, ◌∙◌, ◌+◌, ◌≤◌, ℕ, zero, suc, List, [], ◌∷◌, ◌++◌, length, map, take, Some, None, slice_get, refl, sym, ap, subst, arith}
+use Rattle.std.proofs.Common.{◌≡◌, ◌+◌, ◌≤◌, ℕ, zero, suc, List, [], ◌∷◌, ◌++◌, length, take, Some, None, slice_get, refl, ap, subst, arith}
 use Rattle.std.specs.Global.{Vec}
 use Rattle.ufs_caller.specs.Callers.{entries_in}
 use Rattle.ufs_caller.specs.declared.told.Told.{Told}

@@ -12,7 +12,6 @@ use Rattle.ufs_layout.specs.declared.geometry.Geometry.{Geometry}
 use Rattle.ufs_layout.specs.declared.superblock.Super.{Super}
 use Rattle.ufs_image.specs.Agree.{AgreeOn, IsMetadata, IsOfBlock, IsOfJournal}
 use Rattle.ufs_image.specs.Catalog.{Catalog, IsInode, catalog_at}
-use Rattle.ufs_image.specs.Changes.{IsTakenBlock}
 use Rattle.ufs_image.specs.Damage.{BitmapDiffers, all_bits, damage, differing, is_marked, same_bool, tree_damage}
 use Rattle.ufs_image.specs.Images.{form_at}
 use Rattle.ufs_image.specs.Journal.{epoch_in}

@@ -1,5 +1,5 @@
 // An image is mounted for a session on hands.
-ghost use Rattle.std.specs.Prelude.{◌≡◌, ◌≤◌, [], Err, IfErr, IfOk, IsTrue, Ok, OnOk, length, map, true};
+ghost use Rattle.std.specs.Prelude.{◌≡◌, [], Err, IfErr, IfOk, IsTrue, Ok, OnOk, length, map, true};
 ghost use Rattle.ufs_begin_hands.specs.Values.{value_of};
 ghost use Rattle.ufs_brink.specs.Begins.{BeginsWith, TellsNoSession};
 ghost use Rattle.ufs_brink.specs.Numbers.{BeginsFrom};

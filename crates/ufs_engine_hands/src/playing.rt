@@ -1,5 +1,5 @@
 // Playing a script on one thread.
-ghost use Rattle.std.specs.Prelude.{ℕ, ◌≡◌, ◌≢◌, ◌⊎◌, [], Err, IfOk, IsOk, IsTrue, OnOk, length};
+ghost use Rattle.std.specs.Prelude.{◌≡◌, ◌≢◌, ◌⊎◌, [], Err, IsTrue, OnOk, length};
 ghost use Rattle.ufs_brink.specs.Begins.{BeginsWith, HasNothingOpen, TellsNoSession};
 ghost use Rattle.ufs_disk.specs.Disk.{Leaves};
 ghost use Rattle.ufs_disk.specs.Moments.{reads};

@@ -1,5 +1,5 @@
-use Rattle.std.proofs.Common.{◌≡◌, ℕ, List, [], length, Result, Ok, Err, sym, subst, ◌∙◌}
-use Rattle.std.specs.Prelude.{IsTrue, OnOk, true}
+use Rattle.std.proofs.Common.{◌≡◌, ℕ, List, [], Result, Ok, Err, sym, subst, ◌∙◌}
+use Rattle.std.specs.Prelude.{IsTrue, true}
 use Rattle.std.specs.FinMap.{get-empty}
 use Rattle.ufs_disk.specs.Disk.{Leaves}
 use Rattle.ufs_disk.specs.Moments.{Moments, reads}
@@ -13,7 +13,6 @@ use Rattle.ufs_model.specs.History.{AreTicketsOnce, joined}
 use Rattle.ufs_model.specs.Order.{fd_cmp}
 use Rattle.ufs_model.specs.PosixTree.{PosixTree, root_alone}
 use Rattle.ufs_model.specs.declared.data.Entry.{Entry}
-use Rattle.ufs_model.specs.declared.data.Op.{Op}
 use Rattle.ufs_brink.specs.Begins.{BeginsWith}
 use Rattle.ufs_promise_laws.specs.OnDisk.{IsExplainedBetween}
 use Rattle.ufs_store.specs.State.{StoreState}
