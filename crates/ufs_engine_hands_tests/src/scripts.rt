@@ -20,7 +20,7 @@ const ROWS: [(&str, usize); 7] = [
     ),
     (
         "client 0\nmkdir /b\nopen /b/x rw creat\nwrite 3 5000*61\ntrunc 3 4097\nrename /b/x /a\nsync\nunlink /a\nclose 3\nend\n",
-        9,
+        8,
     ),
     (
         "client 0\nopen /x r\nread 9 1\nseek 3 set 0\nrmdir /\nend\n",
