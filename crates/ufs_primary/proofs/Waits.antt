@@ -1,5 +1,5 @@
 -- Requests that waited are taken up.
-use Rattle.std.proofs.Common.{◌≡◌, ℕ, List, Option, Some, None, MatchOption, refl, sym, ◌∙◌, subst}
+use Rattle.std.proofs.Common.{◌≡◌, ℕ, List, Option, Some, None, MatchOption, refl, sym, ◌∙◌}
 use Rattle.ufs_msg.specs.Requests.{Asked}
 use Rattle.ufs_at_primary.specs.Noted.{unwaited}
 use Rattle.ufs_at_primary.specs.Stock.{StockState}

@@ -1,5 +1,5 @@
 -- The primary: what it serves with, and what it keeps.
-use Rattle.std.specs.Prelude.{ℕ, ◌≡◌, ◌≤◌, List, Option, refl}
+use Rattle.std.specs.Prelude.{ℕ, ◌≤◌, List, Option, refl}
 use Rattle.std.specs.Coded.{Coded, code_by, coded×, coded_list, coded_option}
 use Rattle.ufs_joint.specs.Cells.{FileCell}
 use Rattle.ufs_joint.specs.Codes.{file_code}

@@ -1,5 +1,3 @@
-use Rattle.std.proofs.Common.{◌≡◌, ap, refl, sym, subst, ◌∙◌}
-use Rattle.ufs_msg.specs.Requests.{Asked}
 use Rattle.ufs_primary.proofs.Waits.{taken_up, wait_all}
 use Rattle.ufs_primary.proofs.waiting.take_waiting.Goals as goal
 
