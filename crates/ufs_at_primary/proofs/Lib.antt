@@ -11,3 +11,6 @@ mod Outcomes
 mod Births
 pub mod Raised
 mod Seen
+pub mod OfServing
+pub mod OfBaton
+pub mod OfHome

@@ -9,3 +9,9 @@ pub mod Served
 pub mod Orders
 pub mod Noted
 pub mod Room
+pub mod OfHome
+pub mod OfServing
+pub mod OfHeld
+pub mod OfTurns
+pub mod OfBaton
+pub mod OfNoted

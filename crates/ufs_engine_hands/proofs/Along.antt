@@ -8,8 +8,8 @@ use Rattle.ufs_crash_laws.specs.Mapped.{mapped}
 use Rattle.ufs_disk.specs.Disk.{IsImage, Leaves, State}
 use Rattle.ufs_disk.specs.Moments.{Moments, all, gone_to}
 use Rattle.ufs_disk.proofs.Runs.{started}
-use Rattle.ufs_gathered.specs.Ended.{AreExplainedAlong, HasEnded}
-use Rattle.ufs_gathered.specs.Ended as ended
+use Rattle.ufs_rounds.specs.OfGathered.{AreExplainedAlong, HasEnded}
+use Rattle.ufs_rounds.specs.OfGathered.ended as ended
 use Rattle.ufs_hand_laws.specs.DiskBytes.{state_of}
 use Rattle.ufs_hand_laws.specs.Owned.{Has}
 use Rattle.ufs_hand_laws.specs.Parts.{Cells}
@@ -29,7 +29,7 @@ use Rattle.ufs_store_steps.specs.Cells.{cells_of}
 use Rattle.ufs_store_steps.proofs.Cells.{cells_are_there, cut, cut_left, cut_same}
 use Rattle.ufs_told.specs.Throughout.{IsExplainedThroughout}
 use Rattle.ufs_told.proofs.ThroughoutLemmas.{throughout_before}
-use Rattle.ufs_turns.specs.HeldStore.{counted_in, state_in}
+use Rattle.ufs_rounds.specs.OfTurns.{counted_in, state_in}
 use Rattle.ufs_engine_hands.specs.Plays.{IsStampedThroughout}
 use Rattle.ufs_engine_hands.specs.Stamped.{IsExplainedAtStamps}
 use Rattle.ufs_engine_hands.proofs.PlayedLemmas.{explained_behind}

@@ -2,7 +2,7 @@
 use Rattle.std.proofs.Common.{◌≡◌, ℕ, Bool, List, [], ◌∷◌, length, Result, take, refl, sym, subst, arith}
 use Rattle.std.specs.Global.{Vec}
 use Rattle.ufs_disk.specs.Moments.{Moments}
-use Rattle.ufs_gathered.specs.Ended.{AnswerAll}
+use Rattle.ufs_rounds.specs.OfGathered.{AnswerAll}
 use Rattle.ufs_joint.specs.Cells.{Start}
 use Rattle.ufs_model.specs.PosixTree.{PosixTree}
 use Rattle.ufs_model.specs.declared.data.Entry.{Entry}

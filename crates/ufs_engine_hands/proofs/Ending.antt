@@ -13,8 +13,8 @@ use Rattle.ufs_client.specs.Own.{AreServedFrom}
 use Rattle.ufs_disk.specs.Disk.{Leaves}
 use Rattle.ufs_disk.specs.Moments.{Moments, all, reads}
 use Rattle.ufs_disk.proofs.Images.{seen_is_image}
-use Rattle.ufs_gathered.specs.Ended.{AnswerAll}
-use Rattle.ufs_gathered.specs.Finished.{EndsBy, HasFinished}
+use Rattle.ufs_rounds.specs.OfGathered.{AnswerAll}
+use Rattle.ufs_rounds.specs.OfGathered.{EndsBy, HasFinished}
 use Rattle.ufs_joint.specs.Cells.{Start}
 use Rattle.ufs_joint.specs.FirstHand.{Beginning, each_of, pool_of, start_first}
 use Rattle.ufs_joint.specs.Ready.{IsReady}
@@ -34,7 +34,7 @@ use Rattle.ufs_told.specs.Sizes.{total_size}
 use Rattle.ufs_told.specs.Throughout.{IsExplainedThroughout}
 use Rattle.ufs_told.specs.Told.{AreFaultsTold}
 use Rattle.ufs_told.proofs.ThroughoutLemmas.{throughout_before}
-use Rattle.ufs_turns.specs.HeldStore.{counted_in, sectors_in, state_in}
+use Rattle.ufs_rounds.specs.OfTurns.{counted_in, sectors_in, state_in}
 use Rattle.ufs_engine_hands.specs.Played.{IsPlayedOn}
 use Rattle.ufs_engine_hands.specs.Plays.{AreFaultsOf, IsEndFault, IsStampedThroughout, served_end}
 use Rattle.ufs_engine_hands.specs.Served.{IsPlayedFrom}

@@ -5,7 +5,7 @@ use Rattle.ufs_base.specs.declared.lack.Lack.{Lack}
 use Rattle.ufs_disk.specs.Disk.{Leaves}
 use Rattle.ufs_disk.specs.Moments.{Moments}
 use Rattle.ufs_disk.proofs.Runs.{started}
-use Rattle.ufs_dealt.specs.First.{LiveFilesAreThere}
+use Rattle.ufs_rounds.specs.OfDealt.{LiveFilesAreThere}
 use Rattle.ufs_joint.specs.Cells.{Start}
 use Rattle.ufs_joint.specs.Ends.{HoldsAll}
 use Rattle.ufs_joint.specs.FirstHand.{Beginning, names_first, server_first, start_first, store_first}

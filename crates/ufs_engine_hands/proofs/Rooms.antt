@@ -1,11 +1,11 @@
 -- Room for transcripts.
 use Rattle.std.proofs.Common.{◌≡◌, ◌+◌, ◌≤◌, ℕ, zero, suc, List, [], ◌∷◌, ◌++◌, length, take, Some, None, slice_get, refl, ap, subst, arith}
 use Rattle.std.specs.Global.{Vec}
-use Rattle.ufs_caller.specs.Callers.{entries_in}
-use Rattle.ufs_caller.specs.declared.told.Told.{Told}
+use Rattle.ufs_rounds.specs.OfCaller.{entries_in}
+use Rattle.ufs_rounds.specs.OfCaller.{Told}
 use Rattle.ufs_model.specs.declared.data.Entry.{Entry}
 use Rattle.ufs_model.specs.declared.data.Op.{Op}
-use Rattle.ufs_gathered.specs.Ended.{AnswerAll}
+use Rattle.ufs_rounds.specs.OfGathered.{AnswerAll}
 use Rattle.ufs_engine_hands.specs.Asked.{AreRoomsFor, DoFit, HasRoomFor, given, lists_in}
 
 pub length_push : {A : Type 0} (xs : List A) (x : A) → length (xs ++ x ∷ []) ≡ suc (length xs)

@@ -5,10 +5,10 @@ use Rattle.ufs_base.specs.Images.{Image}
 use Rattle.ufs_base.specs.declared.memory.Memory.{Memory}
 use Rattle.ufs_brink.specs.Numbers.{ClosesFrom}
 use Rattle.ufs_brink.specs.declared.closing.CloseFault.{CloseFault}
-use Rattle.ufs_caller.proofs.Made.{by_the_primary}
+use Rattle.ufs_rounds.proofs.OfCaller.{by_the_primary}
 use Rattle.ufs_client.specs.Played.{IsMerged}
 use Rattle.ufs_disk.specs.Moments.{Moments, reads}
-use Rattle.ufs_gathered.specs.Finished.{ClosesBy}
+use Rattle.ufs_rounds.specs.OfGathered.{ClosesBy}
 use Rattle.ufs_image.specs.Volume.{superblock_of}
 use Rattle.ufs_joint.specs.Cells.{Start, StoreCell, View}
 use Rattle.ufs_joint.specs.Disks.{cell_of}
@@ -24,7 +24,7 @@ use Rattle.ufs_rounds.specs.Played.{AreInTurn, HasPlayed, TellsToEnd}
 use Rattle.ufs_rounds.proofs.Entries.{one_history}
 use Rattle.ufs_store.specs.State.{StoreState, geometry_of_store}
 use Rattle.ufs_told.specs.Told.{AreFaultsTold}
-use Rattle.ufs_turns.specs.Lent.{tally_in}
+use Rattle.ufs_rounds.specs.OfTurns.{tally_in}
 use Rattle.ufs_engine_hands.specs.Asked.{given}
 use Rattle.ufs_engine_hands.proofs.Ending.{HasRun}
 

@@ -2,8 +2,8 @@
 use Rattle.std.specs.Prelude.{ℕ, ◌≡◌, ◌≤◌, List, [], ◌∷◌, length, map}
 use Rattle.std.specs.Global.{Vec}
 use Rattle.std.specs.Vec.{vec_capacity}
-use Rattle.ufs_caller.specs.Callers.{entries_in}
-use Rattle.ufs_caller.specs.declared.told.Told.{Told}
+use Rattle.ufs_rounds.specs.OfCaller.{entries_in}
+use Rattle.ufs_rounds.specs.OfCaller.{Told}
 use Rattle.ufs_model.specs.declared.data.Entry.{Entry}
 use Rattle.ufs_model.specs.declared.data.Op.{Op}
 

@@ -1,15 +1,15 @@
 // What clients are to ask, and room for what they are told.
 ghost use Rattle.std.specs.Prelude.{◌≡◌, ◌≤◌, [], IfOk, length, take};
 ghost use Rattle.std.specs.Vec.{vec_capacity};
-ghost use Rattle.ufs_caller.specs.Callers.{entries_in};
+ghost use Rattle.ufs_rounds.specs.OfCaller.{entries_in};
 ghost use Rattle.ufs_engine_hands.specs.Asked.{AreRoomsFor, DoFit, HasRoomFor, IsAskedOf, given, lists_in};
 
 use std::alloc::Global;
 use std::collections::VecDeque;
 use ufs_base::Memory;
-use ufs_caller::Told;
 use ufs_client::ToldLists;
 use ufs_model::{Entry, EntryList};
+use ufs_rounds::Told;
 use ufs_script::{OpList, OpLists};
 
 /// What clients are to ask, and room for what each is told. A session has a client: where a script has none, one is here that asks

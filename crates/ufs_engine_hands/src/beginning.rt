@@ -1,6 +1,6 @@
 // An image is mounted for a session on hands.
 ghost use Rattle.std.specs.Prelude.{◌≡◌, [], Err, IfErr, IfOk, IsTrue, Ok, OnOk, length, map, true};
-ghost use Rattle.ufs_begin_hands.specs.Values.{value_of};
+ghost use Rattle.ufs_rounds.specs.OfBeginHands.{value_of};
 ghost use Rattle.ufs_brink.specs.Begins.{BeginsWith, TellsNoSession};
 ghost use Rattle.ufs_brink.specs.Numbers.{BeginsFrom};
 ghost use Rattle.ufs_disk.specs.Moments.{reads};
@@ -20,11 +20,11 @@ ghost use Rattle.ufs_start.specs.declared.fault.StartFault.TheVariants as start;
 use crate::asked::Asked;
 use std::alloc::Global;
 use ufs_base::Lack;
-use ufs_begin_hands::{Ready, mount};
 use ufs_brink::{Unbegun, recovered_start};
 use ufs_disk::Disk;
 use ufs_metadata::RecoverFault;
 use ufs_model::a_request_keeps_the_tree;
+use ufs_rounds::{Ready, mount};
 use ufs_script::OpLists;
 use ufs_start::StartFault;
 use ufs_store::{Door, Store};

@@ -1,7 +1,7 @@
 // A session on hands over a mounted image, from its beginning to its end.
 ghost use Rattle.std.specs.Prelude.{ℕ, ◌≡◌, ◌≢◌, [], Err, IfOk, IsOk, IsTrue, List, OnOk, length, map, true};
 ghost use Rattle.ufs_base.specs.declared.lack.Lack.TheVariants as lack;
-ghost use Rattle.ufs_begin_hands.specs.Values.{value_of};
+ghost use Rattle.ufs_rounds.specs.OfBeginHands.{value_of};
 ghost use Rattle.ufs_brink.specs.declared.closing.CloseFault.TheVariants as cause;
 ghost use Rattle.ufs_engine_hands.specs.Asked.{IsAskedOf};
 ghost use Rattle.ufs_engine_hands.specs.Left.{IsDiskOf};
@@ -19,14 +19,12 @@ use crate::playing::{PlayFault, Played};
 use std::alloc::Global;
 use std::sync::ledger::{Blank, Ledger};
 use ufs_base::{Lack, Memory};
-use ufs_begin_hands::Ready;
 use ufs_brink::CloseFault;
 use ufs_client::ToldLists;
-use ufs_dealt::dealt_law;
 use ufs_disk::Disk;
 use ufs_joint::{Begun, Naming};
 use ufs_promise_laws::on_disk_law;
-use ufs_rounds::{Session, Unbegun};
+use ufs_rounds::{Ready, Session, Unbegun, dealt_law};
 use ufs_store::{Door, Store};
 
 /// Plays what is asked in the session of this name, over the image that was mounted for it: each client in order, client 0 first. Where

@@ -1,13 +1,13 @@
 -- A request that is done, and what is told of it.
 use Rattle.std.proofs.Common.{◌≡◌, ◌≤◌, ℕ, ◌⊎◌, Bool, true, List, [], ◌∷◌, ◌++◌, length, inl, inr, Option, refl, ap, sym, ◌∙◌, subst}
-use Rattle.ufs_baton.specs.Baton.{IsDrawnWith, IsToldOf}
+use Rattle.ufs_at_primary.specs.OfBaton.{IsDrawnWith, IsToldOf}
 use Rattle.ufs_joint.specs.Cells.{FileCell, View}
 use Rattle.ufs_model.specs.declared.data.Ask.{Ask}
 use Rattle.ufs_msg.specs.Answers.{Told}
 use Rattle.ufs_msg.specs.Requests.{Asked, HasClientAlone}
 use Rattle.ufs_msg.specs.There.{is_by_hint}
 use Rattle.ufs_msg.specs.declared.answer.Answer.{Answer}
-use Rattle.ufs_serving.specs.Posts.{AnswersGo, Said, said}
+use Rattle.ufs_at_primary.specs.OfServing.{AnswersGo, Said, said}
 use Rattle.ufs_at_primary.specs.Excused.{IsExcusedHere}
 use Rattle.ufs_at_primary.specs.Kinds.{IsOnFile}
 use Rattle.ufs_at_primary.specs.Stock.{StockState}

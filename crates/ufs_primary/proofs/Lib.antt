@@ -3,3 +3,5 @@ mod Oldest
 mod Waits
 mod Doing
 mod Rooms
+pub mod OfAtPrimary
+pub mod OfHome

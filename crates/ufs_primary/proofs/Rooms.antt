@@ -1,7 +1,7 @@
 -- Room for what the primary keeps.
 use Rattle.std.proofs.Common.{◌≡◌, ◌≤◌, ℕ, suc, List, [], ◌∷◌, length, refl, ap, sym, subst, arith}
 use Rattle.ufs_msg.specs.declared.answer.Answer.{Answer}
-use Rattle.ufs_serving.specs.Posts.{all_said}
+use Rattle.ufs_at_primary.specs.OfServing.{all_said}
 use Rattle.ufs_primary.specs.Primary.{HasRoom}
 
 said_long : {N : Type 0} (xs : List (Answer N)) → length (all_said xs) ≡ length xs

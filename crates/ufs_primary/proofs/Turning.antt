@@ -1,7 +1,7 @@
 -- What a turn of the primary leaves, put together.
 use Rattle.std.proofs.Common.{◌≡◌, Option, Some, None, refl, subst}
 use Rattle.ufs_joint.specs.Cells.{FileCell}
-use Rattle.ufs_home.specs.Home.{HomeState}
+use Rattle.ufs_at_primary.specs.OfHome.{HomeState}
 use Rattle.ufs_msg.specs.declared.letter.Letter.{Letter}
 use Rattle.ufs_primary.specs.Letters.{IsFrontDone, IsNextDone, IsSettled}
 use Rattle.ufs_primary.specs.declared.turn.PrimaryTurn.{PrimaryTurn}

@@ -1,8 +1,8 @@
 -- What the front letter of the primary comes to: its files then, and the file that waits for room.
 use Rattle.std.specs.Prelude.{◌≡◌, ◌⊎◌, true, false, IsSome, Option, Some, None}
 use Rattle.ufs_joint.specs.Cells.{FileCell}
-use Rattle.ufs_home.specs.Home.{HomeState, come_on, onward}
-use Rattle.ufs_home.specs.Places.{file_here}
+use Rattle.ufs_at_primary.specs.OfHome.{HomeState, come_on, onward}
+use Rattle.ufs_at_primary.specs.OfHome.{file_here}
 use Rattle.ufs_msg.specs.declared.letter.Letter.{Letter}
 use Rattle.ufs_msg.specs.declared.letter.Letter.TheVariants.{Parcel, Recall, Report}
 use Rattle.ufs_owner.specs.Lacks.{IsLackOut}

@@ -2,3 +2,10 @@ pub mod Letters
 pub mod Waiting
 pub mod Primary
 pub mod Turns
+pub mod OfAtPrimary
+pub mod OfHome
+pub mod OfServing
+pub mod OfNoted
+pub mod OfHeld
+pub mod OfTurns
+pub mod OfBaton

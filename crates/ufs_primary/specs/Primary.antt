@@ -3,7 +3,7 @@ use Rattle.std.specs.Prelude.{ℕ, ◌≤◌, List, Option, refl}
 use Rattle.std.specs.Coded.{Coded, code_by, coded×, coded_list, coded_option}
 use Rattle.ufs_joint.specs.Cells.{FileCell}
 use Rattle.ufs_joint.specs.Codes.{file_code}
-use Rattle.ufs_serving.specs.Posts.{Said, said_code}
+use Rattle.ufs_at_primary.specs.OfServing.{Said, said_code}
 use Rattle.ufs_at_primary.specs.Stock.{StockState, stock_code}
 use Rattle.ufs_primary.specs.Waiting.{Waits, waits_code}
 

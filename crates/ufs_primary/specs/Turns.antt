@@ -1,9 +1,9 @@
 -- One turn of the primary.
 use Rattle.std.specs.Prelude.{ℕ, ◌≡◌, ◌≤◌, ◌⊎◌, ◌++◌, Bool, true, List, [], ◌∷◌, length, Option, Some, None}
 use Rattle.std.proofs.Common.{inl, inr}
-use Rattle.ufs_baton.specs.Baton.{IsDrawnWith}
-use Rattle.ufs_home.specs.Letters.{Mailed, RingsGo}
-use Rattle.ufs_home.specs.Places.{file_here}
+use Rattle.ufs_at_primary.specs.OfBaton.{IsDrawnWith}
+use Rattle.ufs_at_primary.specs.OfHome.{Mailed, RingsGo}
+use Rattle.ufs_at_primary.specs.OfHome.{file_here}
 use Rattle.ufs_joint.specs.Cells.{FileCell, View}
 use Rattle.ufs_model.specs.declared.data.Actor.TheVariants as actor
 use Rattle.ufs_msg.specs.Answers.{Told}
@@ -13,7 +13,7 @@ use Rattle.ufs_msg.specs.declared.answer.Answer.{Answer}
 use Rattle.ufs_msg.specs.declared.letter.Letter.{Letter}
 use Rattle.ufs_owner.specs.Owners.{owner_at}
 use Rattle.ufs_owner.specs.declared.owner.Owner.TheVariants as owner
-use Rattle.ufs_serving.specs.Posts.{AnswersGo}
+use Rattle.ufs_at_primary.specs.OfServing.{AnswersGo}
 use Rattle.ufs_at_primary.specs.Excused.{IsExcusedHere}
 use Rattle.ufs_at_primary.specs.Kinds.{IsOnFile}
 use Rattle.ufs_at_primary.specs.Noted.{IsUnnoted, unwaited}

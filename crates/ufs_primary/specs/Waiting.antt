@@ -2,7 +2,7 @@
 use Rattle.std.specs.Prelude.{ℕ, ◌≡◌, ◌<◌, ◌++◌, Bool, true, false, List, [], ◌∷◌, Some, refl, slice_get}
 use Rattle.std.specs.List.{remove}
 use Rattle.std.specs.Coded.{Coded, code_by, coded×, coded_ℕ}
-use Rattle.ufs_home.specs.Home.{HomeState, called_for}
+use Rattle.ufs_at_primary.specs.OfHome.{HomeState, called_for}
 use Rattle.ufs_msg.specs.Requests.{Asked, asked_code}
 use Rattle.ufs_owner.specs.Owners.{Files, is_primary, owner_at}
 use Rattle.ufs_at_primary.specs.Noted.{waited_for}

@@ -1,10 +1,10 @@
 // A request is done, and what is told of it is sent or kept.
 ghost use Rattle.std.specs.Prelude.{◌≡◌, ◌≢◌, ◌<◌, ◌≤◌, ◌++◌, [], ◌∷◌, Option, is_some};
 ghost use Rattle.std.specs.VecDeque.{deque_capacity, deque_len};
-ghost use Rattle.ufs_held.specs.Stopping.{Raises};
+ghost use Rattle.ufs_at_primary.specs.OfHeld.{Raises};
 ghost use Rattle.ufs_joint.specs.Cells.{FileCell};
 ghost use Rattle.ufs_msg.specs.There.{client_count};
-ghost use Rattle.ufs_serving.specs.Posts.{AnswersGo, all_said, said};
+ghost use Rattle.ufs_at_primary.specs.OfServing.{AnswersGo, all_said, said};
 ghost use Rattle.ufs_primary.specs.Primary.{HasRoom, primary_of};
 ghost use Rattle.ufs_primary.specs.Turns.{IsRequestDone, IsWorkDone};
 ghost use Rattle.ufs_primary.specs.declared.turn.PrimaryTurn.TheVariants as turn;
@@ -13,13 +13,9 @@ ghost use Rattle.ufs_told.specs.Numbers.{most_raised};
 use crate::turn::PrimaryTurn;
 use crate::waiting::{Waiting, put_off, take_waiting};
 use std::collections::VecDeque;
-use ufs_at_primary::{Stock, Tried};
-use ufs_baton::Baton;
-use ufs_held::Parcel;
+use ufs_at_primary::{Baton, Parcel, Stock, Tried, Turns, send_answers};
 use ufs_joint::{HandTable, Naming};
 use ufs_msg::{Answer, Letter, Request, ServerPost};
-use ufs_serving::send_answers;
-use ufs_turns::Turns;
 
 // The answer goes behind those that are kept, and they go as far as there is room.
 fn say<N: Naming, Q: ServerPost<N, Letter<Parcel<N>>>>(

@@ -3,8 +3,7 @@ ghost use Rattle.std.specs.Prelude.{◌≡◌, None};
 ghost use Rattle.ufs_primary.specs.Letters.{IsFrontDone, IsLetterDone, IsNextDone, IsSettled};
 
 use crate::turn::PrimaryTurn;
-use ufs_at_primary::Stock;
-use ufs_held::Parcel;
+use ufs_at_primary::{Parcel, Stock};
 use ufs_joint::Naming;
 use ufs_msg::{Letter, ServerPost};
 

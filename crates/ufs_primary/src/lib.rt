@@ -11,4 +11,8 @@ mod waiting;
 pub use primary::Primary;
 pub use room::Room;
 pub use turn::PrimaryTurn;
+pub use ufs_at_primary::{
+    Baton, Direct, HeldFile, HeldNames, HeldStore, Home, KnownFile, Moved, Ordered, Parcel, Turns,
+    pool_number,
+};
 pub use waiting::Waiting;

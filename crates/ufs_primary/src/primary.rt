@@ -6,17 +6,11 @@ use crate::turn::PrimaryTurn;
 use crate::waiting::Waiting;
 use std::collections::VecDeque;
 use std::marker::Model;
-use ufs_at_primary::{Ordered, Stock};
-use ufs_baton::Baton;
+use ufs_at_primary::{Baton, HeldNames, Home, Ordered, Parcel, Stock, Turns, send_answers};
 use ufs_bitmap::Pool;
-use ufs_held::Parcel;
-use ufs_held_names::HeldNames;
-use ufs_home::Home;
 use ufs_joint::{Hand, HandTable, Naming};
 use ufs_layout::Geometry;
 use ufs_msg::{Answer, Letter, ServerPost};
-use ufs_serving::send_answers;
-use ufs_turns::Turns;
 
 /// The primary of session `N`: what is at it, which it serves with; a file that came and found no room; answers that found no room in a
 /// ring; and requests that wait.
@@ -33,7 +27,7 @@ impl<N: Naming> Model for Primary<N> {
     ghost use Rattle.std.specs.VecDeque.{deque_capacity, deque_len};
     ghost use Rattle.ufs_msg.specs.There.{client_count};
     ghost use Rattle.ufs_primary.specs.Primary.{HasRoom, PrimaryState, primary_code, primary_of};
-    ghost use Rattle.ufs_serving.specs.Posts.{all_said};
+    ghost use Rattle.ufs_at_primary.specs.OfServing.{all_said};
 
     ghost Value = { PrimaryState };
 
@@ -47,9 +41,9 @@ impl<N: Naming> Model for Primary<N> {
 impl<N: Naming> Primary<N> {
     ghost use Rattle.std.specs.Prelude.{◌≡◌, ◌≢◌, ◌≤◌, [], None, is_some};
     ghost use Rattle.std.specs.FinSet as set;
-    ghost use Rattle.ufs_held.specs.Stopping.{Raises};
+    ghost use Rattle.ufs_at_primary.specs.OfHeld.{Raises};
     ghost use Rattle.ufs_joint.specs.FirstHand.{HasPoolAlone, pool_of};
-    ghost use Rattle.ufs_home.specs.Letters.{letter_of};
+    ghost use Rattle.ufs_at_primary.specs.OfHome.{letter_of};
     ghost use Rattle.ufs_layout.specs.Areas.{IsGeometry};
     ghost use Rattle.ufs_model.specs.declared.data.Actor.TheVariants.{Primary as primary, Worker};
     ghost use Rattle.ufs_msg.specs.There.{client_count, worker_count};
@@ -59,9 +53,9 @@ impl<N: Naming> Primary<N> {
     ghost use Rattle.ufs_primary.specs.Primary.{primary_of};
     ghost use Rattle.ufs_primary.specs.Turns.{IsTurn};
     ghost use Rattle.ufs_primary.specs.declared.turn.PrimaryTurn.TheVariants as turn;
-    ghost use Rattle.ufs_serving.specs.Pools.{most_at_rest};
+    ghost use Rattle.ufs_at_primary.specs.OfServing.{most_at_rest};
     ghost use Rattle.ufs_told.specs.Numbers.{most_raised};
-    ghost use Rattle.ufs_turns.specs.Lent.{AreTold, Runs, StopsByFault};
+    ghost use Rattle.ufs_at_primary.specs.OfTurns.{AreTold, Runs, StopsByFault};
 
     /// A primary that keeps nothing, with the hand of its pool's cell. So few files were made before the session that each one made in it
     /// has a number.

@@ -11,3 +11,4 @@ pub use outcome::MirrorOutcome;
 pub use process::process_status;
 pub use refusal::tell_mirror_fault;
 pub use top::mirrored;
+pub use ufs_command::quiet;

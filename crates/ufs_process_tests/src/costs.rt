@@ -3,8 +3,8 @@ use crate::asserts::{holds, same};
 use crate::legs::{command, leg, made, script_of, words};
 use std::alloc::AllocGlobal;
 use std::process::Abort;
-use ufs_command::quiet;
 use ufs_io::{MemorySink, PlainSource};
+use ufs_process::quiet;
 
 const SECTORS: usize = 2_049;
 

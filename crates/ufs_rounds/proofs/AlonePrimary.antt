@@ -6,18 +6,18 @@ use Rattle.std.specs.FinMap.{get-empty}
 use Rattle.std.specs.Ordering.{nat_cmp}
 use Rattle.std.specs.Prelude.{unwrap_or}
 use Rattle.circular_buffer.specs.Buffer.{Buffer}
-use Rattle.ufs_at_primary.specs.Named.{server_at, server_told}
-use Rattle.ufs_at_primary.specs.Room.{AreTidiedFiles, IsRoomMade}
-use Rattle.ufs_at_primary.specs.Served.{All, ByNames, IsServed, IsServedInRoom, Lacked, OnFile, OnNone}
-use Rattle.ufs_at_primary.specs.Stock.{StockState}
-use Rattle.ufs_baton.specs.Baton.{IsDrawnWith}
+use Rattle.ufs_primary.specs.OfAtPrimary.{server_at, server_told}
+use Rattle.ufs_primary.specs.OfAtPrimary.{AreTidiedFiles, IsRoomMade}
+use Rattle.ufs_primary.specs.OfAtPrimary.{All, ByNames, IsServed, IsServedInRoom, Lacked, OnFile, OnNone}
+use Rattle.ufs_primary.specs.OfAtPrimary.{StockState}
+use Rattle.ufs_primary.specs.OfBaton.{IsDrawnWith}
 use Rattle.ufs_caller.specs.Callers.{Caller, Errand}
 use Rattle.ufs_hand_laws.proofs.Keys.{itself}
 use Rattle.ufs_hand_laws.proofs.Owning.{has_append}
 use Rattle.ufs_hand_laws.specs.Owned.{Has, one, weigh}
-use Rattle.ufs_home.specs.Home.{HomeState}
-use Rattle.ufs_home.specs.Letters.{RingsGo, letter_of}
-use Rattle.ufs_home.specs.Owning.{server_named}
+use Rattle.ufs_primary.specs.OfHome.{HomeState}
+use Rattle.ufs_primary.specs.OfHome.{RingsGo, letter_of}
+use Rattle.ufs_primary.specs.OfHome.{server_named}
 use Rattle.ufs_joint.specs.Cells.{FileCell, Start, View}
 use Rattle.ufs_model.specs.Asks.{file_in}
 use Rattle.ufs_model.specs.declared.data.Actor.{Actor}
@@ -43,8 +43,8 @@ use Rattle.ufs_primary.specs.Waiting.{AllWait}
 use Rattle.ufs_primary.specs.declared.turn.PrimaryTurn.{PrimaryTurn}
 use Rattle.ufs_primary.specs.declared.turn.PrimaryTurn.TheVariants as did
 use Rattle.ufs_ring.specs.Buffers.{HasGained, HasLost, IsEmpty}
-use Rattle.ufs_serving.specs.Posts.{IsFullFor, IsSaid, said}
-use Rattle.ufs_serving.specs.Sending.{AllWent, AreLeft, GoInOrder}
+use Rattle.ufs_primary.specs.OfServing.{IsFullFor, IsSaid, said}
+use Rattle.ufs_primary.specs.OfServing.{AllWent, AreLeft, GoInOrder}
 use Rattle.ufs_rounds.specs.Alone.{HasNothingOut, IsServedThere, ServesAlone, asked_by, gone_of, unkept}
 use Rattle.ufs_rounds.specs.Moves.{primary_moved}
 use Rattle.ufs_rounds.specs.Rings.{Answers, Gets, HasNoLetter, HasNoRequest, IsAnswerFull, IsLetterFull, IsQuiet, Reads, Rings, Sends}

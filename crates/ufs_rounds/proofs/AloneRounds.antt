@@ -5,17 +5,17 @@ use Rattle.std.specs.FinMap as fin
 use Rattle.std.specs.Ordering.{nat_cmp}
 use Rattle.std.specs.Prelude.{◌||◌, count_by, not}
 use Rattle.circular_buffer.specs.Buffer.{Buffer}
-use Rattle.ufs_at_primary.specs.Orders.{IsFileOrdered, IsReadied}
-use Rattle.ufs_at_primary.specs.Stock.{StockState}
-use Rattle.ufs_at_primary.specs.declared.ordered.Ordered.{Ordered}
-use Rattle.ufs_at_primary.specs.declared.ordered.Ordered.TheVariants as ordered
+use Rattle.ufs_primary.specs.OfAtPrimary.{IsFileOrdered, IsReadied}
+use Rattle.ufs_primary.specs.OfAtPrimary.{StockState}
+use Rattle.ufs_primary.specs.OfAtPrimary.{Ordered}
+use Rattle.ufs_primary.specs.OfAtPrimary.ordered as ordered
 use Rattle.ufs_base.specs.declared.lack.Lack.{Lack}
 use Rattle.ufs_caller.specs.Callers.{Caller, Errand}
 use Rattle.ufs_hand_laws.specs.Owned.{one, weigh}
-use Rattle.ufs_home.specs.Home.{HomeState, is_waited}
-use Rattle.ufs_home.specs.Moves.{IsMoved, IsOrdered, order_of}
-use Rattle.ufs_home.specs.declared.moved.Moved.{Moved}
-use Rattle.ufs_home.specs.declared.moved.Moved.TheVariants as moved
+use Rattle.ufs_primary.specs.OfHome.{HomeState, is_waited}
+use Rattle.ufs_primary.specs.OfHome.{IsMoved, IsOrdered, order_of}
+use Rattle.ufs_primary.specs.OfHome.{Moved}
+use Rattle.ufs_primary.specs.OfHome.moved as moved
 use Rattle.ufs_joint.specs.Cells.{Start}
 use Rattle.ufs_model.proofs.Facts.Rising.{entries-empty}
 use Rattle.ufs_model.specs.declared.data.Actor.{Actor}

@@ -3,20 +3,20 @@ use Rattle.std.proofs.Common.{◌≡◌, ◌≤◌, ◌<◌, ◌^◌, ℕ, eqb, 
 use Rattle.std.specs.FinMap as fin
 use Rattle.std.specs.Prelude.{IsSome}
 use Rattle.ufs_bitmap.specs.Blocks.{BlockSet}
-use Rattle.ufs_at_primary.specs.Stock.{HasNumbers}
+use Rattle.ufs_primary.specs.OfAtPrimary.{HasNumbers}
 use Rattle.ufs_dealt.specs.Dealt.{AreApart, values_in, values_of}
 use Rattle.ufs_dealt.specs.First.{ClientsAreIdle, FirstFilesAreLow, LiveFilesAreThere, PoolsAreThere, TakePart, rest_first}
 use Rattle.ufs_hand_laws.specs.Owned.{Has, count, without}
-use Rattle.ufs_held.specs.Together.{under_numbers}
-use Rattle.ufs_home.specs.Lending.{AreAway}
-use Rattle.ufs_home.specs.Places.{Places}
+use Rattle.ufs_primary.specs.OfHeld.{under_numbers}
+use Rattle.ufs_primary.specs.OfHome.{AreAway}
+use Rattle.ufs_primary.specs.OfHome.{Places}
 use Rattle.ufs_file_commits.specs.State.{DurableState}
 use Rattle.ufs_joint.specs.Cells.{FileCell, NamesCell, Start, View}
 use Rattle.ufs_joint.specs.FirstHand.{Beginning, names_first, pool_of, start_first}
 use Rattle.ufs_joint.specs.Ready.{IsReady}
 use Rattle.ufs_msg.specs.There.{client_count, worker_count}
-use Rattle.ufs_noted.specs.Noted.{Noted}
-use Rattle.ufs_noted.specs.declared.known.KnownFile.{KnownFile}
+use Rattle.ufs_primary.specs.OfNoted.{Noted}
+use Rattle.ufs_primary.specs.OfNoted.{KnownFile}
 use Rattle.ufs_store.specs.State.{StoreState}
 use Rattle.ufs_rounds.specs.Dealing.{AreIdleFrom, ArePoolsFrom}
 use Rattle.ufs_rounds.specs.Mounting.{IsMounted}

@@ -1,6 +1,6 @@
 -- Files are called to the primary, one after the other.
 use Rattle.std.proofs.Common.{◌≡◌, ◌⊎◌, ⊎_elim, inl, inr, ℕ, ◌+◌, ◌-◌, ◌^◌, ◌≤◌, List, [], ◌∷◌, ◌++◌, length, length-append, Option, None, refl, ap, sym, ◌∙◌, arith}
-use Rattle.ufs_at_primary.specs.declared.ordered.Ordered.{Ordered}
+use Rattle.ufs_primary.specs.OfAtPrimary.{Ordered}
 use Rattle.ufs_base.specs.declared.lack.Lack.{Lack}
 use Rattle.ufs_hand_laws.specs.Owned.{one}
 use Rattle.ufs_joint.specs.Cells.{Start}

@@ -6,12 +6,12 @@ use Rattle.ufs_joint.specs.FirstHand.{pool_of}
 use Rattle.std.specs.Prelude.{IsSome}
 use Rattle.ufs_dealt.specs.Dealt.{values_in, values_of}
 use Rattle.ufs_file_commits.specs.State.{DurableState}
-use Rattle.ufs_held.specs.Together.{under_numbers}
-use Rattle.ufs_home.specs.Lending.{AreAway, put_all}
-use Rattle.ufs_home.specs.Places.{Places, file_here, in_place, with_place}
-use Rattle.ufs_home.proofs.Lending.{all_here, has_counted}
-use Rattle.ufs_home.proofs.Shelves.{one_or_other, put_else, put_here}
-use Rattle.ufs_noted.specs.declared.known.KnownFile.{KnownFile}
+use Rattle.ufs_primary.specs.OfHeld.{under_numbers}
+use Rattle.ufs_primary.specs.OfHome.{AreAway, put_all}
+use Rattle.ufs_primary.specs.OfHome.{Places, file_here, in_place, with_place}
+use Rattle.ufs_primary.proofs.OfHome.{all_here, has_counted}
+use Rattle.ufs_primary.proofs.OfHome.{one_or_other, put_else, put_here}
+use Rattle.ufs_primary.specs.OfNoted.{KnownFile}
 use Rattle.ufs_joint.specs.Cells.{FileCell, View}
 use Rattle.ufs_joint.specs.Whole.{no_blocks}
 use Rattle.ufs_dealt.specs.First.{OthersStayIdle}

@@ -5,7 +5,7 @@ use Rattle.std.proofs.lemmas.Option.{slice_get_within}
 use native.Mathlib.Decide.{dec_le}
 use Rattle.std.specs.Prelude.{unwrap_or}
 use Rattle.circular_buffer.specs.Buffer.{Buffer}
-use Rattle.ufs_baton.specs.Baton.{IsDrawnWith}
+use Rattle.ufs_primary.specs.OfBaton.{IsDrawnWith}
 use Rattle.ufs_caller.specs.Callers.{Caller, entries_in}
 use Rattle.ufs_caller.specs.declared.told.Told.{Told as Told'}
 use Rattle.ufs_caller.specs.declared.turn.Turn.{Turn}

@@ -1,18 +1,18 @@
 -- The entries that turns draw tell the faults of the store's disk, one turn after the other.
 use Rattle.std.proofs.Common.{◌≡◌, ◌≢◌, ◌⊎◌, inl, inr, ℕ, ◌+◌, ◌-◌, ◌^◌, ◌<◌, ◌≤◌, min, Bool, true, false, is_some, length, List, [], ◌∷◌, ◌++◌, None, Ok, Option, Some, refl, ap, sym, ◌∙◌, subst, true≢false, arith}
 use Rattle.ufs_base.specs.Faults.{RoseTo}
-use Rattle.ufs_at_primary.specs.Here.{IsDoneHere}
-use Rattle.ufs_at_primary.specs.Dirs.{IsDirDone}
-use Rattle.ufs_at_primary.specs.Excused.{excuse_at}
-use Rattle.ufs_at_primary.specs.Served.{All, ByNames, IsAllHere, IsByNamesHere, IsLackedHere, IsOnFileHere, IsOnNoneHere, IsServed, IsServedInRoom, Lacked, OnFile, OnNone}
-use Rattle.ufs_at_primary.specs.Stock.{StockState}
-use Rattle.ufs_at_primary.proofs.Excuses.{no_fault}
+use Rattle.ufs_primary.specs.OfAtPrimary.{IsDoneHere}
+use Rattle.ufs_primary.specs.OfAtPrimary.{IsDirDone}
+use Rattle.ufs_primary.specs.OfAtPrimary.{excuse_at}
+use Rattle.ufs_primary.specs.OfAtPrimary.{All, ByNames, IsAllHere, IsByNamesHere, IsLackedHere, IsOnFileHere, IsOnNoneHere, IsServed, IsServedInRoom, Lacked, OnFile, OnNone}
+use Rattle.ufs_primary.specs.OfAtPrimary.{StockState}
+use Rattle.ufs_primary.proofs.OfAtPrimary.{no_fault}
 use Rattle.ufs_crash_laws.specs.Changes.{asks_commit}
 use Rattle.ufs_file.specs.Content.{Content, IsContentOf}
 use Rattle.ufs_file.specs.Hand.{FileState}
 use Rattle.ufs_bitmap.specs.Blocks.{BlockSet}
-use Rattle.ufs_held.specs.Serving.{Applied, IsServeCause, Unread}
-use Rattle.ufs_held.specs.Stopping.{ExcusesByStop, Raises, RestsByReply, StopsByReply, fault_by}
+use Rattle.ufs_primary.specs.OfHeld.{Applied, IsServeCause, Unread}
+use Rattle.ufs_primary.specs.OfHeld.{ExcusesByStop, Raises, RestsByReply, StopsByReply, fault_by}
 use Rattle.ufs_joint.specs.Cells.{Start, StoreCell, View}
 use Rattle.ufs_layout.specs.declared.geometry.Geometry.{Geometry}
 use Rattle.ufs_model.specs.Asks.{file_in}
@@ -37,8 +37,8 @@ use Rattle.ufs_told.proofs.ToldLemmas.{none_caused, none_told, one_raised, one_t
 use Rattle.ufs_told.specs.Numbers.{most_raised}
 use Rattle.ufs_told.specs.Replies.{device_in, is_refused, may_turn, stopped_in}
 use Rattle.ufs_told.specs.Told.{AreFaultsTold, HasRisen, IsCountStill, IsRaisedBy, IsReadFault, IsStopFault}
-use Rattle.ufs_turns.specs.Lent.{Runs, StopsByFault, stop_in, tally_in}
-use Rattle.ufs_turns.specs.Told.{fault_told}
+use Rattle.ufs_primary.specs.OfTurns.{Runs, StopsByFault, stop_in, tally_in}
+use Rattle.ufs_primary.specs.OfTurns.{fault_told}
 use Rattle.ufs_rounds.specs.Alone.{ServesAlone}
 use Rattle.ufs_client.proofs.Replies.{plain_calm}
 use Rattle.ufs_client.specs.Played.{IsMerged}

@@ -5,8 +5,8 @@ use Rattle.ufs_caller.specs.Callers.{Caller}
 use Rattle.ufs_caller.specs.Turns as caller
 use Rattle.ufs_caller.specs.declared.turn.Turn.{Turn}
 use Rattle.ufs_caller.specs.declared.turn.Turn.TheVariants as turn
-use Rattle.ufs_home.specs.Home.{HomeState}
-use Rattle.ufs_home.specs.Letters.{Boxes, LettersGo, Mailed, RingsGo, letter_of}
+use Rattle.ufs_primary.specs.OfHome.{HomeState}
+use Rattle.ufs_primary.specs.OfHome.{Boxes, LettersGo, Mailed, RingsGo, letter_of}
 use Rattle.ufs_joint.specs.Cells.{FileCell, Start, View}
 use Rattle.ufs_model.specs.declared.data.Actor.TheVariants as actor
 use Rattle.ufs_msg.specs.Requests.{Asked}
@@ -20,8 +20,8 @@ use Rattle.ufs_primary.specs.Primary.{PrimaryState}
 use Rattle.ufs_primary.specs.Turns as primary
 use Rattle.ufs_primary.specs.declared.turn.PrimaryTurn.{PrimaryTurn}
 use Rattle.ufs_primary.specs.declared.turn.PrimaryTurn.TheVariants as did
-use Rattle.ufs_serving.specs.Posts.{AnswersGo, IsFullFor, IsSaid, Said}
-use Rattle.ufs_serving.specs.Sending.{AllWent, AreLeft, GoInOrder}
+use Rattle.ufs_primary.specs.OfServing.{AnswersGo, IsFullFor, IsSaid, Said}
+use Rattle.ufs_primary.specs.OfServing.{AllWent, AreLeft, GoInOrder}
 use Rattle.ufs_worker.specs.Turns as worker
 use Rattle.ufs_worker.specs.Worker.{WorkerState}
 use Rattle.ufs_worker.specs.declared.turn.WorkerTurn.{WorkerTurn}

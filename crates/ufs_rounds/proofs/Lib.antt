@@ -22,3 +22,4 @@ pub mod Drawing
 pub mod InTurn
 pub mod Telling
 pub mod Faults
+pub mod OfCaller

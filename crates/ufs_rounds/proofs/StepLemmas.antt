@@ -6,7 +6,7 @@ use Rattle.ufs_base.specs.declared.lack.Lack.{Lack}
 use Rattle.ufs_hand_laws.specs.Owned.{one}
 use Rattle.ufs_joint.specs.Cells.{Start}
 use Rattle.ufs_model.specs.declared.data.Actor.{Actor}
-use Rattle.ufs_at_primary.specs.declared.ordered.Ordered.{Ordered}
+use Rattle.ufs_primary.specs.OfAtPrimary.{Ordered}
 use Rattle.ufs_rounds.specs.Moves.{first_lack, is_called}
 use Rattle.ufs_rounds.specs.Steps.{AreCalls, AreSteps, AreStepsWhere, CallOf, HadTurn, IsStep, Step, TurnOf, calls_in, does_move, lack_of, lack_told, moves_in, some_moved, who_in}
 use Rattle.ufs_rounds.specs.Turns.{GlobalState}

@@ -13,9 +13,9 @@ use Rattle.ufs_store.specs.Refusals.{IsTold, stop_after}
 use Rattle.ufs_store.specs.State.{StoreState}
 use Rattle.ufs_joint.specs.Cells.{StoreCell, View}
 use Rattle.ufs_joint.specs.Disks.{cell_of}
-use Rattle.ufs_turns.specs.Lent.{RunIn, Runs, stop_in}
-use Rattle.ufs_turns.specs.Told.{fault_told}
-use Rattle.ufs_held.specs.Stopping.{ExcusesByStop, RestsByReply, StopsByReply, TellsItsStop, fault_by}
+use Rattle.ufs_primary.specs.OfTurns.{RunIn, Runs, stop_in}
+use Rattle.ufs_primary.specs.OfTurns.{fault_told}
+use Rattle.ufs_primary.specs.OfHeld.{ExcusesByStop, RestsByReply, StopsByReply, TellsItsStop, fault_by}
 use Rattle.ufs_told.specs.Replies.{device_in, may_turn, stopped_in}
 use Rattle.ufs_told.specs.Told.{IsCaused, TellsRequest}
 use Rattle.ufs_told.proofs.Beside.{stop_stays}

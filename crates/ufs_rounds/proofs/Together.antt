@@ -9,7 +9,7 @@ use Rattle.ufs_fds.specs.Descriptors.{Descs}
 use Rattle.ufs_bitmap.specs.Blocks.{BlockSet}
 use Rattle.ufs_joint.specs.FirstHand.{Beginning, HasPoolAlone, client_of, each_of, pool_of, start_first}
 use Rattle.ufs_gathered.specs.Gathered.{AreHomeFrom, HasFilesToo, HasPoolsAlone, all_in, clients_in}
-use Rattle.ufs_held.specs.Together.{HasThemToo, under_numbers}
+use Rattle.ufs_primary.specs.OfHeld.{HasThemToo, under_numbers}
 use Rattle.ufs_joint.specs.Cells.{FileCell, Start, View, both_of}
 use Rattle.ufs_joint.specs.Whole.{no_blocks}
 use Rattle.ufs_model.specs.declared.data.Entry.{Entry}

@@ -3,8 +3,8 @@ use Rattle.std.specs.Prelude.{ℕ, ◌≤◌, eqb, List, IsSome}
 use Rattle.std.specs.FinMap as fin
 use Rattle.ufs_gathered.specs.Gathered.{HasPoolsAlone, clients_in}
 use Rattle.ufs_hand_laws.specs.Owned.{count}
-use Rattle.ufs_home.specs.Home.{HomeState}
-use Rattle.ufs_home.specs.Places.{file_here}
+use Rattle.ufs_primary.specs.OfHome.{HomeState}
+use Rattle.ufs_primary.specs.OfHome.{file_here}
 use Rattle.ufs_joint.specs.Cells.{NamesCell, Start, View}
 
 -- Each client and each pool of the beginning is among these hands, and each file that the names know is in its place.

@@ -2,7 +2,7 @@
 use Rattle.std.specs.Prelude.{List}
 use Rattle.ufs_joint.specs.Cells.{StoreCell}
 use Rattle.ufs_store.specs.State.{StoreState}
-use Rattle.ufs_turns.specs.Lent.{stop_in, tally_in}
+use Rattle.ufs_primary.specs.OfTurns.{stop_in, tally_in}
 
 -- the store as it was at first, with what is counted in these cells, and where it has stopped there
 abbrev pub counts_in : StoreState → List (Unit {0} × StoreCell) → StoreState

@@ -15,3 +15,8 @@ pub mod Alone
 pub mod Drawn
 pub mod Faults
 pub mod Dealing
+pub mod OfDealt
+pub mod OfGathered
+pub mod OfBeginHands
+pub mod OfCaller
+pub mod OfTurns

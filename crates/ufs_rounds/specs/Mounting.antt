@@ -8,7 +8,7 @@ use Rattle.ufs_joint.specs.Ends.{CanBegin}
 use Rattle.ufs_joint.specs.FirstHand.{Beginning, start_first}
 use Rattle.ufs_joint.specs.Ready.{IsReady}
 use Rattle.ufs_names.specs.Notes.{with_notes}
-use Rattle.ufs_noted.specs.Noted.{Noted}
+use Rattle.ufs_primary.specs.OfNoted.{Noted}
 use Rattle.ufs_store.specs.State.{StoreState}
 
 -- It may begin so, with so many clients and workers, and these are its names and its files, in memory as they are committed.

@@ -1,13 +1,13 @@
 -- What a turn did and lacked.
 use Rattle.std.specs.Prelude.{Bool, true, false, Option, None, Some}
-use Rattle.ufs_at_primary.specs.declared.ordered.Ordered.{Ordered}
-use Rattle.ufs_at_primary.specs.declared.ordered.Ordered.TheVariants as ordered
+use Rattle.ufs_primary.specs.OfAtPrimary.{Ordered}
+use Rattle.ufs_primary.specs.OfAtPrimary.ordered as ordered
 use Rattle.ufs_base.specs.declared.lack.Lack.{Lack}
 use Rattle.ufs_base.specs.declared.lack.Lack.TheVariants as lack
 use Rattle.ufs_caller.specs.declared.turn.Turn.{Turn}
 use Rattle.ufs_caller.specs.declared.turn.Turn.TheVariants as client
-use Rattle.ufs_home.specs.declared.moved.Moved.{Moved}
-use Rattle.ufs_home.specs.declared.moved.Moved.TheVariants as moved
+use Rattle.ufs_primary.specs.OfHome.{Moved}
+use Rattle.ufs_primary.specs.OfHome.moved as moved
 use Rattle.ufs_primary.specs.declared.turn.PrimaryTurn.{PrimaryTurn}
 use Rattle.ufs_primary.specs.declared.turn.PrimaryTurn.TheVariants as primary
 use Rattle.ufs_worker.specs.declared.turn.WorkerTurn.{WorkerTurn}

@@ -18,7 +18,7 @@ use Rattle.ufs_msg.specs.There.{MayHaveServed}
 use Rattle.ufs_store.specs.Refusals.{IsTold}
 use Rattle.ufs_store.specs.State.{StoreState}
 use Rattle.ufs_told.specs.Told.{AreFaultsTold}
-use Rattle.ufs_turns.specs.Lent.{stop_in, tally_in}
+use Rattle.ufs_primary.specs.OfTurns.{stop_in, tally_in}
 use Rattle.ufs_rounds.specs.Faults.{counts_in}
 use Rattle.ufs_rounds.specs.Rest.{IsPlayed}
 use Rattle.ufs_rounds.specs.Scripts.{lists_of}

@@ -1,7 +1,7 @@
 -- What was done in a session, one step after the other.
 use Rattle.std.specs.Prelude.{ℕ, suc, ◌+◌, ◌≡◌, ◌||◌, Bool, false, List, [], ◌∷◌, map, Option, None, Some}
-use Rattle.ufs_at_primary.specs.Orders.{IsFileOrdered}
-use Rattle.ufs_at_primary.specs.declared.ordered.Ordered.{Ordered}
+use Rattle.ufs_primary.specs.OfAtPrimary.{IsFileOrdered}
+use Rattle.ufs_primary.specs.OfAtPrimary.{Ordered}
 use Rattle.ufs_base.specs.declared.lack.Lack.{Lack}
 use Rattle.ufs_hand_laws.specs.Owned.{Has, one}
 use Rattle.ufs_joint.specs.Cells.{Start}

@@ -4,8 +4,8 @@ use Rattle.ufs_caller.specs.Callers.{Caller}
 use Rattle.ufs_caller.specs.Turns as caller
 use Rattle.ufs_caller.specs.declared.turn.Turn.{Turn}
 use Rattle.ufs_caller.specs.declared.turn.Turn.TheVariants as client_turn
-use Rattle.ufs_held.specs.Stopping.{Raises}
-use Rattle.ufs_home.specs.Letters.{letter_of}
+use Rattle.ufs_primary.specs.OfHeld.{Raises}
+use Rattle.ufs_primary.specs.OfHome.{letter_of}
 use Rattle.ufs_joint.specs.Cells.{Start, View}
 use Rattle.ufs_model.specs.declared.data.Actor.{Actor}
 use Rattle.ufs_model.specs.declared.data.Actor.TheVariants as actor

@@ -7,13 +7,13 @@ ghost use Rattle.ufs_hand_laws.specs.Owned.{Has};
 ghost use Rattle.ufs_joint.specs.Disks.{cell_of};
 ghost use Rattle.ufs_joint.specs.FirstHand.{Beginning};
 ghost use Rattle.ufs_joint.specs.Whole.{no_blocks};
-ghost use Rattle.ufs_noted.specs.declared.known.KnownFile.{KnownFile};
+ghost use Rattle.ufs_primary.specs.OfNoted.{KnownFile};
 ghost use Rattle.ufs_rounds.specs.Alone.{HasNothingOut, ServesAlone};
 ghost use Rattle.ufs_rounds.specs.Dealing.{AreBare, HaveAskedNothing, HoldNothing};
 ghost use Rattle.ufs_rounds.specs.Mounting.{IsMounted};
 ghost use Rattle.ufs_rounds.specs.Scripts.{scripts_of};
 ghost use Rattle.ufs_rounds.specs.View.{global_of};
-ghost use Rattle.ufs_turns.specs.HeldStore.{HasStoreAlone};
+ghost use Rattle.ufs_primary.specs.OfTurns.{HasStoreAlone};
 
 use crate::dealing::{deal_clients, deal_primary, deal_workers};
 use crate::participants::Participants;
@@ -22,11 +22,11 @@ use crate::session::Session;
 use std::alloc::Global;
 use std::sync::ledger::{Blank, Ledger};
 use ufs_base::Memory;
-use ufs_baton::Baton;
 use ufs_begin_hands::Ready;
 use ufs_dealt::{Dealt, deal, deal_files, dealt_law};
 use ufs_disk::Disk;
 use ufs_joint::Naming;
+use ufs_primary::Baton;
 use ufs_script::OpLists;
 use ufs_store::{Door, Store};
 

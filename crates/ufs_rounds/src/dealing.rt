@@ -2,13 +2,13 @@
 ghost use Rattle.std.specs.Prelude.{ℕ, ◌≡◌, ◌+◌, ◌<◌, ◌≤◌, [], IsSome, None, eqb, length};
 ghost use Rattle.std.specs.FinMap as fin;
 ghost use Rattle.std.specs.Vec.{vec_capacity};
-ghost use Rattle.ufs_at_primary.specs.Stock.{HasNumbers, stock_of};
+ghost use Rattle.ufs_primary.specs.OfAtPrimary.{HasNumbers, stock_of};
 ghost use Rattle.ufs_caller.specs.Callers.{new_caller};
 ghost use Rattle.ufs_caller.specs.Hands.{IsIdleIn};
 ghost use Rattle.ufs_dealt.specs.Dealt.{AreApart};
 ghost use Rattle.ufs_hand_laws.specs.Owned.{Has, count, without};
-ghost use Rattle.ufs_held.specs.Together.{under_numbers};
-ghost use Rattle.ufs_home.specs.Lending.{AreAway, put_all};
+ghost use Rattle.ufs_primary.specs.OfHeld.{under_numbers};
+ghost use Rattle.ufs_primary.specs.OfHome.{AreAway, put_all};
 ghost use Rattle.ufs_joint.specs.FirstHand.{pool_of};
 ghost use Rattle.ufs_joint.specs.Whole.{no_blocks};
 ghost use Rattle.ufs_layout.specs.Areas.{IsGeometry};
@@ -24,13 +24,9 @@ use std::alloc::Global;
 use ufs_bitmap::Pool;
 use ufs_caller::{Client, ClientRoom, client_hand};
 use ufs_dealt::{deal_pool, dealt_law};
-use ufs_held::HeldFile;
-use ufs_held_names::HeldNames;
-use ufs_home::Home;
 use ufs_joint::{Hand, HandTable, Naming};
 use ufs_layout::Geometry;
-use ufs_primary::{Primary, Room};
-use ufs_serving::pool_number;
+use ufs_primary::{HeldFile, HeldNames, Home, Primary, Room, pool_number};
 use ufs_worker::Worker;
 
 /// The primary, with the files in their places.

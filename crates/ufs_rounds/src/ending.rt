@@ -23,7 +23,7 @@ ghost use Rattle.ufs_rounds.specs.Scripts.{lists_of, scripts_of};
 ghost use Rattle.ufs_rounds.specs.View.{global_of};
 ghost use Rattle.ufs_store.specs.Refusals.{IsTold};
 ghost use Rattle.ufs_store.specs.State.{StoreState, geometry_of_store};
-ghost use Rattle.ufs_turns.specs.Lent.{stop_in, tally_in};
+ghost use Rattle.ufs_primary.specs.OfTurns.{stop_in, tally_in};
 
 use crate::gathering::AtRest;
 use crate::rounds::Unfinished;
@@ -38,8 +38,8 @@ use ufs_gathered::{Actors, Finished, Remains, finish, leave};
 use ufs_joint::{HandTable, Naming};
 use ufs_layout::Geometry;
 use ufs_model::Actor;
+use ufs_primary::{Direct, HeldStore};
 use ufs_store::Store;
-use ufs_turns::{Direct, HeldStore};
 
 /// A session that was played and has ended.
 #[derive(Drop)]

@@ -18,10 +18,9 @@ ghost use Rattle.ufs_store.specs.State.{StoreState};
 use crate::end_room::EndRoom;
 use crate::participants::Participants;
 use ufs_caller::{Client, Told};
-use ufs_held_names::HeldNames;
-use ufs_home::Home;
 use ufs_joint::{Hand, HandTable, Naming};
 use ufs_owner::no_file_is_out;
+use ufs_primary::{HeldNames, Home};
 use ufs_worker::Worker;
 
 /// What the actors of a session at rest have, and what each client was answered.

@@ -23,3 +23,6 @@ pub use participants::Participants;
 pub use rounds::Unfinished;
 pub use session::Session;
 pub use turned::Turned;
+pub use ufs_begin_hands::{Ready, mount};
+pub use ufs_caller::Told;
+pub use ufs_dealt::dealt_law;

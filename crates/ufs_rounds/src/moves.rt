@@ -5,11 +5,9 @@ ghost use Rattle.ufs_rounds.specs.Moves.{first_lack};
 
 use crate::rounds::Unfinished;
 use crate::turned::Turned;
-use ufs_at_primary::Ordered;
 use ufs_base::Lack;
 use ufs_caller::Turn;
-use ufs_home::Moved;
-use ufs_primary::PrimaryTurn;
+use ufs_primary::{Moved, Ordered, PrimaryTurn};
 use ufs_worker::WorkerTurn;
 
 // How a round went.

@@ -3,12 +3,10 @@ ghost use Rattle.std.specs.Prelude.{◌≡◌, ◌≤◌, length};
 ghost use Rattle.ufs_msg.specs.There.{client_count, worker_count};
 ghost use Rattle.ufs_rounds.specs.Numbers.{AreClients, AreWorkers};
 
-use ufs_baton::Baton;
 use ufs_caller::Client;
-use ufs_held::Parcel;
 use ufs_joint::Naming;
 use ufs_msg::{Letter, PlainPost};
-use ufs_primary::Primary;
+use ufs_primary::{Baton, Parcel, Primary};
 use ufs_worker::Worker;
 
 /// The clients and servers of session `N`, and the post of their thread. Between two turns each file is with one of them, or in one

@@ -10,12 +10,10 @@ ghost use Rattle.ufs_rounds.specs.Turns.{GoesOnAt};
 ghost use Rattle.ufs_worker.specs.Turns as worker;
 ghost use Rattle.ufs_worker.specs.declared.turn.WorkerTurn.TheVariants as worker_turn;
 
-use ufs_baton::Baton;
 use ufs_caller::{Client, Turn};
-use ufs_held::Parcel;
 use ufs_joint::{HandTable, Naming};
 use ufs_msg::{ClientPost, Letter, ServerPost};
-use ufs_turns::Turns;
+use ufs_primary::{Baton, Parcel, Turns};
 use ufs_worker::{Worker, WorkerTurn};
 
 /// The client at this place makes a turn.

@@ -5,7 +5,7 @@ ghost use Rattle.std.specs.Vec.{vec_capacity};
 ghost use Rattle.ufs_hand_laws.specs.Owned.{Has};
 ghost use Rattle.ufs_joint.specs.Whole.{no_blocks};
 ghost use Rattle.ufs_msg.specs.There.{client_count, worker_count};
-ghost use Rattle.ufs_noted.specs.declared.known.KnownFile.{KnownFile};
+ghost use Rattle.ufs_primary.specs.OfNoted.{KnownFile};
 ghost use Rattle.ufs_rounds.specs.Dealing.{AreBare, HoldNothing};
 
 use crate::end_room::EndRoom;
@@ -14,12 +14,9 @@ use std::collections::VecDeque;
 use ufs_base::Memory;
 use ufs_bitmap::Pool;
 use ufs_caller::{Client, ClientRoom};
-use ufs_held::{HeldFile, Parcel};
-use ufs_home::Home;
 use ufs_joint::Naming;
 use ufs_msg::{Letter, PlainPost};
-use ufs_noted::KnownFile;
-use ufs_primary::Room as Kept;
+use ufs_primary::{HeldFile, Home, KnownFile, Parcel, Room as Kept};
 use ufs_script::OpLists;
 use ufs_worker::Worker;
 

@@ -13,7 +13,7 @@ use crate::participants::Participants;
 use ufs_base::Lack;
 use ufs_joint::{HandTable, Naming};
 use ufs_model::Actor;
-use ufs_turns::Turns;
+use ufs_primary::Turns;
 
 /// Why rounds came to no rest.
 #[derive(Clone, Copy, Debug, PartialEq, Eq)]

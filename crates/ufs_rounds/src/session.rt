@@ -7,8 +7,8 @@ use std::sync::ledger::{Ledger, Share};
 use ufs_disk::Disk;
 use ufs_joint::{HandTable, Naming};
 use ufs_layout::Geometry;
+use ufs_primary::HeldStore;
 use ufs_store::Store;
-use ufs_turns::HeldStore;
 
 /// A session on one thread, over a disk: who takes part, its table, and its store with the only share of that one's book.
 pub struct Session<N: Naming, D: Disk, L: Ledger> {

@@ -11,12 +11,11 @@ ghost use Rattle.ufs_rounds.specs.View.{global_of};
 use crate::moves::{RoundEnd, first_of, is_called, order_lack, why};
 use crate::participants::Participants;
 use crate::rounds::Unfinished;
-use ufs_at_primary::Ordered;
 use ufs_base::Lack;
 use ufs_caller::Client;
 use ufs_joint::{HandTable, Naming};
 use ufs_model::Actor;
-use ufs_turns::Turns;
+use ufs_primary::{Ordered, Turns};
 
 // Whether one of these has a request under way.
 fn some_asks<N: Naming>(clients: &[Client<N>]) -> bool

@@ -10,14 +10,11 @@ ghost use Rattle.ufs_rounds.specs.View.{global_of, rings_in};
 use crate::participants::Participants;
 use crate::polling::{poll_client, poll_worker};
 use crate::turned::Turned;
-use ufs_baton::Baton;
 use ufs_caller::{Client, Turn};
-use ufs_held::Parcel;
 use ufs_joint::{HandTable, Naming};
 use ufs_model::Actor;
 use ufs_msg::{Letter, PlainPost};
-use ufs_primary::{Primary, PrimaryTurn};
-use ufs_turns::Turns;
+use ufs_primary::{Baton, Parcel, Primary, PrimaryTurn, Turns};
 use ufs_worker::{Worker, WorkerTurn};
 
 // The client makes a turn.

@@ -1,7 +1,7 @@
 use Rattle.std.proofs.Common.{◌++◌, List, length, ap, sym, ◌∙◌, arith}
 use Rattle.std.proofs.lemmas.List.{append-nil}
-use Rattle.ufs_caller.specs.Callers.{entries_in}
-use Rattle.ufs_caller.specs.declared.told.Told.{Told}
+use Rattle.ufs_rounds.specs.OfCaller.{entries_in}
+use Rattle.ufs_rounds.specs.OfCaller.{Told}
 use Rattle.ufs_model.specs.declared.data.Entry.{Entry}
 use Rattle.ufs_engine_hands.proofs.Rooms.{length_push, no_items, push_on}
 use Rattle.ufs_engine_hands.proofs.asked.entries_of.Goals as goal

@@ -1,6 +1,6 @@
 use Rattle.std.proofs.Common.{◌≡◌, ◌+◌, ◌++◌, ◌≤◌, length}
 use Rattle.std.specs.Vec.{vec_capacity}
-use Rattle.ufs_caller.specs.Callers.{entries_in}
+use Rattle.ufs_rounds.specs.OfCaller.{entries_in}
 use Rattle.ufs_engine_hands.proofs.asked.entries_of.Given as goal
 
 abbrev pub invariant-loop-one : goal.invariant-loop-one

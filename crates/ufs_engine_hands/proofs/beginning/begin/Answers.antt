@@ -1,8 +1,8 @@
 use Rattle.std.proofs.Common.{◌≡◌, ◌≤◌, ℕ, Bool, [], length, ap, refl, sym, ◌∙◌, subst}
 use Rattle.std.specs.Prelude.{IsTrue}
 use Rattle.ufs_base.specs.Images.{Image}
-use Rattle.ufs_begin_hands.specs.Mounted.{beginning_of}
-use Rattle.ufs_begin_hands.specs.Seen.{sees}
+use Rattle.ufs_rounds.specs.OfBeginHands.{beginning_of}
+use Rattle.ufs_rounds.specs.OfBeginHands.{sees}
 use Rattle.ufs_brink.specs.Begins.{BeginsWith}
 use Rattle.ufs_brink.proofs.Numbers.{begins_from}
 use Rattle.ufs_brink.proofs.Read.{begins_alike, outside_session, proper_begins, recovery_explained, same_tree}

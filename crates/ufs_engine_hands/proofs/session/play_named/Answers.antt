@@ -4,7 +4,7 @@ use Rattle.ufs_brink.specs.declared.closing.CloseFault.{CloseFault}
 use Rattle.ufs_client.specs.Played.{IsMerged}
 use Rattle.ufs_disk.specs.Disk.{Leaves}
 use Rattle.ufs_disk.specs.Moments.{Moments}
-use Rattle.ufs_gathered.specs.Ended.{AnswerAll}
+use Rattle.ufs_rounds.specs.OfGathered.{AnswerAll}
 use Rattle.ufs_joint.specs.Cells.{Start}
 use Rattle.ufs_joint.specs.FirstHand.{Beginning, start_first}
 use Rattle.ufs_joint.specs.Ready.{IsReady}

@@ -1,7 +1,7 @@
 use Rattle.std.proofs.Common.{◌≤◌, ap, arith, inl, inr, refl, subst, sym, ◌∙◌}
-use Rattle.ufs_baton.proofs.Since.{drawn_with}
+use Rattle.ufs_at_primary.proofs.OfBaton.{drawn_with}
 use Rattle.ufs_msg.specs.Requests.{Asked}
-use Rattle.ufs_serving.specs.Posts.{all_said, said}
+use Rattle.ufs_at_primary.specs.OfServing.{all_said, said}
 use Rattle.ufs_at_primary.specs.Excused.{IsOpened}
 use Rattle.ufs_at_primary.specs.Served.{IsTried, IsTriedSince}
 use Rattle.ufs_at_primary.proofs.Excuses.{opened_away}

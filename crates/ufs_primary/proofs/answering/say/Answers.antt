@@ -1,6 +1,6 @@
 use Rattle.std.proofs.Common.{List, ap, subst, ◌∙◌}
-use Rattle.ufs_serving.specs.Posts.{AnswersGo, Said, all_said}
-use Rattle.ufs_serving.proofs.Answering.{all_said-more}
+use Rattle.ufs_at_primary.specs.OfServing.{AnswersGo, Said, all_said}
+use Rattle.ufs_at_primary.proofs.OfServing.{all_said-more}
 use Rattle.ufs_primary.proofs.answering.say.Goals as goal
 
 pub returns-clause-goes : goal.returns-clause-goes

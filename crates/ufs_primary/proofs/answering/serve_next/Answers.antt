@@ -1,7 +1,7 @@
 use Rattle.std.proofs.Common.{◌≤◌, List, arith, inl, inr, length, refl, subst}
 use Rattle.std.specs.VecDeque.{deque_capacity, deque_len}
 use Rattle.ufs_msg.specs.There.{client_count}
-use Rattle.ufs_serving.specs.Posts.{all_said}
+use Rattle.ufs_at_primary.specs.OfServing.{all_said}
 use Rattle.ufs_primary.specs.Waiting.{Waits}
 use Rattle.ufs_primary.proofs.Doing.{of_front, of_full, of_none, of_oldest}
 use Rattle.ufs_primary.proofs.Rooms.{full_of_answers}

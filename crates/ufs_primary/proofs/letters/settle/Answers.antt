@@ -1,5 +1,5 @@
 use Rattle.std.proofs.Common.{ap, ◌∙◌}
-use Rattle.ufs_home.specs.Home.{come_on}
+use Rattle.ufs_at_primary.specs.OfHome.{come_on}
 use Rattle.ufs_primary.proofs.letters.settle.Goals as goal
 
 pub returns-in-Ok-clause-settled : goal.returns-in-Ok-clause-settled

@@ -1,10 +1,10 @@
 use Rattle.std.proofs.Common.{◌≡◌, ◌++◌, eqb, length, [], ap, sym, refl, ◌∙◌, subst, arith}
 use Rattle.std.specs.FinMap as fin
-use Rattle.ufs_at_primary.specs.Stock.{HasNumbers}
+use Rattle.ufs_primary.specs.OfAtPrimary.{HasNumbers}
 use Rattle.ufs_dealt.specs.Dealt.{AreApart, rest_of, values_in, values_of}
 use Rattle.ufs_dealt.specs.First.{rest_first}
 use Rattle.ufs_hand_laws.specs.Owned.{Has, count, without}
-use Rattle.ufs_held.specs.Together.{under_numbers}
+use Rattle.ufs_primary.specs.OfHeld.{under_numbers}
 use Rattle.ufs_joint.specs.Cells.{Start, View}
 use Rattle.ufs_joint.specs.FirstHand.{Beginning, names_first, pool_of}
 use Rattle.ufs_joint.specs.Whole.{no_blocks}

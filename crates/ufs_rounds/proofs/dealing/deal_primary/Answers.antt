@@ -3,11 +3,11 @@ use Rattle.std.specs.FinSet as set
 use Rattle.std.specs.Ordering.{nat_cmp}
 use Rattle.ufs_bitmap.specs.Blocks.{BlockSet}
 use Rattle.ufs_hand_laws.specs.Owned.{Has}
-use Rattle.ufs_home.specs.Home.{HomeState}
+use Rattle.ufs_primary.specs.OfHome.{HomeState}
 use Rattle.ufs_joint.specs.FirstHand.{HasPoolAlone}
 use Rattle.ufs_joint.specs.Whole.{no_blocks}
-use Rattle.ufs_at_primary.specs.Stock.{AreHere}
-use Rattle.ufs_serving.specs.Pools.{most_at_rest}
+use Rattle.ufs_primary.specs.OfAtPrimary.{AreHere}
+use Rattle.ufs_primary.specs.OfServing.{most_at_rest}
 use Rattle.ufs_rounds.proofs.Dealt.{home_here}
 use Rattle.ufs_rounds.proofs.dealing.deal_primary.Goals as goal
 

@@ -5,7 +5,7 @@ use Rattle.ufs_bitmap.specs.Blocks.{BlockSet}
 use Rattle.ufs_joint.specs.FirstHand.{HasPoolAlone}
 use Rattle.ufs_joint.specs.Whole.{no_blocks}
 use Rattle.ufs_hand_laws.specs.Owned.{Has}
-use Rattle.ufs_serving.specs.Pools.{most_at_rest}
+use Rattle.ufs_primary.specs.OfServing.{most_at_rest}
 use Rattle.ufs_rounds.proofs.dealing.deal_worker.Goals as goal
 
 pub deal_pool-right-requires-clause-has : goal.deal_pool-right-requires-clause-has

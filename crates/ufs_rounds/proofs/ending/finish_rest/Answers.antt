@@ -1,9 +1,9 @@
 use Rattle.std.proofs.Common.{eqb, ap, sym, subst, arith}
 use Rattle.std.specs.Prelude.{IsSome}
 use Rattle.ufs_hand_laws.specs.Owned.{count}
-use Rattle.ufs_home.specs.Home.{HomeState}
-use Rattle.ufs_home.specs.Lending.{files_in}
-use Rattle.ufs_home.specs.Places.{file_here}
+use Rattle.ufs_primary.specs.OfHome.{HomeState}
+use Rattle.ufs_primary.specs.OfHome.{files_in}
+use Rattle.ufs_primary.specs.OfHome.{file_here}
 use Rattle.ufs_rounds.proofs.Playing.{not_well}
 use Rattle.ufs_rounds.proofs.Together.{counted, files_too}
 use Rattle.ufs_rounds.proofs.ending.finish_rest.Goals as goal

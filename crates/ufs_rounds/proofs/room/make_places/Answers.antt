@@ -1,12 +1,12 @@
 use Rattle.std.proofs.Common.{◌≡◌, ℕ, Option, None, Some, ap, ◌∙◌, arith}
 use Rattle.std.specs.FinMap as fin
 use Rattle.std.specs.Ordering.{nat_cmp}
-use Rattle.ufs_home.specs.Home.{HomeState}
-use Rattle.ufs_home.specs.Places.{Places, file_here, in_place, with_place}
-use Rattle.ufs_home.proofs.Shelves.{placed_there}
+use Rattle.ufs_primary.specs.OfHome.{HomeState}
+use Rattle.ufs_primary.specs.OfHome.{Places, file_here, in_place, with_place}
+use Rattle.ufs_primary.proofs.OfHome.{placed_there}
 use Rattle.ufs_joint.specs.Cells.{FileCell}
 use Rattle.ufs_msg.proofs.Places.{at_place}
-use Rattle.ufs_noted.specs.declared.known.KnownFile.{KnownFile}
+use Rattle.ufs_primary.specs.OfNoted.{KnownFile}
 use Rattle.ufs_rounds.proofs.Dealt.{none_here_still, placed_at, still_empty}
 use Rattle.ufs_rounds.proofs.Places.{below_all, below_next}
 use Rattle.ufs_rounds.proofs.room.make_places.Goals as goal

@@ -1,7 +1,7 @@
 use Rattle.std.proofs.Common.{ℕ, ◌≡◌, ◌<◌, slice_get, None, Some}
 use Rattle.std.specs.FinMap as fin
-use Rattle.ufs_home.specs.Places.{file_here}
-use Rattle.ufs_noted.specs.declared.known.KnownFile.{KnownFile}
+use Rattle.ufs_primary.specs.OfHome.{file_here}
+use Rattle.ufs_primary.specs.OfNoted.{KnownFile}
 use Rattle.ufs_rounds.proofs.room.make_places.Given as goal
 
 abbrev pub invariant-loop-known : goal.invariant-loop-known

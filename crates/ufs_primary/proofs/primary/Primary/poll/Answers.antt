@@ -1,8 +1,8 @@
 use Rattle.std.proofs.Common.{None, Some, ap, refl, subst}
-use Rattle.ufs_home.specs.Letters.{letter_of}
+use Rattle.ufs_at_primary.specs.OfHome.{letter_of}
 use Rattle.ufs_model.specs.declared.data.Actor.TheVariants.{Worker}
 use Rattle.ufs_msg.specs.There.{client_count, worker_count}
-use Rattle.ufs_serving.specs.Posts.{all_said}
+use Rattle.ufs_at_primary.specs.OfServing.{all_said}
 use Rattle.ufs_at_primary.specs.Stock.{StockState}
 use Rattle.ufs_primary.specs.Primary.{PrimaryState, primary_of}
 use Rattle.ufs_primary.specs.Turns.{IsTurn}

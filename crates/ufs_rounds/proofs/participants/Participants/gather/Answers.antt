@@ -4,7 +4,7 @@ use Rattle.ufs_hand_laws.specs.Owned.{count}
 use Rattle.ufs_joint.specs.Cells.{Start}
 use Rattle.ufs_msg.specs.There.{client_count, worker_count}
 use Rattle.ufs_owner.specs.Owners.{count_out}
-use Rattle.ufs_at_primary.specs.Stock.{StockState}
+use Rattle.ufs_primary.specs.OfAtPrimary.{StockState}
 use Rattle.ufs_rounds.proofs.Together.{clients_back, done_from, pools_back}
 use Rattle.ufs_rounds.proofs.participants.Participants.gather.Goals as goal
 
