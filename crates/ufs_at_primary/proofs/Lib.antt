@@ -4,6 +4,7 @@ mod DirsTold
 mod AllTold
 mod SyncedHere
 mod Beside
+mod Freeing
 pub mod AtHome
 pub mod Rooms
 mod Trials

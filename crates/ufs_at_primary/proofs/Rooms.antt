@@ -2,6 +2,7 @@
 use Rattle.std.proofs.Common.{◌≡◌, ◌≢◌, ◌≤◌, ◌<◌, ◌+◌, ◌++◌, ℕ, ◌⊎◌, inl, inr, eqb, ne_eqb, Bool, true, false, List, [], ◌∷◌, Option, Some, None, is_some, length, arith, refl, ap, sym, ◌∙◌, subst}
 use Rattle.std.specs.Prelude.{IfSome, IsSome, Result, Ok, Err, OnOk, OnErr}
 use Rattle.std.specs.FinMap as fin
+use Rattle.std.specs.FinSet as set
 use Rattle.ufs_bitmap.specs.Blocks.{BlockSet}
 use Rattle.ufs_file_commits.specs.State.{DurableState}
 use Rattle.ufs_hand_laws.specs.Owned.{Has, count, one}
@@ -11,7 +12,7 @@ use Rattle.ufs_held.proofs.Stopping.{stops_still, stops_twice}
 use Rattle.ufs_held_names.specs.Asked.{IsNeeded}
 use Rattle.ufs_held_names.specs.HeldNames.{AreCommitted}
 use Rattle.ufs_held_names.specs.Reclaims.{IsReclaimed, MayReclaim}
-use Rattle.ufs_held_names.specs.SyncAll.{AreAllLive, AreSynced, AtFile, AtNames, StopsShort}
+use Rattle.ufs_held_names.specs.SyncAll.{AreAllLive, AreSynced, AtFile, AtNames, StopsShort, freed_by}
 use Rattle.ufs_held_names.proofs.SyncedAll.{none_synced, still_live}
 use Rattle.ufs_home.specs.Home.{HomeState}
 use Rattle.ufs_home.specs.Lending.{AreLent, put_all}
@@ -22,15 +23,17 @@ use Rattle.ufs_joint.specs.NamesHands.{AreNumberedOnce}
 use Rattle.ufs_model.specs.declared.data.Ask.{Ask}
 use Rattle.ufs_names.specs.NamesPart.{NamesPart}
 use Rattle.ufs_names.specs.Notes.{NotesAreBeside, with_notes}
+use Rattle.ufs_serving.specs.Pools.{AreConserved}
 use Rattle.ufs_store.specs.Refusals.{fault_in}
 use Rattle.ufs_store.specs.declared.fault.StoreFault.{StoreFault}
-use Rattle.ufs_turns.specs.Lent.{Runs, StopsByFault}
+use Rattle.ufs_turns.specs.Lent.{AreTold, Runs, StopsByFault}
 use Rattle.ufs_turns.specs.NamesLent.{names_kept}
 use Rattle.ufs_turns.proofs.Runs.{runs_more, runs_still, runs_twice}
 use Rattle.ufs_at_primary.specs.All.{numbers_in}
-use Rattle.ufs_at_primary.specs.Room.{AreAllTidied, AreTidied, AreTidiedFiles, IsTidied}
+use Rattle.ufs_at_primary.specs.Room.{AreAllTidied, AreTidied, AreTidiedFiles, IsTidied, free_with, freed_in}
 use Rattle.ufs_at_primary.specs.Stock.{AreHere, StockState, stock_of}
 use Rattle.ufs_at_primary.proofs.AllTold.{synced_numbers}
+use Rattle.ufs_at_primary.proofs.Freeing.{free_back, free_files, free_first, free_freed, free_kept, free_names, free_pool, free_so, free_then, none_freed}
 use Rattle.ufs_at_primary.proofs.AtHome.{AreSameLive, committed_live, here_names, same_names, tidied_live}
 
 -- ---- names
@@ -109,6 +112,7 @@ tidied_still base visible o s = record {
   names = names_still visible s.names;
   most = 0;
   files = inl (refl, omega arith);
+  free = none_freed o s;
   telling = refl;
   fault = None;
   stop = stops_still o;
@@ -122,11 +126,15 @@ live_still a b cs same all = record { live = λ f is. all.live f (subst (λ m. I
 -- no more than so is no more than more
 pub tidied_more : (visible : Bool) (had has : Option View) (s s' t : StockState) → s ≡ s' → IsTidied 0 visible had has s t → IsTidied 1 visible had has s' t
 tidied_more visible had has s s' t same is = subst (λ (x : StockState). IsTidied 1 visible had has x t) same
-    (record { names = is.names; most = is.most; files = by is.files; telling = is.telling; fault = is.fault; stop = is.stop; ran = is.ran })
+    (record { names = is.names; most = is.most; files = by is.files; free = free_so had has s t (freed_in visible s t is.files) (freed_in visible s t (by is.files)) (alike is.files) is.free; telling = is.telling; fault = is.fault; stop = is.stop; ran = is.ran })
   where
     by : ((t.home ≡ s.home) × (is.most ≤ 0)) ⊎ ((a : AreTidiedFiles visible s t) × (is.most ≤ 0 + 2 + length a.olds)) → ((t.home ≡ s.home) × (is.most ≤ 1)) ⊎ ((a : AreTidiedFiles visible s t) × (is.most ≤ 1 + 2 + length a.olds))
     by (inl x) = (let l = x.1 in inl (x.0, omega (arith, l)))
     by (inr x) = (let l = x.1 in inr (x.0, omega (arith, l)))
+
+    alike : (f : ((t.home ≡ s.home) × (is.most ≤ 0)) ⊎ ((a : AreTidiedFiles visible s t) × (is.most ≤ 0 + 2 + length a.olds))) → freed_in visible s t (by f) ≡ freed_in visible s t f
+    alike (inl x) = refl
+    alike (inr x) = refl
 
 -- a file that a request touches is here still
 pub needed_here : (o : Option ℕ) (p q : Places) → ((file : ℕ) → IsSome (file_here p file) → IsSome (file_here q file)) → IfSome o (λ file. IsSome (file_here p file)) → IfSome o (λ file. IsSome (file_here q file))
@@ -135,11 +143,12 @@ needed_here (Some file) p q still here = still file here
 
 module _ (visible : Bool) where
   -- the pool alone changed
-  pub tidied_pool : (had has : Option View) (s t : StockState) → t ≡ record s { pool = t.pool } → is_some has ≡ is_some had → Rests had has None → IsTidied 0 visible had has s t
-  tidied_pool had has s t rest telling rests = record {
+  pub tidied_pool : (had has : Option View) (s t : StockState) → t ≡ record s { pool = t.pool } → AreConserved had has s.pool t.pool → is_some has ≡ is_some had → Rests had has None → IsTidied 0 visible had has s t
+  tidied_pool had has s t rest conserved telling rests = record {
     names = record { between = s.names; committed = inl refl; back = inl (ap (λ (x : StockState). x.names) rest) };
     most = 0;
     files = inl (ap (λ (x : StockState). x.home) rest, omega arith);
+    free = free_first had has s (record s { pool = t.pool }) t rest (free_pool had has s t.pool conserved);
     telling = telling;
     fault = None;
     stop = rests.0;
@@ -147,18 +156,23 @@ module _ (visible : Bool) where
   }
 
   -- before the rest was done
-  pub pool_then : (had mid has : Option View) (s m t : StockState) → m ≡ record s { pool = m.pool } → is_some mid ≡ is_some had → Rests had mid None → IsTidied 0 visible mid has m t → IsTidied 0 visible had has s t
-  pool_then had mid has s m t rest telling rests tidied = go (subst (λ (x : StockState). IsTidied 0 visible mid has x t) rest tidied)
+  pub pool_then : (had mid has : Option View) (s m t : StockState) → m ≡ record s { pool = m.pool } → AreConserved had mid s.pool m.pool → is_some mid ≡ is_some had → Rests had mid None → IsTidied 0 visible mid has m t → IsTidied 0 visible had has s t
+  pool_then had mid has s m t rest conserved telling rests tidied = go (subst (λ (x : StockState). IsTidied 0 visible mid has x t) rest tidied)
     where
       by : (most : ℕ) → ((t.home ≡ s.home) × (most ≤ 0)) ⊎ ((a : AreTidiedFiles visible (record s { pool = m.pool }) t) × (most ≤ 0 + 2 + length a.olds)) → ((t.home ≡ s.home) × (most ≤ 0)) ⊎ ((a : AreTidiedFiles visible s t) × (most ≤ 0 + 2 + length a.olds))
       by most (inl x) = inl x
       by most (inr x) = (let a = x.0 in inr (record { olds = a.olds; nows = a.nows; lent = a.lent; here = a.here; all = a.all; done = a.done; synced = a.synced; numbers = a.numbers; home = a.home }, x.1))
+
+      alike : (most : ℕ) (f : ((t.home ≡ s.home) × (most ≤ 0)) ⊎ ((a : AreTidiedFiles visible (record s { pool = m.pool }) t) × (most ≤ 0 + 2 + length a.olds))) → freed_in visible s t (by most f) ≡ freed_in visible (record s { pool = m.pool }) t f
+      alike most (inl x) = refl
+      alike most (inr x) = refl
 
       go : IsTidied 0 visible mid has (record s { pool = m.pool }) t → IsTidied 0 visible had has s t
       go d = record {
         names = d.names;
         most = d.most;
         files = by d.most d.files;
+        free = free_then had mid has s (record s { pool = m.pool }) t (freed_in visible (record s { pool = m.pool }) t d.files) (freed_in visible s t (by d.most d.files)) telling (alike d.most d.files) (free_pool had mid s m.pool conserved) d.free;
         telling = d.telling ∙ telling;
         fault = d.fault;
         stop = stops_twice had mid has d.fault telling rests.0 d.stop;
@@ -166,9 +180,9 @@ module _ (visible : Bool) where
       }
 
   -- the names were committed before the rest was done, or needn't be
-  pub names_then : (had mid has : Option View) (s m t : StockState) → m ≡ record s { names = m.names } → (m.names ≡ s.names) ⊎ AreCommitted visible s.names m.names → is_some mid ≡ is_some had → StopsByFault had mid None → Runs had mid None 1 1 → IsTidied 0 visible mid has m t
+  pub names_then : (had mid has : Option View) (s m t : StockState) → m ≡ record s { names = m.names } → (m.names ≡ s.names) ⊎ AreCommitted visible s.names m.names → AreTold had mid (λ a b. b ≡ a) → is_some mid ≡ is_some had → StopsByFault had mid None → Runs had mid None 1 1 → IsTidied 0 visible mid has m t
       → IsTidied 1 visible had has s t
-  names_then had mid has s m t rest done telling stop ran tidied = go (subst (λ (x : StockState). IsTidied 0 visible mid has x t) rest tidied)
+  names_then had mid has s m t rest done free telling stop ran tidied = go (subst (λ (x : StockState). IsTidied 0 visible mid has x t) rest tidied)
     where
       same : (m.names ≡ s.names) ⊎ AreCommitted visible s.names m.names → AreSameLive s.names m.names
       same (inl e) = same_names s.names m.names e
@@ -182,11 +196,20 @@ module _ (visible : Bool) where
           inr
           (record { olds = a.olds; nows = a.nows; lent = a.lent; here = a.here; all = live_still s.names.value m.names.value a.olds (same done) a.all; done = a.done; synced = a.synced; numbers = a.numbers; home = a.home }, omega (arith, l))
 
+      alike : (most : ℕ) (f : ((t.home ≡ s.home) × (most ≤ 0)) ⊎ ((a : AreTidiedFiles visible (record s { names = m.names }) t) × (most ≤ 0 + 2 + length a.olds))) → freed_in visible s t (by most f) ≡ freed_in visible (record s { names = m.names }) t f
+      alike most (inl x) = refl
+      alike most (inr x) = refl
+
+      dropped : (m.names ≡ s.names) ⊎ AreCommitted visible s.names m.names → m.names.dropped ≡ s.names.dropped
+      dropped (inl e) = ap (λ (c : NamesCell). c.dropped) e
+      dropped (inr e) = ap (λ (c : NamesCell). c.dropped) e.is
+
       go : IsTidied 0 visible mid has (record s { names = m.names }) t → IsTidied 1 visible had has s t
       go d = record {
         names = tidied_behind visible s.names m.names t.names done d.names;
         most = 1 + d.most;
         files = by d.most d.files;
+        free = free_then had mid has s (record s { names = m.names }) t (freed_in visible (record s { names = m.names }) t d.files) (freed_in visible s t (by d.most d.files)) telling (alike d.most d.files) (free_names had mid s m.names (dropped done) free) d.free;
         telling = d.telling ∙ telling;
         fault = d.fault;
         stop = stops_twice had mid has d.fault telling stop d.stop;
@@ -194,11 +217,12 @@ module _ (visible : Bool) where
       }
 
   -- their commit failed
-  pub names_failed : (had has : Option View) (s t : StockState) (fault : Option ℕ) → t ≡ s → is_some has ≡ is_some had → StopsByFault had has fault → Runs had has fault 1 1 → IsTidied 1 visible had has s t
-  names_failed had has s t fault same telling stop ran = record {
+  pub names_failed : (had has : Option View) (s t : StockState) (fault : Option ℕ) → t ≡ s → AreTold had has (λ a b. b ≡ a) → is_some has ≡ is_some had → StopsByFault had has fault → Runs had has fault 1 1 → IsTidied 1 visible had has s t
+  names_failed had has s t fault same free telling stop ran = record {
     names = record { between = s.names; committed = inl refl; back = inl (ap (λ (x : StockState). x.names) same) };
     most = 1;
     files = inl (ap (λ (x : StockState). x.home) same, omega arith);
+    free = free_first had has s s t same (free_names had has s s.names refl free);
     telling = telling;
     fault = fault;
     stop = stop;
@@ -225,6 +249,7 @@ module _ (visible : Bool) where
       },
       omega arith,
     );
+    free = free_files had has old new h k pool (freed_by a.done olds set.empty) a.free;
     telling = a.telling;
     fault = a.fault;
     stop = a.stop;
@@ -299,6 +324,7 @@ module _ (visible : Bool) (had mid has : Option View) (old new : NamesCell) (old
     done = 0;
     synced = subst (λ (cs : List FileCell). AreSynced visible olds cs 0) (sym files) (none_synced visible olds);
     numbers = ap numbers_in files;
+    free = free_freed had has old.dropped new.dropped 0 olds (ap (λ (c : NamesCell). c.dropped) same) free;
     telling = telling;
     fault = fault;
     stop = stop;
@@ -309,6 +335,7 @@ module _ (visible : Bool) (had mid has : Option View) (old new : NamesCell) (old
     done = k;
     synced = synced;
     numbers = synced_numbers visible olds nows k synced;
+    free = free_freed had has old.dropped new.dropped k olds (ap (λ (c : NamesCell). c.dropped) done.is) freed;
     telling = telling;
     fault = fault;
     stop = stop;
@@ -316,13 +343,14 @@ module _ (visible : Bool) (had mid has : Option View) (old new : NamesCell) (old
   }
 
   -- all were committed, and the checkpoint was tried
-  pub all_tidied : (last : NamesCell) (r : Result (Unit {0}) StoreFault) → AreCommitted visible old new → AreSynced visible olds nows (length olds) → OnOk r (IsReclaimed new last) → OnErr r (last ≡ new) → is_some mid ≡ is_some had → is_some has ≡ is_some mid
-      → StopsByFault had mid None → Runs had mid None (1 + length olds) (1 + length olds) → StopsByFault mid has (fault_in r) → Runs mid has (fault_in r) 1 0 → AreAllTidied visible had has old last olds nows
-  all_tidied last r done synced ok err telling then stop ran stops runs = record {
+  pub all_tidied : (last : NamesCell) (r : Result (Unit {0}) StoreFault) → AreCommitted visible old new → AreSynced visible olds nows (length olds) → AreTold had mid (λ a b. b ≡ freed_by (length olds) olds a) → OnOk r (IsReclaimed new last) → OnErr r (last ≡ new) → OnOk r (AreTold mid has (λ a b. b ≡ set.union a new.dropped)) → OnErr r (AreTold mid has (λ a b. b ≡ a))
+      → is_some mid ≡ is_some had → is_some has ≡ is_some mid → StopsByFault had mid None → Runs had mid None (1 + length olds) (1 + length olds) → StopsByFault mid has (fault_in r) → Runs mid has (fault_in r) 1 0 → AreAllTidied visible had has old last olds nows
+  all_tidied last r done synced freed ok err came kept telling then stop ran stops runs = record {
     names = record { between = new; committed = inr done; back = back r ok err };
     done = length olds;
     synced = synced;
     numbers = synced_numbers visible olds nows (length olds) synced;
+    free = free r ok err came kept;
     telling = then ∙ telling;
     fault = fault_in r;
     stop = stops_twice had mid has (fault_in r) telling stop stops;
@@ -333,3 +361,11 @@ module _ (visible : Bool) (had mid has : Option View) (old new : NamesCell) (old
       back : (q : Result (Unit {0}) StoreFault) → OnOk q (IsReclaimed new last) → OnErr q (last ≡ new) → (last ≡ new) ⊎ IsReclaimed new last
       back (Ok x) ok err = inr ok
       back (Err e) ok err = inl err
+
+      same : new.dropped ≡ old.dropped
+      same = ap (λ (c : NamesCell). c.dropped) done.is
+
+      free : (q : Result (Unit {0}) StoreFault) → OnOk q (IsReclaimed new last) → OnErr q (last ≡ new) → OnOk q (AreTold mid has (λ a b. b ≡ set.union a new.dropped)) → OnErr q (AreTold mid has (λ a b. b ≡ a))
+          → AreTold had has (λ a b. free_with b last ≡ set.union (free_with a old) (freed_by (length olds) olds set.empty))
+      free (Ok x) ok err came kept = free_back had mid has old.dropped new.dropped last.dropped (length olds) olds telling same (ap (λ (c : NamesCell). c.dropped) ok) freed came
+      free (Err e) ok err came kept = free_kept had mid has old.dropped new.dropped last.dropped (length olds) olds telling same (ap (λ (c : NamesCell). c.dropped) err) freed kept

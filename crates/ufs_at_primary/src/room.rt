@@ -120,8 +120,9 @@ impl<N: Naming> Stock<N> {
     ghost use Rattle.ufs_held_names.specs.HeldNames.{AreCommitted};
     ghost use Rattle.ufs_home.specs.Places.{file_here};
     ghost use Rattle.ufs_ilog.specs.Notes.{sectors_noted};
+    ghost use Rattle.ufs_serving.specs.Pools.{AreConserved};
     ghost use Rattle.ufs_store.specs.Refusals.{fault_in};
-    ghost use Rattle.ufs_turns.specs.Lent.{Runs, StopsByFault};
+    ghost use Rattle.ufs_turns.specs.Lent.{AreTold, Runs, StopsByFault};
     ghost use Rattle.ufs_at_primary.specs.Room.{HasNoneDropped, IsRoomMade, IsTidied};
 
     /// Makes room for a request of the names, so that it is served with what there is. Where their notes take half the journal or more,
@@ -153,6 +154,7 @@ impl<N: Naming> Stock<N> {
         ensures names { OnOk result ((self.new.names ≡ self.old.names) ⊎ AreCommitted N.start.is_visible self.old.names self.new.names) }
         ensures kept { OnErr result (self.new ≡ self.old) }
         ensures rest { self.new ≡ record self.old { names = self.new.names } }
+        ensures free { AreTold (T.tells door.old) (T.tells door.new) (λ had has. has ≡ had) }
         ensures telling { is_some (T.tells door.new) ≡ is_some (T.tells door.old) }
         ensures halts { StopsByFault (T.tells door.old) (T.tells door.new) (fault_in result) }
         ensures ran { Runs (T.tells door.old) (T.tells door.new) (fault_in result) 1 1 }
@@ -183,6 +185,7 @@ impl<N: Naming> Stock<N> {
     // Whether fewer blocks are there than are wanted.
     fn is_short<T: Turns<N>>(&mut self, wanted: u32, door: &mut T) -> bool
         ensures rest { self.new ≡ record self.old { pool = self.new.pool } }
+        ensures conserved { AreConserved (T.tells door.old) (T.tells door.new) self.old.pool self.new.pool }
         ensures telling { is_some (T.tells door.new) ≡ is_some (T.tells door.old) }
         ensures still { Rests (T.tells door.old) (T.tells door.new) None }
     {

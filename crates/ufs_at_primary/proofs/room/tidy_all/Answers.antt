@@ -54,4 +54,4 @@ returns-clause-tidied g c =
     let nows = c.commit_all.new.files in
     let done = c.in_default.ensures in
     subst (λ (cs : List FileCell). AreAllTidied visible had has c.args.names.now c.reclaim.new.self olds cs) (sym then.files)
-    (all_tidied visible had mid has c.args.names.now c.commit_all.new.self olds nows c.reclaim.new.self c.reclaim.result done.names done.files then.ok then.err e.telling then.telling done.halts done.ran then.halts then.ran)
+    (all_tidied visible had mid has c.args.names.now c.commit_all.new.self olds nows c.reclaim.new.self c.reclaim.result done.names done.files done.freed then.ok then.err then.back then.kept e.telling then.telling done.halts done.ran then.halts then.ran)

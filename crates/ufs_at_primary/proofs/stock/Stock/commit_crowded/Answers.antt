@@ -8,6 +8,7 @@ use Rattle.ufs_layout.specs.declared.geometry.Geometry.{Geometry}
 use Rattle.ufs_turns.proofs.Runs.{runs_still}
 use Rattle.ufs_at_primary.specs.Stock.{AreHere, StockState, stock_of}
 use Rattle.ufs_at_primary.proofs.Births.{bare_pool, pool_beside, when_ok}
+use Rattle.ufs_at_primary.proofs.NamesTold.{free_still}
 use Rattle.ufs_at_primary.proofs.Rooms.{commit_here, kept_names}
 use Rattle.ufs_at_primary.proofs.stock.Stock.commit_crowded.Goals as goal
 
@@ -16,6 +17,9 @@ returns-then-not-is_crowded-clause-names g c = inl (ap (λ (s : StockState). s.n
 
 pub returns-then-not-is_crowded-clause-rest : goal.returns-then-not-is_crowded-clause-rest
 returns-then-not-is_crowded-clause-rest g c = ap (λ (s : StockState). record s { names = c.is_crowded.new.self }) c.self.view_is
+
+pub returns-then-not-is_crowded-clause-free : goal.returns-then-not-is_crowded-clause-free
+returns-then-not-is_crowded-clause-free g c = free_still (g.T.Turns.tells c.args.door.now)
 
 pub returns-then-not-is_crowded-clause-halts : goal.returns-then-not-is_crowded-clause-halts
 returns-then-not-is_crowded-clause-halts g c = stops_still (g.T.Turns.tells c.args.door.now)

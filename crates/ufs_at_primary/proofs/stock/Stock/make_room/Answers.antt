@@ -8,7 +8,7 @@ use Rattle.ufs_at_primary.proofs.stock.Stock.make_room.Goals as goal
 pub returns-in-Err-clause-made : goal.returns-in-Err-clause-made
 returns-in-Err-clause-made g c =
     let e = c.commit_crowded.ensures in
-    names_failed g.N.Naming.start.is_visible (g.T.Turns.tells c.args.door.now) (g.T.Turns.tells c.commit_crowded.new.door) c.args.self.now c.commit_crowded.new.self (fault_in c.commit_crowded.result) c.in-Err.ensures.kept e.telling e.halts e.ran
+    names_failed g.N.Naming.start.is_visible (g.T.Turns.tells c.args.door.now) (g.T.Turns.tells c.commit_crowded.new.door) c.args.self.now c.commit_crowded.new.self (fault_in c.commit_crowded.result) c.in-Err.ensures.kept e.free e.telling e.halts e.ran
 
 pub returns-in-Err-clause-idle : goal.returns-in-Err-clause-idle
 returns-in-Err-clause-idle g c = λ few none. c.commit_crowded.ensures.idle few
@@ -18,7 +18,7 @@ returns-clause-made g c =
     let e = c.commit_crowded.ensures in
     let had = g.T.Turns.tells c.args.door.now in
     let mid = g.T.Turns.tells c.commit_crowded.new.door in
-    names_then g.N.Naming.start.is_visible had mid (g.T.Turns.tells c.make_space.new.door) c.args.self.now c.commit_crowded.new.self c.make_space.new.self e.rest c.in_default.ensures.names e.telling c.in_default.ensures.halts c.in_default.ensures.ran c.make_space.ensures.made
+    names_then g.N.Naming.start.is_visible had mid (g.T.Turns.tells c.make_space.new.door) c.args.self.now c.commit_crowded.new.self c.make_space.new.self e.rest c.in_default.ensures.names e.free e.telling c.in_default.ensures.halts c.in_default.ensures.ran c.make_space.ensures.made
 
 pub returns-clause-idle : goal.returns-clause-idle
 returns-clause-idle g c = λ few none.

@@ -19,7 +19,7 @@ returns-then-not-has_dropped-clause-idle g c = λ none. (refl, refl)
 pub returns-then-not-is_short-clause-made : goal.returns-then-not-is_short-clause-made
 returns-then-not-is_short-clause-made g c =
     let e = c.is_short.ensures in
-    tidied_pool g.N.Naming.start.is_visible (g.T.Turns.tells c.args.door.now) (g.T.Turns.tells c.is_short.new.door) c.args.self.now c.is_short.new.self e.rest e.telling e.still
+    tidied_pool g.N.Naming.start.is_visible (g.T.Turns.tells c.args.door.now) (g.T.Turns.tells c.is_short.new.door) c.args.self.now c.is_short.new.self e.rest e.conserved e.telling e.still
 
 pub returns-then-not-is_short-clause-idle : goal.returns-then-not-is_short-clause-idle
 returns-then-not-is_short-clause-idle g c = λ none. absurd (c.has_dropped.ensures.0 c.if-not-has_dropped.false (ap (λ (s : StockState). s.names.dropped) c.self.view_is ∙ none))
@@ -28,7 +28,7 @@ pub returns-clause-made : goal.returns-clause-made
 returns-clause-made g c =
     let e = c.is_short.ensures in
     let tells = g.T.Turns.tells in
-    pool_then g.N.Naming.start.is_visible (tells c.args.door.now) (tells c.is_short.new.door) (tells c.reclaim.new.door) c.args.self.now c.is_short.new.self c.reclaim.new.self e.rest e.telling e.still c.reclaim.ensures.made
+    pool_then g.N.Naming.start.is_visible (tells c.args.door.now) (tells c.is_short.new.door) (tells c.reclaim.new.door) c.args.self.now c.is_short.new.self c.reclaim.new.self e.rest e.conserved e.telling e.still c.reclaim.ensures.made
 
 pub returns-clause-idle : goal.returns-clause-idle
 returns-clause-idle g c = λ none. absurd (c.has_dropped.ensures.0 c.if-not-has_dropped.false (ap (λ (s : StockState). s.names.dropped) c.self.view_is ∙ none))
