@@ -56,7 +56,7 @@ use Rattle.ufs_gathered.specs.Gathered.{AreHome, HasAllOf}
 use Rattle.ufs_gathered.proofs.Histories.{each_rises, each_within, its_own, none_there, same_history, some_there}
 use Rattle.ufs_gathered.proofs.Homes.{here_at, one_of}
 use Rattle.ufs_gathered.proofs.Joined.{in_numbered, numbered_in}
-use Rattle.ufs_gathered.proofs.Lengths.{all_bytes, few_files}
+use Rattle.ufs_gathered.proofs.Lengths.{all_bytes, few_cells}
 use Rattle.ufs_gathered.proofs.Throughout.{more_along, once_along, past_along}
 
 live_is : (n : NamesPart) (file : ℕ) → set.contains (live_files n) file ≡ is_some (fin.get n.held file)
@@ -298,7 +298,7 @@ module _ (k : Start) (origin : Moments) (visible keeps : Bool) (names : NamesCel
     has_files = file_cells;
     all_files = all_files;
     once = once;
-    few = few_files whole.parts (tree_after whole.start whole.history) whole.are files file_cells all_files once k.geometry whole.free whole.server;
+    few = few_cells whole.parts (tree_after whole.start whole.history) whole.are files file_cells all_files once k.geometry whole.free whole.server;
     bytes = all_bytes whole.parts (tree_after whole.start whole.history) whole.are files file_cells all_files once;
     ledger = λ seen. ledger rest disk_whole seen;
     crash = λ seen. crash rest disk_whole seen;

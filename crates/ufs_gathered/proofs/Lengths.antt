@@ -1,18 +1,15 @@
 -- How large all files are together, by the cells that hold them, and that there are no more than inodes.
-use Rattle.std.proofs.Common.{◌≡◌, ◌≤◌, ◌<◌, ◌+◌, ◌||◌, ℕ, Bool, true, false, cond, eqb, List, [], ◌∷◌, Option, None, Some, is_some, length, map, inl, inr, ap, sym, refl, ◌∙◌, subst, arith}
-use Rattle.std.specs.Prelude.{IsSome, nat_le, unwrap_or}
+use Rattle.std.proofs.Common.{◌≡◌, ◌≤◌, ◌+◌, ℕ, suc, Bool, true, false, cond, eqb, List, [], ◌∷◌, Option, None, Some, is_some, length, map, inl, inr, ap, sym, refl, ◌∙◌, subst, arith}
+use Rattle.std.specs.Prelude.{IsSome, unwrap_or}
 use native.Mathlib.Decide.{dec_le}
 use Rattle.std.specs.Cmp.{eq_by_cmp_equiv, nat_cmp_total}
-use Rattle.std.specs.List.{AllByRecursion, IsDistinct, list_any, sum_by}
+use Rattle.std.specs.List.{sum_by}
 use Rattle.std.specs.Ordering.{eq_by_cmp, is_eq, is_lt, nat_cmp}
 use Rattle.std.specs.FinMap as fin
 use Rattle.std.specs.FinMap.{get-entries, nat_cmp-IsAntisymmetric}
 use Rattle.std.specs.FinMap.Entries.{below_all}
 use Rattle.std.proofs.lemmas.Bool.{and_parts}
-use Rattle.std.proofs.lemmas.Bool.Decides.{nat_tests}
-use Rattle.std.proofs.lemmas.List.{length-map}
 use Rattle.std.proofs.lemmas.List.Sums.{sum_by-cons}
-use Rattle.std.proofs.lemmas.Map.Steps.{length-le_from_distinct_below}
 use Rattle.ufs_bitmap.specs.Blocks.{BlockSet}
 use Rattle.ufs_layout.specs.declared.geometry.Geometry.{Geometry}
 use Rattle.ufs_model.specs.PosixTree.{PosixTree}
@@ -20,12 +17,11 @@ use Rattle.ufs_model.proofs.Facts.Lookups.{one_key}
 use Rattle.ufs_model.proofs.Facts.Rising.{entries-rise, less}
 use Rattle.ufs_hand_laws.specs.Owned.{Has, count, find, one, present, weigh}
 use Rattle.ufs_hand_laws.proofs.Keys.{alike, itself}
-use Rattle.ufs_hand_laws.proofs.Owning.{count_has, has_count, present_find, same_some}
+use Rattle.ufs_hand_laws.proofs.Owning.{count_has, has_count, present_find}
 use Rattle.ufs_held.specs.Together.{under_numbers}
+use Rattle.ufs_held.proofs.Few.{few_files}
 use Rattle.ufs_joint.specs.Cells.{FileCell}
 use Rattle.ufs_joint.specs.Whole.{HasFileCell}
-use Rattle.ufs_name_tree.specs.NameTable.{file_at}
-use Rattle.ufs_names.specs.declared.holding.Holding.{Holding}
 use Rattle.ufs_promise_laws.specs.Parts.{Parts}
 use Rattle.ufs_promise_laws.specs.Sound.{IsSoundServer}
 use Rattle.ufs_promise_laws.specs.Stored.{ArePartsOf}
@@ -132,6 +128,10 @@ weigh_same g (p ∷ ps) qs each =
 
 -- ---- the files
 
+length_under : (cs : List FileCell) → length (under_numbers cs) ≡ length cs
+length_under [] = refl
+length_under (c ∷ cs) = ap suc (length_under cs)
+
 module _ (p : Parts) (t : PosixTree) (are : ArePartsOf p t) (files : List FileCell) (has_files : (c : FileCell) → Has c files → HasFileCell p c.value.file.file c)
     (all_files : (file : ℕ) → IsSome (fin.get p.files file) → (c : FileCell) × Has c files × (c.value.file.file ≡ file)) (once : (file : ℕ) → count eqb file (under_numbers files) ≤ 1) where
   cell_size : (c : FileCell) → Has c files → size_of_cell c ≡ size_in t c.value.file.file
@@ -172,63 +172,11 @@ module _ (p : Parts) (t : PosixTree) (are : ArePartsOf p t) (files : List FileCe
 
   -- ---- their inodes
 
-  some_of : {X : Type 0} (o : Option X) → is_some o ≡ true → (x : X) × (o ≡ Some x)
-  some_of None e = (let no : false ≡ true = e in absurd cc)
-  some_of (Some x) e = (x, refl)
+  numbered : (n : ℕ) (c : FileCell) → Has {A = ℕ × FileCell} (n, c) (under_numbers files) → HasFileCell p n c
+  numbered n c has = let y = numbered_in files n c has in subst (λ (m : ℕ). HasFileCell p m c) (sym y.0) (has_files c y.1)
 
-  placed : (c : FileCell) → Has c files → file_at p.names.tree c.value.file.inode ≡ Some c.value.file.file
-  placed c has =
-      let at = (has_files c has).file_is in
-      let of = are.files c.value.file.file c.value.file at in
-      let h = some_of (fin.get p.names.held c.value.file.file) (are.names.told c.value.file.file ∙ ap (λ (k : ℕ). is_some (fin.get t.bytes k)) (sym of.0) ∙ ap is_some of.1.has) in
-      ap (file_at p.names.tree) (are.inodes c.value.file.file c.value.file h.0 at h.1) ∙ are.names.inodes.inode c.value.file.file h.0 h.1
-
-  abbrev inode_of : FileCell → ℕ
-  inode_of c = c.value.file.inode
-
-  others : (c : FileCell) → Has c files → (cs : List FileCell) → ((d : FileCell) → Has d cs → Has d files) → count eqb c.value.file.file (under_numbers cs) ≡ 0
-      → AllByRecursion (λ y. eqb (inode_of c) y ≡ false) (map inode_of cs)
-  others c here [] all none = tt
-  others c here (d ∷ cs) all none = (differs (eqb (inode_of c) (inode_of d)) refl, others c here cs (λ x has. all x (inr has)) (omega (arith, clear)))
-    where
-      clear : one (eqb c.value.file.file d.value.file.file) + count eqb c.value.file.file (under_numbers cs) ≡ 0
-      clear = none
-
-      differs : (b : Bool) → eqb (inode_of c) (inode_of d) ≡ b → eqb (inode_of c) (inode_of d) ≡ false
-      differs false is = is
-      differs true is =
-          let same : Some c.value.file.file ≡ Some d.value.file.file = sym (placed c here) ∙ ap (file_at p.names.tree) (alike (inode_of c) (inode_of d) is) ∙ placed d (all d (inl refl)) in
-          let number : c.value.file.file ≡ d.value.file.file = same_some c.value.file.file d.value.file.file same in
-          let one_is : one (eqb c.value.file.file d.value.file.file) ≡ 1 = ap one (sym (ap (eqb c.value.file.file) number) ∙ itself c.value.file.file) in
-          absurd (omega (arith, clear, one_is))
-
-  distinct : (cs : List FileCell) → ((d : FileCell) → Has d cs → Has d files) → ((n : ℕ) → count eqb n (under_numbers cs) ≤ 1) → IsDistinct eqb (map inode_of cs)
-  unfolding IsDistinct
-  distinct [] all each = tt
-  distinct (c ∷ cs) all each =
-      let most : one (eqb c.value.file.file c.value.file.file) + count eqb c.value.file.file (under_numbers cs) ≤ 1 = each c.value.file.file in
-      let is : one (eqb c.value.file.file c.value.file.file) ≡ 1 = ap one (itself c.value.file.file) in (
-        others c (all c (inl refl)) cs (λ d has. all d (inr has)) (omega (arith, most, is)),
-        distinct cs (λ d has. all d (inr has)) (λ n. let a : one (eqb n c.value.file.file) + count eqb n (under_numbers cs) ≤ 1 = each n in omega (arith, a)),
-      )
-
-  module _ (g : Geometry) (free : BlockSet) (sound : IsSoundServer g free p) where
-    ranged : (c : FileCell) → Has c files → inode_of c < g.inodes + 1
-    ranged c has =
-        let both = and_parts (nat_le 1 (inode_of c)) (nat_le (inode_of c) g.inodes) (sound.each c.value.file.file c.value.file (has_files c has).file_is).inode in
-        let least = both.1 in
-        grind (arith, nat_tests, least)
-
-    within : (cs : List FileCell) → ((d : FileCell) → Has d cs → Has d files) → (q : ℕ) → list_any (eqb q) (map inode_of cs) ≡ true → q < g.inodes + 1
-    within [] all q any = (let no : false ≡ true = any in absurd cc)
-    within (c ∷ cs) all q any = by (eqb q (inode_of c)) refl any (within cs (λ d has. all d (inr has)) q)
-      where
-        by : (b : Bool) → eqb q (inode_of c) ≡ b → (b || list_any (eqb q) (map inode_of cs)) ≡ true → (list_any (eqb q) (map inode_of cs) ≡ true → q < g.inodes + 1) → q < g.inodes + 1
-        by true is found rest = subst (λ (k : ℕ). k < g.inodes + 1) (sym (alike q (inode_of c) is)) (ranged c (all c (inl refl)))
-        by false is found rest = rest found
-
-    pub few_files : length files ≤ g.inodes + 1
-    few_files =
-        let few = length-le_from_distinct_below (map inode_of files) (g.inodes + 1) (distinct files (λ d has. has) once) (within files (λ d has. has)) in
-        let same = length-map files inode_of in
-        omega (arith, few, same)
+  pub few_cells : (g : Geometry) (free : BlockSet) → IsSoundServer g free p → length files ≤ g.inodes
+  few_cells g free sound =
+      let few = few_files p t are g free sound (under_numbers files) numbered once in
+      let same = length_under files in
+      omega (arith, few, same)

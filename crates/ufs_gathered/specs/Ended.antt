@@ -111,7 +111,7 @@ pub record HasEnded (k : Start) (origin : Moments) (keeps : Bool) (tickets : ℕ
   pub all_files : (file : ℕ) → IsSome (fin.get parts.files file) → (c : FileCell) × Has c files × (c.value.file.file ≡ file)
   pub once : (file : ℕ) → count eqb file (under_numbers files) ≤ 1
   -- they are no more than the image's inodes, and together as large as all files of the tree
-  pub few : length files ≤ k.geometry.inodes + 1
+  pub few : length files ≤ k.geometry.inodes
   pub bytes : sum_by size_of_cell files ≡ total_size (tree_after start history)
   -- over a visible disk: where the store goes on it knows its ledger;
   pub ledger : k.is_visible ≡ true → s.stop ≡ None → (l : Ledger) × HasLedger s l
