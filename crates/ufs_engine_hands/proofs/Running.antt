@@ -42,8 +42,8 @@ closes_from k s formed cells now is =
     let same : k.geometry.inodes ≡ (geometry_of_store s).inodes = sym (ap (λ (g : Geometry). g.inodes) formed) in
     record {
       epoch = is.epoch;
-      epoch_most = subst (λ (n : ℕ). (superblock_of now).epoch ≤ (tally_in cells).epoch + (n + 3)) same is.epoch_most;
-      number_most = subst (λ (n : ℕ). (superblock_of now).next ≤ (tally_in cells).number + (n + 2)) same is.number_most;
+      epoch_most = subst (λ (n : ℕ). (superblock_of now).epoch ≤ (tally_in cells).epoch + (n + 3)) same (let most = is.epoch_most in omega (arith, most));
+      number_most = subst (λ (n : ℕ). (superblock_of now).next ≤ (tally_in cells).number + (n + 2)) same (let most = is.number_most in omega (arith, most));
     }
 
 closes_so : (k : Start) (s : StoreState) → geometry_of_store s ≡ k.geometry → (cells : List (Unit {0} × StoreCell)) (now : Image) (closed : Result (Unit {0}) CloseFault)

@@ -1,5 +1,5 @@
 -- What is known of a session on hands that has ended.
-use Rattle.std.specs.Prelude.{ℕ, ◌≡◌, ◌≤◌, ◌<◌, ◌+◌, ◌-◌, ◌^◌, ◌⊎◌, ◌++◌, eqb, Bool, IsTrue, true, List, [], ◌∷◌, length, map, take, Some, None, IsSome, sum_by}
+use Rattle.std.specs.Prelude.{ℕ, ◌≡◌, ◌≤◌, ◌<◌, ◌-◌, ◌^◌, ◌⊎◌, ◌++◌, eqb, Bool, IsTrue, true, List, [], ◌∷◌, length, map, take, Some, None, IsSome, sum_by}
 use Rattle.std.specs.FinMap as fin
 use Rattle.ufs_client.specs.Played.{IsMerged, transcript}
 use Rattle.ufs_disk.specs.Disk.{Leaves, State}

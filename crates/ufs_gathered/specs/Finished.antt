@@ -58,8 +58,8 @@ EndsBy all stop before now (Err (cause.Lack why)) = (stop ≡ None) × (now ≡ 
 -- names, and by a recovery.
 pub record ClosesBy (from number inodes : ℕ) (behind : Image) : Type 0 where
   pub epoch : from ≤ (superblock_of behind).epoch
-  pub epoch_most : (superblock_of behind).epoch ≤ from + (inodes + 3)
-  pub number_most : (superblock_of behind).next ≤ number + (inodes + 2)
+  pub epoch_most : (superblock_of behind).epoch ≤ from + (inodes + 2)
+  pub number_most : (superblock_of behind).next ≤ number + (inodes + 1)
 
 -- ---- the whole
 
