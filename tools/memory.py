@@ -33,7 +33,6 @@ MAY = {
     "ufs_links/src/links.rt": {"Lack::AtEnd": 1},
     "ufs_owner/src/table.rt": {"Lack::AtEnd": 1},
     "ufs_recovery/src/plan.rt": {"Lack::AtEnd": 1},
-    "ufs_server/src/fetching.rt": {"Lack::AtEnd": 1},
     "ufs_start/src/numbers.rt": {"Lack::AtEnd": 1},
     "ufs_store/src/commits.rt": {"Lack::AtEnd": 1},
     "ufs_store/src/homes.rt": {"Lack::AtEnd": 1},
@@ -44,14 +43,10 @@ MAY = {
     "ufs_name_tree/src/name_tree.rt": {"NameNotes::off": 3},
     "ufs_name_tree/src/notes.rt": {".lose": 1},
     "ufs_names/src/noting.rt": {".take_notes": 1},
-    "ufs_server/src/room.rt": {".take_notes": 1},
-    "ufs_server/src/syncing.rt": {".take_notes": 1},
     "ufs_noted/src/room.rt": {".take_notes": 1},
     "ufs_turns/src/commits.rt": {".take_notes": 1},
     # what a disk has that doesn't give back what it was given, and what no caller asks for
     "ufs_brink/src/closing.rt": {"Lack::Unsound": 1},
-    "ufs_engine/src/closing.rt": {"Lack::Told": 1},
-    "ufs_server/src/file_requests.rt": {"Lack::Unsound": 1},
     # the reader of words tells a refused allocation by the kind of its error alone
     "ufs_words/src/command.rt": {"AllocError": 1},
     # an error of the system carries nothing
@@ -307,7 +302,7 @@ def self_test():
         if made != wanted:
             wrong.append(f"{text!r} makes {wanted}, and {made} was found")
     planted = "fn f() -> Result<(), Excuse> { Err(Excuse::Memory) }\n"
-    if not complaints([("ufs_server/src/syncing.rt", planted)]):
+    if not complaints([("ufs_turns/src/commits.rt", planted)]):
         wrong.append("an excuse that is made up passes")
     first = next(iter(MAY))
     if not complaints([(first, "")]):

@@ -25,7 +25,7 @@ pub fn image_of_two(alloc: Global) -> Option<PlainDisk> {
     Some(played.disk)
 }
 
-/// A session of one hand on the disk, by this script.
+/// A session on the disk, by this script.
 pub fn played_on(alloc: Global, disk: PlainDisk, text: &str) -> Option<Played<PlainDisk>> {
     Some(play(alloc, script(alloc, text)?, 0, disk))
 }

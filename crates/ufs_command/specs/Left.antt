@@ -68,7 +68,7 @@ pub record Plays {D : Type 0} (told : List (List Entry)) (status : ℕ) (c : Cou
   -- reply was made isn't said.
   pub always : MayPlay c.visible c.sectors c.from.state → (start : PosixTree) → BeginsWith c.sectors (reads c.from) start → IsExplainedThroughout c.keeps c.sectors start [] (joined told) c.from c.to
   -- From some moment to a later one, what a crash leaves in each state of the disk is explained by the first entries, for each
-  -- number of them from one stamp of the session's hand to another. As it stands here it follows from `always`.
+  -- number of them from one stamp of the session's turns to another. As it stands here it follows from `always`.
   pub stamped : IsTrue c.keeps → MayPlay c.visible c.sectors c.from.state → (start : PosixTree) → BeginsWith c.sectors (reads c.from) start → IsStampedThroughout c.keeps c.sectors start (joined told) c.from c.to
   -- Status 0: the disk is proper and clean, nothing is pending, and it stands for the tree behind the history.
   pub clean : MayPlay c.visible c.sectors c.from.state → status ≡ 0 → IsCleanDisk c.sectors c.to.state

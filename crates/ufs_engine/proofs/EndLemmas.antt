@@ -20,7 +20,7 @@ use Rattle.ufs_engine.specs.Plays.{AreFaultsOf, IsClosingFault, IsEndFault, IsSt
 use Rattle.ufs_engine.specs.declared.playing.PlayFault.{PlayFault}
 use Rattle.ufs_engine.specs.declared.playing.PlayFault.TheVariants as ending
 use Rattle.ufs_told.specs.Sizes.{total_size}
-use Rattle.ufs_session.specs.Played.{IsPlayedFrom}
+use Rattle.ufs_engine.specs.Served.{IsPlayedFrom}
 use Rattle.ufs_told.proofs.ToldLemmas.{none_caused}
 use Rattle.ufs_told.specs.Told.{AreFaultsTold, AreToldStop, HasRisen, IsCountStill, IsReadFault, IsStopFault}
 use Rattle.ufs_start.specs.declared.fault.StartFault.{StartFault}
@@ -28,23 +28,6 @@ use Rattle.ufs_store.specs.Refusals.{IsTold}
 use Rattle.ufs_store.specs.State.{StoreState}
 
 -- ---- what is played
-
--- where a whole session needs no more than it did
-pub played_as : (start : PosixTree) (clients : List (List Op)) (told : List (List Entry)) (ended other : Result (Unit {0}) EndFault) (history : List Entry) → OnOk other (IsOk ended)
-    → IsPlayedFrom start clients told ended history → IsPlayedFrom start clients told other history
-played_as start clients told ended other history leads is = record {
-  merged = is.merged;
-  each = λ ok. is.each (as_ok ended other ok leads);
-  legal = is.legal;
-  servers = is.servers;
-  ordered = is.ordered;
-  complete = λ ok. is.complete (as_ok ended other ok leads);
-}
-  where
-    as_ok : (ended other : Result (Unit {0}) EndFault) → other ≡ Ok tt → OnOk other (IsOk ended) → ended ≡ Ok tt
-    as_ok (Ok x) other ok leads = refl
-    as_ok (Err fault) (Ok x) ok leads = let no : false ≡ true = leads in cc
-    as_ok (Err fault) (Err other) ok leads = cc
 
 -- where nothing is served
 pub none_played : (start : PosixTree) (clients : List (List Op)) → IsPlayedFrom start clients [] (Err (session.Memory wanting)) []

@@ -1,4 +1,11 @@
-mod Seen
-pub mod Ended
-pub mod EndLemmas
+mod Rooms
+mod Within
+mod Walking
+mod Along
 pub mod StampedLemmas
+pub mod EndLemmas
+mod PlayedLemmas
+mod Ending
+mod Clients
+mod Leaving
+mod Running

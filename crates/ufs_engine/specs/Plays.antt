@@ -15,8 +15,8 @@ use Rattle.ufs_engine.specs.declared.playing.PlayFault.{PlayFault}
 use Rattle.ufs_engine.specs.declared.playing.PlayFault.TheVariants.{Image, Device, Stopped, Lack}
 use Rattle.ufs_recovery.specs.Recovered.{IsProperDisk}
 use Rattle.ufs_told.specs.Sizes.{total_size}
-use Rattle.ufs_session.specs.Played.{IsPlayedFrom}
-use Rattle.ufs_session.specs.Throughout.{AreMomentsStamped}
+use Rattle.ufs_engine.specs.Served.{IsPlayedFrom}
+use Rattle.ufs_engine.specs.Stamped.{AreMomentsStamped}
 use Rattle.ufs_told.specs.Told.{AreFaultsCaused, AreToldStop, HasRisen, IsCountStill, devices_in, reads_in}
 use Rattle.ufs_hand_laws.specs.Owned.{Has}
 use Rattle.ufs_promise_laws.specs.OnDisk.{IsExplainedBetween}

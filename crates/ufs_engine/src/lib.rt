@@ -1,10 +1,9 @@
-//! Sessions over a disk's image, and a script that is played in one.
+//! A script that is played over a disk's image, in a session on hands.
 #![tactic(auto)]
 
+mod asked;
 mod beginning;
-mod closing;
 mod playing;
+mod session;
 
-pub use beginning::{Begun, begin};
-pub use closing::{Closed, close};
 pub use playing::{PlayFault, Played, play};

@@ -1,12 +1,11 @@
 // Playing a script on one thread.
-ghost use Rattle.std.specs.Prelude.{ℕ, ◌≡◌, ◌≢◌, ◌⊎◌, [], Err, IfOk, IsOk, IsTrue, OnOk, length};
+ghost use Rattle.std.specs.Prelude.{◌≡◌, ◌≢◌, ◌⊎◌, [], Err, IsTrue, OnOk, length};
 ghost use Rattle.ufs_brink.specs.Begins.{BeginsWith, HasNothingOpen, TellsNoSession};
 ghost use Rattle.ufs_disk.specs.Disk.{Leaves};
 ghost use Rattle.ufs_disk.specs.Moments.{reads};
 ghost use Rattle.ufs_base.specs.declared.lack.Lack.{Lack};
 ghost use Rattle.ufs_metadata.specs.declared.fault.RecoverFault.{RecoverFault};
 ghost use Rattle.ufs_metadata.specs.declared.fault.RecoverFault.TheVariants as image;
-ghost use Rattle.ufs_brink.specs.declared.closing.CloseFault.TheVariants as cause;
 ghost use Rattle.ufs_image.specs.Opens.{opens};
 ghost use Rattle.ufs_image.specs.Proper.{IsProperImage};
 ghost use Rattle.ufs_image.specs.Volume.{Refusal};
@@ -19,22 +18,22 @@ ghost use Rattle.ufs_brink.specs.Numbers.{RaisesNumbers};
 ghost use Rattle.ufs_engine.specs.Plays.{AreFaultsOf, HasBytes, IsEndFault, IsStampedThroughout, MayPlay, served_end};
 ghost use Rattle.ufs_engine.specs.declared.playing.PlayFault.TheVariants as ending;
 ghost use Rattle.ufs_recovery.specs.Recovered.{IsCleanDisk};
-ghost use Rattle.ufs_session.specs.Played.{IsPlayedFrom};
+ghost use Rattle.ufs_engine.specs.Served.{IsPlayedFrom};
 ghost use Rattle.ufs_told.specs.Throughout.{IsExplainedThroughout};
 ghost use Rattle.ufs_start.specs.Refused.{HasStartCause};
 ghost use Rattle.ufs_start.specs.declared.fault.StartFault.{StartFault};
 ghost use Rattle.ufs_start.specs.declared.fault.StartFault.TheVariants as start;
 
 use crate::beginning::{Begun, begin};
-use crate::closing::close;
+use crate::session::play_named;
 use std::alloc::Global;
-use ufs_base::{Lack, Memory};
-use ufs_brink::CloseFault;
-use ufs_client::{EndFault, ToldLists};
+use std::marker::Brand;
+use std::sync::ledger::Blank;
+use ufs_base::Lack;
+use ufs_client::ToldLists;
 use ufs_disk::Disk;
 use ufs_metadata::RecoverFault;
 use ufs_script::Script;
-use ufs_session::{Served, serve};
 use ufs_start::StartFault;
 
 /// Why a session isn't whole: no image to begin with, a fault of the closing, or want of memory or of a number.
@@ -100,23 +99,10 @@ pub fn play<D: Disk>(alloc: Global, script: Script, _lease: u32, disk: D) -> Pla
     ensures why { MayPlay D.visible (D.size disk) (D.moments disk).state → (fault : StartFault) → result.ended ≡ Err (ending.Image fault) → TellsNoSession (D.size disk) (reads (D.moments disk)) fault }
     ensures numbers { MayPlay D.visible (D.size disk) (D.moments disk).state → OnOk result.ended (RaisesNumbers (length (joined result.told)) (reads (D.moments disk)) (reads (D.moments result.disk))) }
 {
-    match begin(alloc, disk) {
+    match begin(alloc, disk, script.clients) {
         Ok(begun) => {
-            let Begun {
-                mut server,
-                store,
-                opened,
-            } = begun;
-            let Served { session, door } = serve(alloc, opened, &mut server, store, script.clients);
-            let total = server.total_size();
-            let closed = close(alloc, server, door);
-            let served = measured_end(session.ended, total);
-            Played {
-                told: session.told,
-                bytes: bytes_of(total),
-                ended: whole_end(served, closed.ended),
-                disk: closed.disk,
-            }
+            let Begun { ready, asked } = begun;
+            play_named::<Brand, D, Brand>(alloc, ready, Blank::new(1), asked)
         }
         Err(unbegun) => Played {
             told: ToldLists::from_vec(Vec::new(alloc)),
@@ -135,44 +121,5 @@ fn unbegun_end(fault: StartFault) -> PlayFault
     match fault {
         StartFault::Image(RecoverFault::Lack(lack)) => PlayFault::Lack(lack),
         fault => PlayFault::Image(fault),
-    }
-}
-
-// How a session was served, behind which so many bytes were found, if there was memory to tell.
-fn measured_end(served: Result<(), EndFault>, total: Result<u128, Memory>) -> Result<(), EndFault>
-    ensures served { OnOk result (IsOk served) }
-    ensures total { OnOk result (IsOk total) }
-{
-    match total {
-        Ok(_) => served,
-        Err(memory) => Err(EndFault::Memory(memory)),
-    }
-}
-
-fn bytes_of(total: Result<u128, Memory>) -> u128
-    ensures { IfOk total (λ bytes. result ≡ bytes) }
-{
-    match total {
-        Ok(bytes) => bytes,
-        Err(_) => 0,
-    }
-}
-
-// How a session ends that was served and closed so.
-fn whole_end(served: Result<(), EndFault>, closed: Result<(), CloseFault>) -> Result<(), PlayFault>
-    ensures served { OnOk (served_end result) (IsOk served) }
-    ensures closed { OnOk result (IsOk closed) }
-    ensures device { (fault : ℕ) → result ≡ Err (ending.Device fault) → closed ≡ Err (cause.Device fault) }
-    ensures stopped { (fault : ℕ) → result ≡ Err (ending.Stopped fault) → closed ≡ Err (cause.Stopped fault) }
-    ensures begun { (fault : StartFault) → result ≢ Err (ending.Image fault) }
-{
-    if let Err(EndFault::Memory(memory)) = served {
-        return Err(PlayFault::Lack(Lack::Memory(memory)));
-    }
-    match closed {
-        Ok(()) => Ok(()),
-        Err(CloseFault::Device { fault }) => Err(PlayFault::Device { fault }),
-        Err(CloseFault::Stopped { fault }) => Err(PlayFault::Stopped { fault }),
-        Err(CloseFault::Lack(lack)) => Err(PlayFault::Lack(lack)),
     }
 }

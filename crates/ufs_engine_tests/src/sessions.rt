@@ -138,6 +138,54 @@ fn mixed_requests_have_the_replies_of_the_plain_tree(rt: HostRuntime) -> Result<
     Ok(())
 }
 
+// Scripts of few requests: how many of these are no refusal, and how large all files are together behind them.
+const ROWS: [(&str, u32, u128); 8] = [
+    ("end\n", 0, 0),
+    ("client 0\nend\n", 0, 0),
+    ("client 0\nclient 1\nstat /\nend\n", 1, 0),
+    (
+        "client 0\nopen /x r\nread 9 1\nseek 3 set 0\nrmdir /\nend\n",
+        0,
+        0,
+    ),
+    (
+        "client 0\nopen /b rw creat\nwrite 3 6162\nfsync 3\nread 3 9\nclient 1\nopen /b r\nread 3 9\nsync\nend\n",
+        7,
+        2,
+    ),
+    (
+        "client 0\nopen /f rw creat\nopen /g w creat\nwrite 3 10*61\npwrite 4 62 99\nend\n",
+        4,
+        110,
+    ),
+    // a file without a name is there as long as a descriptor stands for it
+    (
+        "client 0\nmkdir /b\nopen /b/x rw creat\nwrite 3 5000*61\ntrunc 3 4097\nrename /b/x /a\nsync\nunlink /a\nend\n",
+        7,
+        4_097,
+    ),
+    (
+        "client 0\nmkdir /b\nopen /b/x rw creat\nwrite 3 5000*61\ntrunc 3 4097\nrename /b/x /a\nsync\nunlink /a\nclose 3\nend\n",
+        8,
+        0,
+    ),
+];
+
+// How large all files are together behind a session.
+fn played_bytes(alloc: Global, text: &str) -> Result<u128, Fail> {
+    let played = play(alloc, script(alloc, text)?, 0, formatted(alloc)?);
+    Ok(played.bytes)
+}
+
+#[test]
+fn rows_have_the_replies_and_the_sizes_of_the_plain_tree(rt: HostRuntime) -> Result<(), Fail> {
+    for (text, done, bytes) in ROWS {
+        assert_eq!(rt; compare(&rt, text)?, done);
+        assert_eq!(rt; played_bytes(rt.alloc(), text)?, bytes);
+    }
+    Ok(())
+}
+
 #[test]
 fn transcripts_merge_by_their_tickets(rt: HostRuntime) -> Result<(), Fail> {
     let alloc = rt.alloc();

@@ -1,4 +1,4 @@
-// A new image, and what a session of one hand reads on one.
+// A new image, and what a session by `play` reads on one.
 use std::alloc::Global;
 use ufs_disk::PlainDisk;
 use ufs_engine::play;
@@ -35,7 +35,7 @@ pub fn read_back(alloc: Global, disk: PlainDisk, bytes: &[u8]) -> Option<bool> {
     Some(played.ended == Ok(()) && got.as_slice() == bytes)
 }
 
-/// Whether a session of one hand on this image ends well.
+/// Whether a session by `play` on this image ends well.
 pub fn opens(alloc: Global, sectors: u32, bytes: Vec<u8>) -> Option<bool> {
     if bytes.len() != 512 * sectors as usize {
         return None;

@@ -1,5 +1,0 @@
-use Rattle.std.proofs.Common.{sym}
-use Rattle.ufs_server.proofs.name_requests.again.Goals as goal
-
-pub returns : goal.returns
-returns c ask by ticket e desc fd last = λ i. record { client = e.client i; seq = e.seq i; op = e.asked i; desc = desc i; fd = sym fd i; last = sym last i }

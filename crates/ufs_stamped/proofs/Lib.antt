@@ -1,4 +1,0 @@
-pub mod Shown
-pub mod Counted
-pub mod Logs
-pub mod Steps

@@ -1,2 +1,0 @@
-pub mod Stamped
-pub mod Calls

@@ -1,4 +1,0 @@
-use Rattle.ufs_stamped_tests.proofs.session.a_read_fails.Given as goal
-
-abbrev pub ghosts-session : goal.ghosts-session
-ghosts-session g a = record { table = a.opened.table; start = a.opened.start }

@@ -1,7 +1,0 @@
-// Asserting by a call: an assertion that is written out makes the proof of its test much longer.
-use std::fmt::Debug;
-use std::process::Abort;
-
-pub fn same<T: PartialEq + Debug + Drop>(rt: &impl Abort, found: T, wanted: T) {
-    assert_eq!(rt; found, wanted);
-}
