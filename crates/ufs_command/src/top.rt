@@ -159,8 +159,8 @@ pub fn quiet<S: Source, K: Sink, D: Disk>(
     // other, `recover` makes its image clean, `tree`, `check` and `audit` only read it, each of these safe at any moment; all else leaves it.
     // A fault of the disk is told by status 4 or 7, or in a reply of a session; one that ends with 5 may leave it untold.
     ensures disk { LeavesDisk (asked words.now.items) result.told result.status (course D.visible D.keeps D.size D.moments D.faults disk result.disk) }
-    // For want of what: status 5 of `recover`, `tree` and `check` tells it. It is memory; `recover` may lack a number, too, and over a
-    // visible disk only of an image that isn't clean and has the last one, before anything is written.
+    // For want of what: status 5 of `recover`, `tree` and `check` comes with it. It is memory; `recover` may lack a number, too, of a
+    // visible disk only where the image isn't clean and has no next one, and before anything is written.
     ensures lacked { Lacks (asked words.now.items) D.visible D.keeps result.status result.lacked (D.moments disk) (D.moments result.disk) }
     // The source: only `play` and `audit` read it, and its fault is told by status 6 or 7.
     ensures source { LeavesSource (asked words.now.items) result.status (reading S.left S.faults source.old source.new) }
