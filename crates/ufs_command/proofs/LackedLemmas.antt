@@ -1,7 +1,6 @@
 -- What was lacking where a command ended for want of something.
 use Rattle.std.proofs.Common.{◌≡◌, ◌⊎◌, ◌∙◌, inl, inr, ℕ, List, Option, Some, None, sym, subst, refl}
 use Rattle.std.specs.Prelude.{Bool, IsTrue}
-use Rattle.ufs_base.specs.declared.lack.Lack.{Lack}
 use Rattle.ufs_base.specs.declared.lack.Lack.TheVariants as lack
 use Rattle.ufs_base.specs.declared.memory.Memory.{Memory}
 use Rattle.ufs_disk.specs.Moments.{Moments, reads}
@@ -36,10 +35,11 @@ five_is Damaged five = cc
 five_is Illegal five = cc
 
 -- What never ends for want of memory hasn't.
+other_five : (E : Ending → List ℕ → Type 0) → ((text : List ℕ) → E OutOfMemory text → ⊥) → (status : ℕ) (ending : Ending) (text : List ℕ) → status ≡ status_of ending → E ending text → status ≡ 5 → ⊥
+other_five E never status ending text is e five = never text (subst (λ (x : Ending). E x text) (five_is ending (sym is ∙ five)) e)
+
 pub never_five : (E : Ending → List ℕ → Type 0) (w : Writing) (status : ℕ) → ((text : List ℕ) → E OutOfMemory text → ⊥) → IsAnswer E w status → status ≡ 5 → ⊥
-never_five E w status never a five =
-    let x = a.whole (λ seven. cc) in
-    never x.1 (subst (λ (e : Ending). E e x.1) (five_is x.0 (sym x.2 ∙ five)) x.3)
+never_five E w status never a five = let x = a.whole (λ seven. cc) in other_five E never status x.0 x.1 x.2 x.3 five
 
 starved_or : (status : ℕ) → (status ≡ status_of OutOfMemory) ⊎ (status ≡ sink_status) → (status ≡ 5 → ⊥) → (status ≡ 7 → ⊥) → ⊥
 starved_or status (inl five) other sink = other five

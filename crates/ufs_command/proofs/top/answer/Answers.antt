@@ -1,4 +1,4 @@
-use Rattle.std.proofs.Common.{◌≡◌, ◌∙◌, true, false, List, [], Option, Some, ap, sym, subst}
+use Rattle.std.proofs.Common.{◌≡◌, ◌∙◌, List, [], Option, Some, ap, sym, subst}
 use Rattle.ufs_model.specs.declared.data.Entry.{Entry}
 use Rattle.ufs_command.specs.declared.words.Command.{Command}
 use Rattle.ufs_command.specs.declared.words.Command.TheVariants as command

@@ -1,10 +1,9 @@
-use Rattle.std.proofs.Common.{refl, ap, sym, subst, Err}
+use Rattle.std.proofs.Common.{refl, ap, Err}
 use Rattle.ufs_command.specs.Texts.{memory_line}
 use Rattle.ufs_print.specs.TreeLines.{head_lines}
 use Rattle.ufs_command.specs.Endings.{EndsPrinting}
 use Rattle.ufs_command.specs.declared.ending.Ending.TheVariants.{Done, OutOfMemory}
 use Rattle.ufs_command.proofs.AnswerLemmas.{answer_after}
-use Rattle.ufs_command.specs.Lacked.{LacksReading}
 use Rattle.ufs_command.proofs.LackedLemmas.{reading_starved, reading_whole}
 use Rattle.ufs_command.proofs.tree.print_whole.Goals as goal
 
