@@ -13,7 +13,8 @@ pub mod TreeLemmas
 pub mod CheckLemmas
 pub mod RecoveryLemmas
 pub mod ToldLemmas
-pub mod LeftLemmas
+mod LackedLemmas
+mod LeftLemmas
 pub mod UnreadLemmas
 pub mod BenchLemmas
 pub mod FormattedLemmas

@@ -1,11 +1,13 @@
 -- How a command ends where the sink doesn't fail: why, and what it has written.
-use Rattle.std.specs.Prelude.{ℕ, ◌≡◌, ◌≢◌, ◌<◌, ◌≤◌, ◌⊎◌, Bool, List, [], ◌++◌, length, Some, None, Result, Ok, Err, IsTrue}
+use Rattle.std.specs.Prelude.{ℕ, ◌≡◌, ◌≢◌, ◌<◌, ◌≤◌, ◌⊎◌, Bool, List, [], ◌++◌, length, Option, Some, None, Result, Ok, Err, IsTrue}
 use Rattle.std.specs.Io.KnownBytes.{Appends}
 use Rattle.ufs_base.specs.Wanting.{wanting}
+use Rattle.ufs_base.specs.declared.lack.Lack.{Lack}
 use Rattle.ufs_base.specs.Faults.{raised}
 use Rattle.ufs_brink.specs.Begins.{TellsNoSession}
 use Rattle.ufs_layout.specs.Areas.{geometry_refusal, sector_count}
 use Rattle.ufs_layout.specs.declared.geometry.Geometry.{Geometry}
+use Rattle.ufs_layout.specs.declared.geometry.TheConstants.{MAX_JOURNAL}
 use Rattle.ufs_model.specs.History.{joined}
 use Rattle.ufs_model.specs.declared.data.Entry.{Entry}
 use Rattle.ufs_engine.specs.Plays.{MayPlay}
@@ -125,6 +127,11 @@ line_of (recover.BadTree inode) = refusal_line (image.BadTree inode)
 line_of (recover.Device fault) = device_line fault
 line_of (recover.Lack _) = memory_line
 
+-- and what was lacking, if it isn't read for want of something
+abbrev pub lack_of : RecoverFault → Option Lack
+lack_of (recover.Lack why) = Some why
+lack_of _ = None
+
 -- how `play` ends where no session begins
 abbrev pub start_ending : StartFault → Ending
 start_ending (start.Image fault) = ending_of fault
@@ -178,8 +185,9 @@ EndsCheck d _ text = ⊥
 -- ---- what a recovery ends with
 
 -- The disk, if it is visible, is an image that stands for some tree, and so many transactions are committed in
--- its journal.
+-- its journal. Of any disk there are no more of them than a journal has sectors.
 pub record HasCommitted (d : Formatting) (count : ℕ) : Type 0 where
+  pub few : count ≤ MAX_JOURNAL
   pub opened : IsTrue d.visible → (tree : ImageTree) × (opens d.sectors d.image ≡ Ok tree)
   pub found : IsTrue d.visible → count ≡ length (log_of d.image)
 

@@ -8,6 +8,7 @@ pub mod Bench
 pub mod Audits
 pub mod Ends
 pub mod Told
+pub mod Lacked
 pub mod Left
 pub mod Laws
 pub mod Responses

@@ -95,6 +95,7 @@ fn serve_workload<K: Sink, D: Disk>(
     let played = play(alloc, script, 0, disk);
     Outcome {
         status: tell_bench(alloc, sink, &played.told, played.bytes, played.ended),
+        lacked: None,
         told: played.told,
         disk: played.disk,
     }
@@ -119,6 +120,7 @@ fn format_and_serve<K: Sink, D: Disk>(
         Ok(()) => serve_workload(alloc, sink, clients, disk),
         Err(FormatFault::Device { fault }) => Outcome {
             status: tell_device(sink, fault),
+            lacked: None,
             told: nothing_told(alloc),
             disk,
         },
@@ -146,6 +148,7 @@ pub fn bench<K: Sink, D: Disk>(alloc: Global, sink: &mut K, seed: u32, disk: D) 
     if is_small(disk.sectors()) {
         return Outcome {
             status: finish(sink, Ending::TooSmall),
+            lacked: None,
             told: nothing_told(alloc),
             disk,
         };
@@ -154,6 +157,7 @@ pub fn bench<K: Sink, D: Disk>(alloc: Global, sink: &mut K, seed: u32, disk: D) 
         Ok(clients) => format_and_serve(alloc, sink, clients, disk),
         Err(memory) => Outcome {
             status: out_of_memory(sink, Lack::Memory(memory)),
+            lacked: None,
             told: nothing_told(alloc),
             disk,
         },

@@ -4,12 +4,13 @@ ghost use Rattle.ufs_command.specs.Texts.{device_line};
 ghost use Rattle.ufs_print.specs.TreeLines.{numbered_line};
 ghost use Rattle.ufs_command.specs.Seen.{writing};
 ghost use Rattle.ufs_command.specs.declared.ending.Ending.TheVariants.{NoTree, DeviceFault};
-ghost use Rattle.ufs_command.specs.Endings.{IsAnswer, IsLine, ending_of, line_of, start_ending, start_line, status_of, sink_status};
+ghost use Rattle.ufs_command.specs.Endings.{IsAnswer, IsLine, ending_of, lack_of, line_of, start_ending, start_line, status_of, sink_status};
 
 use crate::ending::Ending;
 use crate::last_line::{out_of_memory, tell};
 use arrayvec::ArrayString;
 use itoa::Buffer;
+use ufs_base::Lack;
 use ufs_io::Sink;
 use ufs_opening::RecoverFault;
 use ufs_start::StartFault;
@@ -57,6 +58,21 @@ pub fn tell_device<K: Sink>(sink: &mut K, fault: u64) -> u8
 {
     let line = device_line(fault);
     tell(sink, Ending::DeviceFault, line.as_bytes())
+}
+
+/// What was lacking where an image isn't read for want of something.
+pub fn lack_of(fault: RecoverFault) -> Option<Lack>
+    ensures { result ≡ lack_of fault }
+{
+    match fault {
+        RecoverFault::Lack(lack) => Some(lack),
+        RecoverFault::NoSuperblock => None,
+        RecoverFault::BadVersion { .. } => None,
+        RecoverFault::BadGeometry { .. } => None,
+        RecoverFault::BadRecord { .. } => None,
+        RecoverFault::BadTree { .. } => None,
+        RecoverFault::Device { .. } => None,
+    }
 }
 
 /// Ends with why an image isn't read. Takes no memory.

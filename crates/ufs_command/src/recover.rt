@@ -1,4 +1,5 @@
 ghost use Rattle.std.specs.Prelude.{◌≡◌, ◌≢◌, IsTrue};
+ghost use Rattle.ufs_command.specs.Lacked.{LacksRecovery};
 ghost use Rattle.ufs_command.specs.Left.{Recovers};
 ghost use Rattle.ufs_command.specs.Seen.{formatting, writing};
 ghost use Rattle.ufs_command.specs.Texts.{recovered_line};
@@ -6,8 +7,9 @@ ghost use Rattle.ufs_command.specs.declared.ending.Ending.TheVariants.{Done};
 ghost use Rattle.ufs_command.specs.Endings.{EndsRecovery, IsAnswer, IsLine};
 
 use crate::ending::Ending;
-use crate::image::tell_refusal;
+use crate::image::{lack_of, tell_refusal};
 use crate::last_line::tell;
+use crate::outcome::Answered;
 use arrayvec::ArrayString;
 use itoa::Buffer;
 use std::alloc::Global;
@@ -35,14 +37,21 @@ fn tell_count<K: Sink>(sink: &mut K, count: u32) -> u8
 
 /// Makes the image on a disk clean, and tells how many transactions were committed in its journal, or why it isn't
 /// recovered.
-pub fn recover<K: Sink, D: Disk>(alloc: Global, sink: &mut K, disk: &mut D) -> u8
-    ensures answer { IsAnswer (EndsRecovery (formatting D.visible D.size D.moments D.faults disk.old disk.new)) (writing K.held K.faults sink.old sink.new) result }
-    ensures acts { IsTrue D.visible → Recovers D.keeps (D.size disk.old) result (D.moments disk.old) (D.moments disk.new) }
+pub fn recover<K: Sink, D: Disk>(alloc: Global, sink: &mut K, disk: &mut D) -> Answered
+    ensures answer { IsAnswer (EndsRecovery (formatting D.visible D.size D.moments D.faults disk.old disk.new)) (writing K.held K.faults sink.old sink.new) result.status }
+    ensures acts { IsTrue D.visible → Recovers D.keeps (D.size disk.old) result.status (D.moments disk.old) (D.moments disk.new) }
     ensures size { D.size disk.new ≡ D.size disk.old }
-    ensures disk_told { result ≢ 4 → result ≢ 7 → D.faults disk.new ≡ D.faults disk.old }
+    ensures disk_told { result.status ≢ 4 → result.status ≢ 7 → D.faults disk.new ≡ D.faults disk.old }
+    ensures lacked { LacksRecovery D.visible D.keeps result.status result.lacked (D.moments disk.old) (D.moments disk.new) }
 {
     match ufs_recovery::recover(alloc, disk) {
-        Ok(count) => tell_count(sink, count),
-        Err(fault) => tell_refusal(sink, fault),
+        Ok(count) => Answered {
+            status: tell_count(sink, count),
+            lacked: None,
+        },
+        Err(fault) => Answered {
+            status: tell_refusal(sink, fault),
+            lacked: lack_of(fault),
+        },
     }
 }

@@ -3,6 +3,7 @@ ghost use Rattle.std.specs.Prelude.{◌≡◌, [], false};
 ghost use Rattle.ufs_command.specs.Commands.{serves};
 ghost use Rattle.ufs_command.specs.Seen.{reading, writing, formatting, course};
 ghost use Rattle.ufs_command.specs.Endings.{IsAnswer};
+ghost use Rattle.ufs_command.specs.Lacked.{Lacks};
 ghost use Rattle.ufs_command.specs.Left.{LeavesDisk, LeavesSource};
 ghost use Rattle.ufs_command.specs.Told.{Tells};
 ghost use Rattle.ufs_command.specs.Responses.{Responds, command_for, path_of};
@@ -54,6 +55,7 @@ pub fn respond<S: Source, K: Sink, D: Disk>(
     ensures told { Tells (command_for words.now) (reading S.left S.faults source.old source.new) (formatting D.visible D.size D.moments D.faults disk result.disk) result.told
         (writing K.held K.faults sink.old sink.new) result.status }
     ensures disk { LeavesDisk (command_for words.now) result.told result.status (course D.visible D.keeps D.size D.moments D.faults disk result.disk) }
+    ensures lacked { Lacks (command_for words.now) D.visible D.keeps result.status result.lacked (D.moments disk) (D.moments result.disk) }
     ensures source { LeavesSource (command_for words.now) result.status (reading S.left S.faults source.old source.new) }
     ensures served { serves (command_for words.now) ≡ false → result.told ≡ [] }
 {
@@ -67,6 +69,7 @@ pub fn respond<S: Source, K: Sink, D: Disk>(
     };
     Outcome {
         status,
+        lacked: None,
         told: nothing_told(alloc),
         disk,
     }

@@ -92,6 +92,7 @@ fn serve_script<K: Sink, D: Disk>(
     let played = play(alloc, script, 0, disk);
     Outcome {
         status: tell_played(alloc, sink, &played.told, trace, played.ended),
+        lacked: None,
         told: played.told,
         disk: played.disk,
     }
@@ -113,6 +114,7 @@ fn leave_unread<K: Sink, D: Disk>(
     let status = tell_fault(alloc, sink, fault);
     Outcome {
         status,
+        lacked: None,
         told: nothing_told(alloc),
         disk,
     }

@@ -1,10 +1,12 @@
 ghost use Rattle.std.specs.Prelude.{◌≡◌, ◌⊎◌, [], Some, false};
+ghost use Rattle.ufs_base.specs.declared.lack.Lack.TheVariants as lack;
 ghost use Rattle.ufs_model.specs.History.{joined};
 ghost use Rattle.ufs_engine.specs.Plays.{AreFaultsOf};
 ghost use Rattle.ufs_command.specs.Commands.{asked, serves};
 ghost use Rattle.ufs_command.specs.Seen.{reading, writing, formatting, course};
 ghost use Rattle.ufs_command.specs.Endings.{IsAnswer, IsFixed, sink_status, status_of};
 ghost use Rattle.ufs_command.specs.Ends.{Ends, EndsCommand};
+ghost use Rattle.ufs_command.specs.Lacked.{Lacks};
 ghost use Rattle.ufs_command.specs.Left.{LeavesDisk, LeavesSource};
 ghost use Rattle.ufs_command.specs.Laws.{StandsAsBegun};
 ghost use Rattle.ufs_command.specs.declared.ending.Ending.TheVariants.{OutOfMemory};
@@ -17,7 +19,7 @@ use crate::ending::Ending;
 use crate::last_line::{finish, out_of_memory};
 use crate::laws::unserved_law;
 use crate::mkfs::mkfs;
-use crate::outcome::{Outcome, nothing_told};
+use crate::outcome::{Answered, Outcome, nothing_told};
 use crate::recover::recover;
 use crate::serving::read_and_serve;
 use crate::tree::tree;
@@ -36,11 +38,12 @@ fn act<S: Source, K: Sink, D: Disk>(
     source: &mut S,
     sink: &mut K,
     disk: &mut D,
-) -> u8
+) -> Answered
     requires { serves (Some which) ≡ false }
-    ensures answer { IsAnswer (EndsCommand (Some which) (reading S.left S.faults source.old source.new) (formatting D.visible D.size D.moments D.faults disk.old disk.new) []) (writing K.held K.faults sink.old sink.new) result }
-    ensures disk { LeavesDisk (Some which) [] result (course D.visible D.keeps D.size D.moments D.faults disk.old disk.new) }
-    ensures source { LeavesSource (Some which) result (reading S.left S.faults source.old source.new) }
+    ensures answer { IsAnswer (EndsCommand (Some which) (reading S.left S.faults source.old source.new) (formatting D.visible D.size D.moments D.faults disk.old disk.new) []) (writing K.held K.faults sink.old sink.new) result.status }
+    ensures disk { LeavesDisk (Some which) [] result.status (course D.visible D.keeps D.size D.moments D.faults disk.old disk.new) }
+    ensures lacked { Lacks (Some which) D.visible D.keeps result.status result.lacked (D.moments disk.old) (D.moments disk.new) }
+    ensures source { LeavesSource (Some which) result.status (reading S.left S.faults source.old source.new) }
 {
     match which {
         Command::Mkfs {
@@ -53,13 +56,22 @@ fn act<S: Source, K: Sink, D: Disk>(
                 inodes,
                 journal,
             };
-            mkfs(alloc, asked, sink, disk)
+            Answered {
+                status: mkfs(alloc, asked, sink, disk),
+                lacked: None,
+            }
         }
         Command::Tree => tree(alloc, sink, disk),
         Command::Check => check(alloc, sink, disk),
         Command::Recover => recover(alloc, sink, disk),
-        Command::Audit => audit(alloc, source, sink, disk),
-        Command::NotBuilt => finish(sink, Ending::NotBuilt),
+        Command::Audit => Answered {
+            status: audit(alloc, source, sink, disk),
+            lacked: None,
+        },
+        Command::NotBuilt => Answered {
+            status: finish(sink, Ending::NotBuilt),
+            lacked: None,
+        },
         Command::Play { .. } | Command::Bench { .. } => unreachable!(),
     }
 }
@@ -75,6 +87,7 @@ fn answer<S: Source, K: Sink, D: Disk>(
     ensures answer { IsAnswer (EndsCommand command (reading S.left S.faults source.old source.new) (formatting D.visible D.size D.moments D.faults disk result.disk) result.told)
         (writing K.held K.faults sink.old sink.new) result.status }
     ensures disk { LeavesDisk command result.told result.status (course D.visible D.keeps D.size D.moments D.faults disk result.disk) }
+    ensures lacked { Lacks command D.visible D.keeps result.status result.lacked (D.moments disk) (D.moments result.disk) }
     ensures source { LeavesSource command result.status (reading S.left S.faults source.old source.new) }
     ensures faults { AreFaultsOf (D.faults disk) (D.faults result.disk) (joined result.told) }
     ensures served { serves command ≡ false → result.told ≡ [] }
@@ -83,6 +96,7 @@ fn answer<S: Source, K: Sink, D: Disk>(
         let status = finish(sink, Ending::Usage);
         return Outcome {
             status,
+            lacked: None,
             told: nothing_told(alloc),
             disk,
         };
@@ -94,9 +108,10 @@ fn answer<S: Source, K: Sink, D: Disk>(
         return bench(alloc, sink, seed, disk);
     }
     let mut disk = disk;
-    let status = act(alloc, which, source, sink, &mut disk);
+    let answered = act(alloc, which, source, sink, &mut disk);
     Outcome {
-        status,
+        status: answered.status,
+        lacked: answered.lacked,
         told: nothing_told(alloc),
         disk,
     }
@@ -106,6 +121,7 @@ fn answer<S: Source, K: Sink, D: Disk>(
 fn leave_words<K: Sink, D: Disk>(alloc: Global, sink: &mut K, memory: Memory, disk: D) -> Outcome<D>
     ensures answer { IsAnswer (IsFixed OutOfMemory) (writing K.held K.faults sink.old sink.new) result.status }
     ensures status { (result.status ≡ status_of OutOfMemory) ⊎ (result.status ≡ sink_status) }
+    ensures lacked { result.lacked ≡ Some (lack.Memory memory) }
     ensures told { result.told ≡ [] }
     ensures untouched { result.disk ≡ disk }
     ensures stands { StandsAsBegun (D.size disk) }
@@ -114,6 +130,7 @@ fn leave_words<K: Sink, D: Disk>(alloc: Global, sink: &mut K, memory: Memory, di
     let status = out_of_memory(sink, Lack::Memory(memory));
     Outcome {
         status,
+        lacked: Some(Lack::Memory(memory)),
         told: nothing_told(alloc),
         disk,
     }
@@ -142,6 +159,9 @@ pub fn quiet<S: Source, K: Sink, D: Disk>(
     // other, `recover` makes its image clean, `tree`, `check` and `audit` only read it, each of these safe at any moment; all else leaves it.
     // A fault of the disk is told by status 4 or 7, or in a reply of a session; one that ends with 5 may leave it untold.
     ensures disk { LeavesDisk (asked words.now.items) result.told result.status (course D.visible D.keeps D.size D.moments D.faults disk result.disk) }
+    // For want of what: status 5 of `recover`, `tree` and `check` comes with it. It is memory; `recover` may lack a number, too, of a
+    // visible disk only where the image isn't clean and has no next one, and before anything is written.
+    ensures lacked { Lacks (asked words.now.items) D.visible D.keeps result.status result.lacked (D.moments disk) (D.moments result.disk) }
     // The source: only `play` and `audit` read it, and its fault is told by status 6 or 7.
     ensures source { LeavesSource (asked words.now.items) result.status (reading S.left S.faults source.old source.new) }
     // Only `play` and `bench` serve clients.

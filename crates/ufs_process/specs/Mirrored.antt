@@ -5,6 +5,7 @@ use Rattle.ufs_mirror.specs.Pairs.{Follows}
 use Rattle.ufs_mirror.specs.declared.fault.MirrorFault.{MirrorFault}
 use Rattle.ufs_command.specs.Endings.{IsAnswer, IsFixed, IsLine}
 use Rattle.ufs_command.specs.Ends.{Ends}
+use Rattle.ufs_command.specs.Lacked.{Lacks}
 use Rattle.ufs_command.specs.Left.{LeavesDisk}
 use Rattle.ufs_command.specs.Seen.{Reading, Writing}
 use Rattle.ufs_command.specs.Told.{Tells}
@@ -16,7 +17,7 @@ use Rattle.ufs_process.specs.Counts.{HasFailed}
 use Rattle.ufs_process.specs.Joining.{Joins, Unjoined, works_on_disk}
 use Rattle.ufs_process.specs.Refusals.{mirror_ending, mirror_line}
 use Rattle.ufs_process.specs.Throughout.{OpensOn}
-use Rattle.ufs_process.specs.Views.{Handed, Kind, View, course_of, formatting_of, pairs_in}
+use Rattle.ufs_process.specs.Views.{Handed, Kind, View, course_of, formatting_of, moments_in, pairs_in}
 
 -- The source is as it was.
 abbrev pub IsUnread : Reading → Type 0
@@ -56,6 +57,7 @@ pub record ServesMirror {A B : Type 0} (one : Kind A) (other : Kind B) (words : 
   pub answer : IsAnswer (Ends words r (formatting_of one other before after) h.told) w h.status
   pub tells : Tells words r (formatting_of one other before after) h.told w h.status
   pub disk : LeavesDisk words h.told h.status (course_of one other before after)
+  pub lacked : Lacks words (one.visible && other.visible) (one.keeps && other.keeps) h.status h.lacked (moments_in one other before) (moments_in one other after)
   -- A call of it fails only where a call of each leg has failed.
   pub failed : (after.faults ≡ 0 → ⊥) → HasFailed (one.faults h.first) (one.faults h.first_now) × HasFailed (other.faults h.second) (other.faults h.second_now)
   -- From the one to the other each leg was only in states that stand in moments of the pair.

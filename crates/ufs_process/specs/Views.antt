@@ -1,5 +1,6 @@
 -- What is seen of two legs and of the mirror that they are.
-use Rattle.std.specs.Prelude.{ℕ, Bool, ◌&&◌, List}
+use Rattle.std.specs.Prelude.{ℕ, Bool, ◌&&◌, List, Option}
+use Rattle.ufs_base.specs.declared.lack.Lack.{Lack}
 use Rattle.ufs_disk.specs.Moments.{Moments}
 use Rattle.ufs_mirror.specs.Pairs.{Pairs, moments_of, watched}
 use Rattle.ufs_mirror.specs.declared.legs.Legpair.{Legpair}
@@ -45,14 +46,15 @@ formatting_of one other before after = formatting (one.visible && other.visible)
 abbrev pub course_of : {A B : Type 0} → Kind A → Kind B → View A B → View A B → Course (View A B)
 course_of one other before after = course (one.visible && other.visible) (one.keeps && other.keeps) (λ m. m.sectors) (moments_in one other) (λ m. m.faults) before after
 
--- Two legs that a command was given, and what it gave back: the legs, what the clients were told, and a status.
+-- Two legs that a command was given, and what it gave back: the legs, what the clients were told, what was lacking, and a status.
 pub record Handed (A B : Type 0) : Type 0 where
   pub first : A
   pub second : B
   pub first_now : A
   pub second_now : B
   pub told : List (List Entry)
+  pub lacked : Option Lack
   pub status : ℕ
 
-abbrev pub handed : {A B : Type 0} → A → B → A → B → List (List Entry) → ℕ → Handed A B
-handed first second first_now second_now told status = record { first = first; second = second; first_now = first_now; second_now = second_now; told = told; status = status }
+abbrev pub handed : {A B : Type 0} → A → B → A → B → List (List Entry) → Option Lack → ℕ → Handed A B
+handed first second first_now second_now told lacked status = record { first = first; second = second; first_now = first_now; second_now = second_now; told = told; lacked = lacked; status = status }

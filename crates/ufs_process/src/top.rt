@@ -33,7 +33,7 @@ fn serve<S: Source, K: Sink, A: Disk, B: Disk, N: Origin>(
     ensures served { (first : A) (second : B) → N.first ≡ A.faults first → N.second ≡ B.faults second
         → Joins (kind A.visible A.keeps A.size A.moments A.faults) (kind B.visible B.keeps B.size B.moments B.faults) (asked words.now.items) first second (view mirror.legs.both mirror.legs.log.items mirror.legs.picks mirror.faults mirror.sectors)
         → ServesMirror (kind A.visible A.keeps A.size A.moments A.faults) (kind B.visible B.keeps B.size B.moments B.faults) (asked words.now.items)
-        (reading S.left S.faults source.old source.new) (writing K.held K.faults sink.old sink.new) (handed first second result.first result.second result.told result.status) }
+        (reading S.left S.faults source.old source.new) (writing K.held K.faults sink.old sink.new) (handed first second result.first result.second result.told result.lacked result.status) }
     ensures source { LeavesSource (asked words.now.items) result.status (reading S.left S.faults source.old source.new) }
     ensures told { serves (asked words.now.items) ≡ false → result.told ≡ [] }
 {
@@ -44,6 +44,7 @@ fn serve<S: Source, K: Sink, A: Disk, B: Disk, N: Origin>(
     let Legpair { first, second } = outcome.disk.mirror.apart();
     MirrorOutcome {
         status: outcome.status,
+        lacked: outcome.lacked,
         told: outcome.told,
         first,
         second,
@@ -64,9 +65,9 @@ fn make<S: Source, K: Sink, A: Disk, B: Disk, N: Counts>(
     requires second_counted { N.second ≡ B.faults second }
     requires makes { IsTrue (is_mkfs (asked words.now.items)) }
     ensures answer { RefusesLegs (kind A.visible A.keeps A.size A.moments A.faults) (kind B.visible B.keeps B.size B.moments B.faults) (asked words.now.items)
-        (reading S.left S.faults source.old source.new) (writing K.held K.faults sink.old sink.new) (handed first second result.first result.second result.told result.status)
+        (reading S.left S.faults source.old source.new) (writing K.held K.faults sink.old sink.new) (handed first second result.first result.second result.told result.lacked result.status)
         ⊎ ServesMirror (kind A.visible A.keeps A.size A.moments A.faults) (kind B.visible B.keeps B.size B.moments B.faults) (asked words.now.items)
-        (reading S.left S.faults source.old source.new) (writing K.held K.faults sink.old sink.new) (handed first second result.first result.second result.told result.status) }
+        (reading S.left S.faults source.old source.new) (writing K.held K.faults sink.old sink.new) (handed first second result.first result.second result.told result.lacked result.status) }
     ensures source { LeavesSource (asked words.now.items) result.status (reading S.left S.faults source.old source.new) }
     ensures told { serves (asked words.now.items) ≡ false → result.told ≡ [] }
 {
@@ -76,6 +77,7 @@ fn make<S: Source, K: Sink, A: Disk, B: Disk, N: Counts>(
             let status = tell_mirror_fault(sink, unpaired.fault);
             MirrorOutcome {
                 status,
+                lacked: None,
                 told: nothing_told(alloc),
                 first: unpaired.first,
                 second: unpaired.second,
@@ -98,9 +100,9 @@ fn open<S: Source, K: Sink, A: Disk, B: Disk, N: Counts>(
     requires second_counted { N.second ≡ B.faults second }
     requires opens { is_mkfs (asked words.now.items) ≡ false }
     ensures answer { RefusesLegs (kind A.visible A.keeps A.size A.moments A.faults) (kind B.visible B.keeps B.size B.moments B.faults) (asked words.now.items)
-        (reading S.left S.faults source.old source.new) (writing K.held K.faults sink.old sink.new) (handed first second result.first result.second result.told result.status)
+        (reading S.left S.faults source.old source.new) (writing K.held K.faults sink.old sink.new) (handed first second result.first result.second result.told result.lacked result.status)
         ⊎ ServesMirror (kind A.visible A.keeps A.size A.moments A.faults) (kind B.visible B.keeps B.size B.moments B.faults) (asked words.now.items)
-        (reading S.left S.faults source.old source.new) (writing K.held K.faults sink.old sink.new) (handed first second result.first result.second result.told result.status) }
+        (reading S.left S.faults source.old source.new) (writing K.held K.faults sink.old sink.new) (handed first second result.first result.second result.told result.lacked result.status) }
     ensures source { LeavesSource (asked words.now.items) result.status (reading S.left S.faults source.old source.new) }
     ensures told { serves (asked words.now.items) ≡ false → result.told ≡ [] }
 {
@@ -110,6 +112,7 @@ fn open<S: Source, K: Sink, A: Disk, B: Disk, N: Counts>(
             let status = tell_mirror_fault(sink, unpaired.fault);
             MirrorOutcome {
                 status,
+                lacked: None,
                 told: nothing_told(alloc),
                 first: unpaired.first,
                 second: unpaired.second,
@@ -132,7 +135,7 @@ pub fn mirrored<S: Source, K: Sink, A: Disk, B: Disk>(
     // the source is read. Else all that `quiet` says of a disk holds of the mirror, and at each moment, whatever pair of images
     // the legs may have left: where it opens, it opens to an image that the command allows a crash to leave there.
     ensures answer { AnswersOver (kind A.visible A.keeps A.size A.moments A.faults) (kind B.visible B.keeps B.size B.moments B.faults) (asked words.now.items)
-        (reading S.left S.faults source.old source.new) (writing K.held K.faults sink.old sink.new) (handed first second result.first result.second result.told result.status) }
+        (reading S.left S.faults source.old source.new) (writing K.held K.faults sink.old sink.new) (handed first second result.first result.second result.told result.lacked result.status) }
     // The source: only `play` and `audit` read it, and its fault is told by status 6 or 7.
     ensures source { LeavesSource (asked words.now.items) result.status (reading S.left S.faults source.old source.new) }
     // Only `play` and `bench` serve clients.
@@ -149,6 +152,7 @@ pub fn mirrored<S: Source, K: Sink, A: Disk, B: Disk>(
     };
     MirrorOutcome {
         status,
+        lacked: None,
         told: nothing_told(alloc),
         first,
         second,

@@ -1,9 +1,11 @@
-use Rattle.std.proofs.Common.{refl}
+use Rattle.std.proofs.Common.{refl, subst, sym}
 use Rattle.ufs_command.specs.Seen.{formatting, writing}
 use Rattle.ufs_command.specs.Texts.{recovered_line}
-use Rattle.ufs_command.specs.Endings.{EndsRecovery, ending_of, line_of}
+use Rattle.ufs_command.specs.Endings.{EndsRecovery, IsLine, ending_of, line_of}
+use Rattle.ufs_command.specs.Lacked.{LacksRecovery}
 use Rattle.ufs_command.specs.declared.ending.Ending.TheVariants.{Done}
 use Rattle.ufs_command.proofs.AnswerLemmas.{answer_line}
+use Rattle.ufs_command.proofs.LackedLemmas.{never_five, recovery_lacks, recovery_whole}
 use Rattle.ufs_command.proofs.RecoveryLemmas.{recovery_refused, refused_apart}
 use Rattle.ufs_command.proofs.TreeLemmas.{calm_by}
 use Rattle.ufs_command.proofs.recover.recover.Goals as goal
@@ -13,7 +15,7 @@ returns-in-Ok-clause-answer g c =
     let d = formatting g.D.Disk.visible g.D.Disk.size g.D.Disk.moments g.D.Disk.faults c.args.disk.now c.recover.new.disk in
     let count = c.in-Ok.count in
     answer_line (EndsRecovery d) Done (recovered_line count) (writing g.K.Sink.held g.K.Sink.faults c.args.sink.now c.tell_count.new.sink) c.tell_count.result
-    (c.in-Ok.ensures.passed, count, record { opened = c.in-Ok.ensures.opened; found = c.in-Ok.ensures.found }, refl) c.tell_count.ensures
+    (c.in-Ok.ensures.passed, count, record { few = c.in-Ok.ensures.few; opened = c.in-Ok.ensures.opened; found = c.in-Ok.ensures.found }, refl) c.tell_count.ensures
 
 pub returns-in-Ok-clause-acts : goal.returns-in-Ok-clause-acts
 returns-in-Ok-clause-acts g c visible = record {
@@ -43,3 +45,15 @@ returns-in-Err-clause-acts g c visible = record {
 pub returns-in-Err-clause-disk_told : goal.returns-in-Err-clause-disk_told
 returns-in-Err-clause-disk_told g c other sink =
     calm_by (g.D.Disk.faults c.args.disk.now) (g.D.Disk.faults c.recover.new.disk) c.in-Err.fault c.tell_refusal.result c.in-Err.ensures.cause c.tell_refusal.ensures.status other sink
+
+pub returns-in-Ok-clause-lacked : goal.returns-in-Ok-clause-lacked
+returns-in-Ok-clause-lacked g c =
+    recovery_whole g.D.Disk.visible g.D.Disk.keeps (g.D.Disk.moments c.args.disk.now) (g.D.Disk.moments c.recover.new.disk) c.tell_count.result
+    (never_five (IsLine Done (recovered_line c.in-Ok.count)) (writing g.K.Sink.held g.K.Sink.faults c.args.sink.now c.tell_count.new.sink) c.tell_count.result (λ text e. let is = e.0 in cc) c.tell_count.ensures)
+
+pub returns-in-Err-clause-lacked : goal.returns-in-Err-clause-lacked
+returns-in-Err-clause-lacked g c =
+    let from = g.D.Disk.moments c.args.disk.now in
+    let to = g.D.Disk.moments c.recover.new.disk in
+    subst (λ o. LacksRecovery g.D.Disk.visible g.D.Disk.keeps c.tell_refusal.result o from to) (sym c.lack_of.ensures)
+    (recovery_lacks g.D.Disk.visible g.D.Disk.keeps from to c.in-Err.fault c.tell_refusal.result c.in-Err.ensures.numbers c.in-Err.ensures.lack c.in-Err.ensures.unasked c.in-Err.ensures.early c.tell_refusal.ensures.status)

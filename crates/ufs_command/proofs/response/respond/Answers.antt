@@ -4,6 +4,7 @@ use Rattle.ufs_words.specs.Values.{image_word}
 use Rattle.ufs_command.specs.Commands.{serves}
 use Rattle.ufs_command.specs.Seen.{reading, writing, formatting, course}
 use Rattle.ufs_command.specs.Told.{Tells}
+use Rattle.ufs_command.specs.Lacked.{Lacks}
 use Rattle.ufs_command.specs.Left.{LeavesDisk, LeavesSource}
 use Rattle.ufs_command.proofs.ResponseLemmas.{same_command, answered}
 use Rattle.ufs_command.proofs.response.respond.Goals as goal
@@ -40,3 +41,9 @@ returns-in-Some-clause-served g c other =
     let named : image_word (map string_bytes c.in-Ok.words.items) ≡ Some c.in-Some.field-0.now = sym c.in-Some.ensures in
     let same = same_command c.args.words.now c.in-Ok.words c.in-Some.field-0.now c.in-Ok.is named in
     c.quiet.ensures.served (sym (ap serves same) ∙ other)
+
+pub returns-in-Some-clause-lacked : goal.returns-in-Some-clause-lacked
+returns-in-Some-clause-lacked g c =
+    let named : image_word (map string_bytes c.in-Ok.words.items) ≡ Some c.in-Some.field-0.now = sym c.in-Some.ensures in
+    subst (λ (x : Option Command). Lacks x g.D.Disk.visible g.D.Disk.keeps c.quiet.result.status c.quiet.result.lacked (g.D.Disk.moments c.args.disk) (g.D.Disk.moments c.quiet.result.disk))
+    (sym (same_command c.args.words.now c.in-Ok.words c.in-Some.field-0.now c.in-Ok.is named)) c.quiet.ensures.lacked

@@ -1,11 +1,13 @@
-use Rattle.std.proofs.Common.{◌≡◌, ◌∙◌, Option, ap, subst, refl}
+use Rattle.std.proofs.Common.{◌≡◌, ◌∙◌, Option, ap, sym, subst, refl}
 use Rattle.ufs_command.specs.declared.words.Command.{Command}
 use Rattle.ufs_command.specs.Commands.{asked, serves}
 use Rattle.ufs_command.specs.Seen.{reading, writing, formatting, course}
 use Rattle.ufs_command.specs.Endings.{IsAnswer}
 use Rattle.ufs_command.specs.Ends.{Ends}
+use Rattle.ufs_command.specs.Lacked.{Lacks}
 use Rattle.ufs_command.specs.Left.{LeavesDisk, LeavesSource}
 use Rattle.ufs_command.specs.Told.{Tells}
+use Rattle.ufs_command.proofs.LackedLemmas.{lacking_lacked}
 use Rattle.ufs_command.proofs.LeftLemmas.{source_left}
 use Rattle.ufs_command.proofs.ToldLemmas.{tells}
 use Rattle.ufs_command.proofs.UnreadLemmas.{command_ends, lacking, lacking_left, lacking_status, lacking_told}
@@ -72,3 +74,17 @@ returns-in-Err-clause-disk g c =
 pub returns-in-Err-clause-source : goal.returns-in-Err-clause-source
 returns-in-Err-clause-source g c =
     source_left (asked c.args.words.now.items) c.leave_words.result.status (g.S.Source.left c.args.source.now) (g.S.Source.faults c.args.source.now)
+
+-- ---- for want of what
+
+pub returns-in-Ok-clause-lacked : goal.returns-in-Ok-clause-lacked
+returns-in-Ok-clause-lacked g c =
+    let is : c.in-Ok.command ≡ asked c.args.words.now.items = c.in-Ok.ensures ∙ ap asked c.as_slice.ensures.value in
+    subst (λ (x : Option Command). Lacks x g.D.Disk.visible g.D.Disk.keeps c.answer.result.status c.answer.result.lacked (g.D.Disk.moments c.args.disk) (g.D.Disk.moments c.answer.result.disk)) is c.answer.ensures.lacked
+
+pub returns-in-Err-clause-lacked : goal.returns-in-Err-clause-lacked
+returns-in-Err-clause-lacked g c =
+    let from = g.D.Disk.moments c.args.disk in
+    let to = g.D.Disk.moments c.leave_words.result.disk in
+    subst (λ o. Lacks (asked c.args.words.now.items) g.D.Disk.visible g.D.Disk.keeps c.leave_words.result.status o from to) (sym c.leave_words.ensures.lacked)
+    (lacking_lacked g.D.Disk.visible g.D.Disk.keeps from to (asked c.args.words.now.items) c.leave_words.result.status c.in-Err.memory c.leave_words.ensures.status)

@@ -33,6 +33,7 @@ returns-clause-served g c first second one_is other_is joins =
       answer = c.quiet-outcome.ensures.answer;
       tells = c.quiet-outcome.ensures.told;
       disk = left;
+      lacked = c.quiet-outcome.ensures.lacked;
       failed = λ some.
           let both = c.quiet-outcome.result.disk.counts.failed some in (
             subst (λ n. HasFailed n (g.A.Disk.faults c.apart-first.result.first)) one_is (subst (λ l. HasFailed g.N.Origin.first (g.A.Disk.faults l.first)) (sym c.apart-first.ensures) both.0),
