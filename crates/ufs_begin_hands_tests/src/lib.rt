@@ -7,4 +7,4 @@ mod session;
 #[cfg(test)]
 mod sessions;
 
-pub use images::{empty_image, image_of_two, played_on};
+pub use images::{empty_image, has_both, image_of_two};

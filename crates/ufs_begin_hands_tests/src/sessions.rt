@@ -1,11 +1,10 @@
 // Sessions over an image with files, and over one without.
-use crate::images::{empty_image, image_of_two, played_on};
+use crate::images::{empty_image, has_both, image_of_two};
 use crate::session::{deal_and_close, deal_and_finish};
 use std::alloc::Global;
 use std::test::Fail;
 use ufs_brink::CloseFault;
 use ufs_disk::{Fuse, FuseDisk, PlainDisk};
-use ufs_model::Reply;
 use ufs_start::start_of;
 
 #[test]
@@ -25,12 +24,12 @@ fn an_image_may_have_no_file(rt: HostRuntime) -> Result<(), Fail> {
     Ok(())
 }
 
-// The image is in use then, and is recovered.
+// The image is in use then.
 #[test]
 fn the_files_are_still_on_the_disk(rt: HostRuntime) -> Result<(), Fail> {
     let mut closed = deal_and_close(&rt, two_files(rt.alloc())?);
     assert!(rt; !is_clean(rt.alloc(), &mut closed.disk)?);
-    assert!(rt; has_both(rt.alloc(), closed.disk)?);
+    assert!(rt; has_both(rt.alloc(), &mut closed.disk));
     Ok(())
 }
 
@@ -41,7 +40,7 @@ fn an_image_is_clean_once_its_session_is_finished(rt: HostRuntime) -> Result<(),
     assert!(rt; finished.tickets == 0);
     assert!(rt; finished.bytes == Ok(5005));
     assert!(rt; is_clean(rt.alloc(), &mut finished.disk)?);
-    assert!(rt; has_both(rt.alloc(), finished.disk)?);
+    assert!(rt; has_both(rt.alloc(), &mut finished.disk));
     Ok(())
 }
 
@@ -88,19 +87,4 @@ fn fails_behind(alloc: Global, passes: u64) -> Result<FuseDisk, Fail> {
 fn is_clean(alloc: Global, disk: &mut PlainDisk) -> Result<bool, Fail> {
     let start = start_of(alloc, disk).ok().ok_or("no start")?;
     Ok(start.superblock.superblock.clean)
-}
-
-// Whether both files are on the disk.
-fn has_both(alloc: Global, disk: PlainDisk) -> Result<bool, Fail> {
-    let text = "client 0\nstat /d/g\nopen /f r\nread 3 9\nend\n";
-    let played = played_on(alloc, disk, text).ok_or("no script")?;
-    let told = played.told.as_slice().first().ok_or("no client")?;
-    let [size, _opened, read] = told.as_slice() else {
-        return Err(Fail::from("another number of replies"));
-    };
-    let Reply::Got(bytes) = &read.reply else {
-        return Err(Fail::from("nothing was read"));
-    };
-    let sized = matches!(size.reply, Reply::IsFile { size: 5_000 });
-    Ok(played.ended == Ok(()) && sized && bytes.as_slice() == b"hello".as_slice())
 }

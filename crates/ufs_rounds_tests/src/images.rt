@@ -1,11 +1,12 @@
-// A new image, and what a session by `play` reads on one.
+// A new image, and what stands in one.
 use std::alloc::Global;
 use ufs_disk::PlainDisk;
-use ufs_engine::play;
 use ufs_io::PlainSource;
 use ufs_layout::Geometry;
-use ufs_model::Reply;
+use ufs_model::{PathEntry, PathNode};
+use ufs_opening::tree_of;
 use ufs_recover::format;
+use ufs_recovery::recover;
 use ufs_script::{OpLists, Script, read_script};
 
 /// A new image of 64 blocks, where there is memory.
@@ -21,28 +22,37 @@ pub fn requests(alloc: Global, text: &str) -> Option<OpLists> {
     Some(script(alloc, text)?.clients)
 }
 
-/// Whether `/f` has these bytes, and the session that reads it ends well.
-pub fn read_back(alloc: Global, disk: PlainDisk, bytes: &[u8]) -> Option<bool> {
-    let script = script(alloc, "client 0\nopen /f r\nread 3 99\nend\n")?;
-    let played = play(alloc, script, 0, disk);
-    let told = played.told.as_slice().first()?;
-    let [_opened, read] = told.as_slice() else {
-        return None;
-    };
-    let Reply::Got(got) = &read.reply else {
-        return None;
-    };
-    Some(played.ended == Ok(()) && got.as_slice() == bytes)
+// The root, and `/f` with these bytes.
+fn has_file(entries: &[PathEntry], content: &[u8]) -> bool {
+    if entries.len() != 2 {
+        return false;
+    }
+    match &entries[1].node {
+        PathNode::Dir => false,
+        PathNode::File(bytes) => {
+            entries[1].path.as_slice() == b"/f".as_slice() && bytes.as_slice() == content
+        }
+    }
 }
 
-/// Whether a session by `play` on this image ends well.
-pub fn opens(alloc: Global, sectors: u32, bytes: Vec<u8>) -> Option<bool> {
-    if bytes.len() != 512 * sectors as usize {
-        return None;
+/// Whether `/f` is in the image, with these bytes, and no other path but the root.
+pub fn has_alone(alloc: Global, disk: &mut PlainDisk, content: &[u8]) -> bool {
+    match tree_of(alloc, disk) {
+        Ok(tree) => has_file(tree.as_slice(), content),
+        Err(_) => false,
     }
-    let script = script(alloc, "client 0\nstat /\nend\n")?;
-    let played = play(alloc, script, 0, PlainDisk::new(sectors, bytes));
-    Some(played.ended == Ok(()))
+}
+
+/// Whether the image is made clean, and stands for a tree then.
+pub fn recovers(alloc: Global, sectors: u32, bytes: Vec<u8>) -> bool {
+    if bytes.len() != 512 * sectors as usize {
+        return false;
+    }
+    let mut disk = PlainDisk::new(sectors, bytes);
+    if recover(alloc, &mut disk).is_err() {
+        return false;
+    }
+    tree_of(alloc, &mut disk).is_ok()
 }
 
 fn script(alloc: Global, text: &str) -> Option<Script> {

@@ -11,4 +11,4 @@ mod session;
 #[cfg(test)]
 mod steps;
 
-pub use images::{new_image, opens, read_back, requests};
+pub use images::{has_alone, new_image, recovers, requests};

@@ -2,7 +2,7 @@
 ghost use Rattle.std.specs.Prelude.{◌<◌, ◌≤◌, length};
 
 use crate::asserts::{holds, same};
-use crate::images::{new_image, opens, read_back, requests};
+use crate::images::{has_alone, new_image, recovers, requests};
 use crate::session::played;
 use crate::steps::Step;
 use std::alloc::AllocGlobal;
@@ -71,7 +71,7 @@ fn a_file_moves_between_two_writes(rt: HostRuntime) {
 }
 
 // Each call of the disk may be the first one that fails. Once the image is mounted each request is answered all the same, and what a crash
-// leaves then opens again.
+// leaves then is recovered.
 #[test]
 fn a_disk_stops_after_some_calls(rt: HostRuntime) {
     let all = calls_in(played_fused(&rt, u64::MAX));
@@ -80,7 +80,7 @@ fn a_disk_stops_after_some_calls(rt: HostRuntime) {
         if let Some(failed) = played_fused(&rt, passes as u64) {
             holds(&rt, failed.ended.is_err());
             same(&rt, failed.tickets, 4);
-            holds(&rt, opens_again(&rt, failed.disk));
+            holds(&rt, recovers_from(&rt, failed.disk));
             some = true;
         }
     }
@@ -167,13 +167,13 @@ fn calls_in(played: Option<Played<FuseDisk>>) -> usize {
     }
 }
 
-// What a crash leaves of it is opened and closed again.
-fn opens_again<R: Abort + AllocGlobal>(rt: &R, disk: FuseDisk) -> bool {
+// What a crash leaves of it is made clean again.
+fn recovers_from<R: Abort + AllocGlobal>(rt: &R, disk: FuseDisk) -> bool {
     let sectors = disk.medium.sectors;
     let bytes = disk.crash(0).expect(rt, "memory");
-    opens(rt.alloc(), sectors, bytes).expect(rt, "not opened")
+    recovers(rt.alloc(), sectors, bytes)
 }
 
-fn has_bytes<R: Abort + AllocGlobal>(rt: &R, disk: PlainDisk, bytes: &[u8]) -> bool {
-    read_back(rt.alloc(), disk, bytes).expect(rt, "not read")
+fn has_bytes<R: Abort + AllocGlobal>(rt: &R, mut disk: PlainDisk, bytes: &[u8]) -> bool {
+    has_alone(rt.alloc(), &mut disk, bytes)
 }
